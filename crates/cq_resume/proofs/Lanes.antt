@@ -1,16 +1,65 @@
--- Items that stand by input, and at each input in lanes. Each is compared with the last one of its lane at its input.
--- Where the relation goes on from one to the next, that decides it for each and each later one of one lane: of the
--- earlier items of the lane none stands behind the last one, and those ahead of it stand before it. Where an input
--- begins: at a place behind the first one whose item is of a later input than the one before it. The orders in which
--- the lines of a state stand go on from one to the next: those of lists, of buffers, of departures, of transfers and
--- of names, and the one in which the cells of a flow leave. One name more of those that stand by input and then by
--- slot. It is compared with the last one of its flow, for which a place is kept. And how many cells stand ahead of
--- each in its input's list, counted on from one cell to the next. Where an input begins, none stands ahead, since the
--- cells before it are of earlier inputs.
-use Rattle.cq_resume.proofs.Terms.{common_steps, rules, ◌≡◌, ◌≢◌, ℕ, ◌+◌, ◌-◌, ◌<◌, ◌≤◌, ◌⊎◌, ◌↔◌, Bool, true, false, List, length, map, get_or, set, replicate, Option, None, Some, refl, sym, ◌∙◌, inl, inr, arith, ltb, ◌*◌, IfSome, ◌&&◌, AllPairs, AllByRecursion, cases_eq, cases_lt, and_from, lt-ltb, get_or-replicate, get_or-set_other, get_or-set_same, get_or_default, get_or_past, length-replicate, length-set, get_or_read, begins_at, FlowsStand, InOneFlow, IsNameBefore, IsNoLaterInput, Leaves, IsBefore, Queued, Name, length-append, slice_get, ne_eqb, get_or-take, SlackStands, cushion_in, thread_in, filter_more, get_or_from_slice_get, slice_get-get_or, slice_get_within, key_laws, each_pair, all_pairs, most_classes}
-use Rattle.cq_resume.proofs.Chained.{PairsBelow}
-use Rattle.cq_resume.proofs.Each.{all_each}
+-- A relation that goes on from one to the next. Where it holds of neighbours it holds of each and each later one, so a
+-- test of neighbours decides it. Items that stand by input, and at each input in lanes. Each is compared with the last
+-- one of its lane at its input. Where the relation goes on from one to the next, that decides it for each and each
+-- later one of one lane: of the earlier items of the lane none stands behind the last one, and those ahead of it stand
+-- before it. Where an input begins: at a place behind the first one whose item is of a later input than the one before
+-- it. The orders in which the lines of a state stand go on from one to the next: those of lists, of buffers, of
+-- departures, of transfers and of names, and the one in which the cells of a flow leave. One name more of those that
+-- stand by input and then by slot. It is compared with the last one of its flow, for which a place is kept. And how
+-- many cells stand ahead of each in its input's list, counted on from one cell to the next. Where an input begins,
+-- none stands ahead, since the cells before it are of earlier inputs.
+use Rattle.cq_resume.proofs.Terms.{common_steps, rules, ◌≡◌, ◌≢◌, ℕ, ◌+◌, ◌-◌, ◌<◌, ◌≤◌, ◌⊎◌, ◌↔◌, Bool, true, false, List, length, map, get_or, set, replicate, Option, None, Some, refl, sym, ◌∙◌, inl, inr, arith, ltb, ◌*◌, IfSome, ◌&&◌, AllPairs, AllByRecursion, cases_eq, cases_lt, and_from, lt-ltb, get_or-replicate, get_or-set_other, get_or-set_same, get_or_default, get_or_past, length-replicate, length-set, get_or_read, begins_at, FlowsStand, InOneFlow, IsNameBefore, IsNoLaterInput, Leaves, IsBefore, Queued, Name, length-append, slice_get, ne_eqb, get_or-take, SlackStands, cushion_in, thread_in, filter_more, get_or_from_slice_get, slice_get-get_or, slice_get_within, key_laws, most_classes, All-from_recursion, zero, suc, [], ◌∷◌, AllAdjacentBelow}
+use Rattle.cq_resume.specs.Neighbours.{IsOfNeighbours}
 use Rattle.cq_resume.proofs.Cut.{none_kept}
+
+-- it holds of each and each later one below a place
+abbrev pub PairsBelow : {X : Type 0} → (X → X → Type 0) → List X → ℕ → Type 0
+PairsBelow {X} R xs n = (i j : ℕ) (d : X) → i < j → j < n → R (get_or xs i d) (get_or xs j d)
+
+-- ## Neighbours
+
+module _ {X : Type 0} (R : X → X → Type 0) (xs : List X) where
+  -- what holds of two neighbours, wherever they are read from
+  next_at : (n : ℕ) (x y : X) → n < length xs → x ≡ get_or xs (n - 1) x → y ≡ get_or xs n y → R x y → (k : ℕ) (d : X) →
+      k + 1 ≡ n → R (get_or xs k d) (get_or xs (k + 1) d)
+  next_at n x y inside first second next k d near = grind (arith, common_steps, get_or_default)
+
+  pub next_more : (n : ℕ) (x y : X) → n < length xs → x ≡ get_or xs (n - 1) x → y ≡ get_or xs n y → R x y →
+      AllAdjacentBelow R xs n → AllAdjacentBelow R xs (n + 1)
+  next_more n x y inside first second next all k d low = grind (arith, common_steps, cases_eq, next_at)
+
+  pub next_found : (n : ℕ) (x y : X) → 1 ≤ n → n < length xs → x ≡ get_or xs (n - 1) x → y ≡ get_or xs n y → R x y →
+      (k : ℕ) × (k + 1 < length xs) × ((d : X) → R (get_or xs k d) (get_or xs (k + 1) d))
+  next_found n x y one inside first second next =
+      (n - 1, omega arith, λ d. next_at n x y inside first second next (n - 1) d (omega arith))
+
+  module _ (goes_on : (a b c : X) → R a b → R b c → R a c) where
+    reached : AllAdjacentBelow R xs (length xs) → (m i j : ℕ) (d : X) → j ≡ i + m + 1 → j < length xs →
+        R (get_or xs i d) (get_or xs j d)
+    reached all zero i j d e inside = grind (arith, common_steps)
+    reached all (suc m) i j d e inside = grind (arith, common_steps, reached all m i (j - 1) d)
+
+    pub next_pairs : AllAdjacentBelow R xs (length xs) → AllPairs R xs
+    next_pairs all i j d lt inside = reached all ((j - i) - 1) i j d (omega arith) inside
+
+    -- the answer of a test that decides the relation, asked of each and the next one
+    pub neighbours_decide : {Test : X → X → Bool → Type 0} {r : Bool} → IsOfNeighbours Test xs r →
+        ((a b : X) (r : Bool) → Test a b r → (r ≡ true) ↔ R a b) → (r ≡ true) ↔ AllPairs R xs
+    neighbours_decide {r = true} answer decides = grind (arith, common_steps, next_pairs, decides, answer.each)
+    neighbours_decide {r = false} answer decides = (
+      (λ clash. absurd (let P : ⊥ = cc in P)),
+      (λ pairs.
+          let failed = answer.each in
+          let inside = failed.1 in
+          let d = some_item xs (omega arith) in
+          (decides _ _ false (failed.2 d)).1 (pairs failed.0 (failed.0 + 1) d (omega arith) inside)),
+    )
+      where
+        some_item : (ys : List X) → 0 < length ys → X
+        some_item [] inside = absurd (omega arith)
+        some_item (y ∷ ys) inside = y
+
+-- ## Lanes
 
 module _ {X : Type 0} (input : X → ℕ) (xs : List X) (n : ℕ) (d : X) (inside : n < length xs) where
   begins_test : begins_at (map input xs) n ≡ (ltb 0 n && ltb (input (get_or xs (n - 1) d)) (input (get_or xs n d)))
@@ -201,7 +250,8 @@ flow_number a b one = let output = one.output in let class = one.class in omega 
 pub flows_as_lanes : (ports : ℕ) (xs : List Name) →
     AllByRecursion (λ n. (n.queued.cell.output < ports) × (n.queued.cell.class < most_classes)) xs →
     AllPairs (InLane input_of flow_of LeavesFirst) xs ↔ FlowsStand xs
-flows_as_lanes ports xs each = grind (arith, common_steps, all_pairs, each_pair, all_each, one_flow, flow_number)
+flows_as_lanes ports xs each =
+    grind (arith, common_steps, All-from_recursion _ xs each, one_flow, flow_number)
 
 pub through : {A B C : Type 0} → A ↔ B → B ↔ C → A ↔ C
 through ab bc = ((λ a. bc.0 (ab.0 a)), (λ c. ab.1 (bc.1 c)))

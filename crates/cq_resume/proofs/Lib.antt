@@ -1,6 +1,4 @@
 mod Terms
-pub mod Each
-pub mod Chained
 pub mod Zipped
 pub mod Cut
 pub mod Lanes

@@ -10,8 +10,7 @@ use Rattle.cq_resume.proofs.Terms.{rules, arith, ◌≡◌, ℕ, ◌+◌, ◌<�
 use Rattle.cq_resume.specs.Sound.{IsOnlyFor}
 use Rattle.cq_resume.specs.declared.refusal.StateRefusal.TheVariants as refusal
 use Rattle.cq_resume.proofs.Coming.{found_at}
-use Rattle.cq_resume.proofs.Chained.{next_pairs}
-use Rattle.cq_resume.proofs.Lanes.{name_on}
+use Rattle.cq_resume.proofs.Lanes.{name_on, next_pairs}
 
 module _ {A B : Type 0} (R : A → B → Type 0) where
   -- what holds of no items and goes on with one more of each

@@ -1,5 +1,4 @@
-use Rattle.cq_resume.proofs.Terms.{rules, ◌≡◌, ◌*◌, ◌<◌, arith, length-replicate, get_or, inl, inr, Name, take_at, most_classes}
-use Rattle.cq_resume.proofs.Each.{all_at}
+use Rattle.cq_resume.proofs.Terms.{rules, ◌≡◌, ◌*◌, ◌<◌, arith, length-replicate, inl, inr, Name, take_at, most_classes, All-from_recursion}
 use Rattle.cq_resume.proofs.Lanes.{Place, lanes_first, lanes_hold, lanes_next, lanes_stop, leaves_on, name_inputs, LeavesFirst, flow_of, flows_as_lanes, input_of, through}
 use Rattle.cq_resume.proofs.flows.keep_arrival_order.Goals.{After-may_leave, then-begins, else-begins}
 use Rattle.cq_resume.proofs.flows.keep_arrival_order.Goals as goal
@@ -10,13 +9,12 @@ here : (c : After-may_leave) (e : Name) → Place input_of flow_of LeavesFirst c
 here c e =
     let inside = c.places-test.true in
     let long = c.places.invariant.long in
-    let own = all_at (λ (m : Name). (m.queued.cell.output < c.args.ports) × (m.queued.cell.class < most_classes))
-    c.args.names.now c.places.at e (omega arith) c.requires.names in
+    let own = All-from_recursion (λ (m : Name). (m.queued.cell.output < c.args.ports)
+    × (m.queued.cell.class < most_classes)) c.args.names.now c.requires.names c.places.at e (omega arith) in
     record {
       known = c.places.invariant;
       inside = omega arith;
-      rising = λ i j d lt within.
-          name_inputs (get_or c.args.names.now i d) (get_or c.args.names.now j d) (c.requires.ordered i j d lt within);
+      rising = search (rules, name_inputs, c.requires.ordered);
       is = c.begins.ensures;
       ways = elim c.if-begins.branch [
         | then-begins w ↦

@@ -1,6 +1,5 @@
 use Rattle.cq_resume.proofs.Terms.{rules, IsNameBefore}
-use Rattle.cq_resume.proofs.Chained.{neighbours_decide}
-use Rattle.cq_resume.proofs.Lanes.{name_on}
+use Rattle.cq_resume.proofs.Lanes.{neighbours_decide, name_on}
 use Rattle.cq_resume.proofs.found.differ.Goals as goal
 
 pub returns : goal.returns

@@ -1,11 +1,10 @@
-use Rattle.cq_resume.proofs.Terms.{◌≡◌, ◌∷◌, ◌++◌, [], get_or, Some, subst, arith, rules, has_at}
-use Rattle.cq_resume.proofs.Each.{all_at}
+use Rattle.cq_resume.proofs.Terms.{◌≡◌, ◌∷◌, ◌++◌, [], get_or, Some, subst, arith, rules, has_at, All-from_recursion}
 use Rattle.cq_resume.proofs.Zipped.{zip_all, zip_more}
 use Rattle.cq_resume.proofs.found.found_all.Given as given
 use Rattle.cq_resume.proofs.found.found_all.Goals as goal
 
 pub find-requires : goal.find-requires
-find-requires g c = search (arith, rules, all_at)
+find-requires g c = search (arith, rules, All-from_recursion)
 
 pub items-preserved : goal.items-preserved
 items-preserved g c =

@@ -1,5 +1,5 @@
 use Rattle.cq_resume.proofs.Terms.{true, false, refl, FnReturnsAtPair}
-use Rattle.cq_resume.proofs.Chained.{next_found, next_more}
+use Rattle.cq_resume.proofs.Lanes.{next_found, next_more}
 use Rattle.cq_resume.proofs.neighbours.neighbours_hold.Goals as goal
 
 pub returns-then-not-holds : goal.returns-then-not-holds

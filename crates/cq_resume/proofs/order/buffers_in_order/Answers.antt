@@ -1,6 +1,5 @@
 use Rattle.cq_resume.proofs.Terms.{arith, common_steps, rules, IsBufferedBefore}
-use Rattle.cq_resume.proofs.Chained.{neighbours_decide}
-use Rattle.cq_resume.proofs.Lanes.{urgent_on}
+use Rattle.cq_resume.proofs.Lanes.{neighbours_decide, urgent_on}
 use Rattle.cq_resume.proofs.order.buffers_in_order.Goals as goal
 
 pub returns : goal.returns

@@ -1,5 +1,4 @@
-use Rattle.cq_resume.proofs.Terms.{rules, ℕ, ◌<◌, get_or_default, arith, IsBefore, Queued, most_ports}
-use Rattle.cq_resume.proofs.Each.{all_at}
+use Rattle.cq_resume.proofs.Terms.{rules, ℕ, ◌<◌, get_or_default, arith, IsBefore, Queued, most_ports, All-from_recursion}
 use Rattle.cq_resume.proofs.Lanes.{Place, lanes_first, lanes_hold, lanes_next, lanes_stop, urgent_on}
 use Rattle.cq_resume.proofs.order.keys_in_order.Goals.{After-may_follow}
 use Rattle.cq_resume.proofs.order.keys_in_order.Goals as goal
@@ -15,8 +14,8 @@ here : (c : After-may_follow) (e : Queued) → Place of_input of_output IsBefore
     c.places.last c.if-begins.last c.begins.result
 here c e =
     let inside = c.places-test.true in
-    let own = all_at (λ (q : Queued). q.cell.output < most_ports) c.args.listed.now c.places.at e (omega arith)
-    c.requires.outputs in search (arith, rules)
+    let own = All-from_recursion (λ (q : Queued). q.cell.output < most_ports) c.args.listed.now c.requires.outputs
+    c.places.at e (omega arith) in search (arith, rules)
 
 pub places-init : goal.places-init
 places-init c = rw c.none_seen-last.ensures (lanes_first of_input of_output IsBefore c.args.listed.now most_ports)
@@ -31,7 +30,7 @@ returns-then-not-may_follow c = lanes_stop of_input of_output IsBefore
     c.may_follow.ensures c.if-not-may_follow.true
 
 pub bounds-last-output : goal.bounds-last-output
-bounds-last-output c = search (arith, rules, all_at)
+bounds-last-output c = search (arith, rules, All-from_recursion)
 
 pub returns : goal.returns
 returns c = search (arith, rules, lanes_hold)

@@ -1,5 +1,5 @@
 use Rattle.cq_resume.proofs.Terms.{arith, common_steps, rules, IsSentBefore}
-use Rattle.cq_resume.proofs.Chained.{neighbours_decide}
+use Rattle.cq_resume.proofs.Lanes.{neighbours_decide}
 use Rattle.cq_resume.proofs.order.sent_in_order.Goals as goal
 
 pub returns : goal.returns
