@@ -118,13 +118,8 @@ pub moved_told : (ports : ℕ) (fs : List (Option ℕ)) → 1 ≤ ports → With
     (fs ≡ map Some (number_at fs 0 ∷ number_at fs 1 ∷ number_at fs 2 ∷ number_at fs 3 ∷ number_at fs 4 ∷ number_at fs
     5 ∷ [])) × IsMoved ports (moved_of fs)
 moved_told ports fs some w =
-    let slot = is_number (get_or fs 0 None) 0 (2 ^ 63 - 1) (w.each 0 (omega arith)) in
-    let phase = is_number (get_or fs 1 None) 1 2 (w.each 1 (omega arith)) in
-    let input = is_number (get_or fs 2 None) 0 (ports - 1) (w.each 2 (omega arith)) in
-    let output = is_number (get_or fs 3 None) 0 (ports - 1) (w.each 3 (omega arith)) in
-    let packet = is_number (get_or fs 4 None) 0 (2 ^ 32 - 1) (w.each 4 (omega arith)) in
-    let index = is_number (get_or fs 5 None) 0 (2 ^ 32 - 1) (w.each 5 (omega arith)) in
-    (cc (spread (ranges ports 0 Moved) fs w), search (arith, rules))
+    let fields = spread (ranges ports 0 Moved) fs w in
+    grind (arith, common_steps, is_number, w.each 0, w.each 1, w.each 2, w.each 3, w.each 4, w.each 5, fields)
 
 pub seen_told : (i : ℕ) (fs : List (Option ℕ)) → Within (between i i ∷ count ∷ count_or_none ∷ []) 0 fs →
     (fs ≡ Some i ∷ Some (number_at fs 1) ∷ get_or fs 2 None ∷ []) × IsSeen (seen_of fs)

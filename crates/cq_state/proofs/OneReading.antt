@@ -1,7 +1,7 @@
 -- A state's text is read in one way. The words of the kinds differ, and each ends where its first field or the line
 -- ends, so a line tells its kind, and then its fields. The kinds of the table are different, so a kind is due once, and
 -- a line leads to one place.
-use Rattle.cq_state.proofs.Terms.{rules, ◌≡◌, ℕ, ltb, cond, List, [], ◌∷◌, ◌++◌, Option, refl, arith, append_assoc, append-nil, Kind, Line, Place, ComesAt, Comes, MayEnd, word, spelled, start, kinds, IsStateExact, ◌≢◌, AllByRecursion}
+use Rattle.cq_state.proofs.Terms.{rules, ◌≡◌, ℕ, ltb, cond, List, [], ◌∷◌, ◌++◌, Option, refl, arith, append_assoc, append-nil, Kind, Line, Place, ComesAt, Comes, MayEnd, word, spelled, start, kinds, IsStateExact, ◌≢◌, AllByRecursion, common_steps}
 use Rattle.cq_base.specs.Items.{EachPair}
 use Rattle.cq_lines.specs.Lines.{line, ending}
 use Rattle.cq_lines.proofs.Exact.{OneWay, exact}
@@ -23,8 +23,7 @@ one_kind : (j k : Kind) (fs gs : List (Option ℕ)) (a b : List ℕ) → line (w
 one_kind j k fs gs a b e = search (arith, rules, append-nil, append_assoc, no_word)
 
 same_line : (x y : Line) (a b : List ℕ) → spelled x ++ a ≡ spelled y ++ b → (x ≡ y) × (a ≡ b)
-same_line x y a b e =
-    let kind = one_kind x.kind y.kind x.fields y.fields a b e in search (arith, rules, one_line, line_of)
+same_line x y a b e = grind (arith, common_steps, one_kind, one_line, line_of)
 
 -- ## A kind is due once
 
@@ -40,8 +39,7 @@ comes_other j (k ∷ due) seen ports x next a c = search (rules, comes_other j d
 one_place : (due : List Kind) (seen ports : ℕ) (x : Line) (q r : Place) → AreApart due →
     ComesAt due seen ports x q → ComesAt due seen ports x r → q ≡ r
 one_place [] seen ports x q r a c d = absurd c
-one_place (k ∷ due) seen ports x q r a c d =
-    search (arith, rules, comes_other k due 0 ports x, one_place due 0 ports x q r a.1)
+one_place (k ∷ due) seen ports x q r a c d = grind (arith, common_steps, comes_other, one_place due 0 ports x q r a.1)
 
 still_apart : (due : List Kind) (seen ports : ℕ) (x : Line) (q : Place) → AreApart due →
     ComesAt due seen ports x q → AreApart q.due

@@ -81,7 +81,6 @@ module _ {X : Type 0} (k : Kind) (due : List Kind) (ports : ℕ) (told : (fs : L
       let reads_one = reads seen x.fields one.within in
       let rest = many_told xs (seen + 1) (⊎_elim (λ free. inl free) (λ low. inr (omega arith)) one.room)
       (rw (told x.fields) at one.rest) in
-      let enough = rest.enough in
       record {
         values = value x.fields ∷ rest.values;
         behind = rest.behind;
@@ -123,8 +122,7 @@ state_again s is =
     let buffered = part_adds (plain (cell_line Buffered)) (λ t xs. record t { buffered = t.buffered ++ xs }) named in
     let sent = part_adds (plain sent_line) (λ t xs. record t { sent = t.sent ++ xs }) (IsSent s.head.ports) in
     let moved = part_adds (plain moved_line) (λ t xs. record t { moved = t.moved ++ xs }) (IsMoved s.head.ports) in
-    rw lines_are (search
-    (arith, rules, inputs, ranks, listed, buffered, sent, moved, append-nil, append_assoc, same_numbers))
+    search (arith, rules, lines_are, append-nil, append_assoc, same_numbers)
 
 -- ## What a text tells
 
@@ -141,8 +139,6 @@ each_told xs c =
     let ports : ℕ = number_at shape.fields 0 in
     let sum = one_told Sum (λ _. (refl, refl)) (drop 4 kinds) ports shape.behind shape.rest in
     let is_shape = shape_told shape.fields shape.within in
-    let next_told = count_told next.fields next.within in
-    let sum_told = counts_told sum.fields sum.within in
     let some = is_shape.ports.0 in
     let inputs = many_told Input (drop 5 kinds) ports (λ _. refl) (λ i x. (input_line i x).fields) seen_of IsSeen
     seen_told sum.behind 0 (inr (omega arith)) sum.rest in
@@ -159,8 +155,6 @@ each_told xs c =
     (IsMoved ports) (λ _ fs. moved_told ports fs some) sent.behind 0 (inl refl) sent.rest in
     let end = one_told End (λ _. (refl, refl)) [] ports moved.behind moved.rest in
     let none : moved.behind ≡ line_of End end.fields ∷ [] = rw (nothing_behind ports end.behind end.rest) at end.is in
-    let is_version = version_told version.fields version.within in
-    let is_end = end_told end.fields end.within in
     let s : State =
     of_parts (record {
       next = number_at next.fields 0;

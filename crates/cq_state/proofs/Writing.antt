@@ -38,8 +38,7 @@ module _ {X : Type 0} (xs : List X) (old : List ℕ) (line : ℕ → X → Line)
       now ≡ old ++ text (numbered line 0 (take i xs)) → x ≡ line i (get_or xs i d) → new ≡ now ++ spelled x →
       new ≡ old ++ text (numbered line 0 (take (i + 1) xs))
   line_put d x now new inside e is f =
-      let more = numbered_parts line 0 (take i xs) (get_or xs i d ∷ []) in
-      grind (arith, common_steps, length-take, line_behind, take_more)
+      grind (arith, common_steps, numbered_parts, length-take, line_behind, take_more)
 
   pub lines_put : (new : List ℕ) → length xs ≤ i → new ≡ old ++ text (numbered line 0 (take i xs)) →
       new ≡ old ++ text (numbered line 0 xs)
@@ -68,8 +67,7 @@ part_fits : (head : List Line) (ps : List (List Line)) (k : ℕ) (t0 t1 now : Li
     t1 ≡ t0 ++ text head → now ≡ t1 ++ text (flat_map (λ xs. xs) (take k ps)) →
     length (now ++ text (get_or ps k [])) ≤ length (t0 ++ text (head ++ flat_map (λ xs. xs) ps))
 part_fits head ps k t0 t1 now inside first e =
-    let all = ap (λ qs. length (text (flat_map (λ (xs : List Line). xs) qs))) (take-append-drop (k + 1) ps) in
-    let more = take_more ps k [] inside in grind (arith, common_steps, flat_map-append, length-append)
+    grind (arith, common_steps, take-append-drop (k + 1) ps, take_more ps k [] inside, flat_map-append, length-append)
 
 pub long_with : {A : Type 0} (r : Result A StateLong) (s : State) (k : ℕ) (t0 t1 now : List ℕ) → k < 7 →
     IfErr r (IsTooLong (now ++ text (get_or (drop 1 (parts s)) k []))) → t1 ≡ t0 ++ text (head_lines s.head) →

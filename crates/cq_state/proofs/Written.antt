@@ -35,8 +35,7 @@ part : {X : Type 0} (k : Kind) (due : List Kind) (ports : ℕ) (line : ℕ → X
     (rest : List Line) (n ends : ℕ) → ends ≡ n + length xs → ((i : ℕ) → i < ends → HasRoom ports k i) →
     ((i : ℕ) → i < ends → AllByRecursion (λ x. Within (ranges ports i k) (further k) (line i x).fields) xs) →
     Completes (at (k ∷ due) ends ports) rest → Completes (at (k ∷ due) n ports) (numbered line n xs ++ rest)
-part k due ports line own told [] rest n ends size room all after =
-    let same : ends ≡ n = omega arith in rw (← same) after
+part k due ports line own told [] rest n ends size room all after = grind (arith, common_steps)
 part k due ports line own told (x ∷ xs) rest n ends size room all after =
     one_more k due n ports ports (line n x) _ (own n x) (room n (omega arith)) (all n (omega arith)).0 (told n x)
     (part k due ports line own told xs rest (n + 1) ends (omega arith) room (λ i low. (all i low).1) after)
