@@ -82,20 +82,6 @@ is_number : (f : Option ℕ) (least most : ℕ) → InRange (between least most)
 is_number None least most is = absurd (let clash : false ≡ true = is in let P : ⊥ = cc in P)
 is_number (Some n) least most is = search rules
 
-pub version_told : (fs : List (Option ℕ)) → Within (between 1 1 ∷ []) 0 fs → fs ≡ Some 1 ∷ []
-version_told fs w = grind (arith, common_steps, spread, is_number, w.each)
-
-pub end_told : (fs : List (Option ℕ)) → Within [] 0 fs → fs ≡ []
-end_told fs w = spread [] fs w
-
-pub count_told : (fs : List (Option ℕ)) → Within (count ∷ []) 0 fs → (fs ≡ Some (number_at fs 0) ∷ []) × IsCount
-    (number_at fs 0)
-count_told fs w = grind (arith, common_steps, spread, is_number, w.each)
-
-pub counts_told : (fs : List (Option ℕ)) → Within (count ∷ count ∷ []) 0 fs → (fs ≡ Some (number_at fs 0) ∷ Some
-    (number_at fs 1) ∷ []) × IsCount (number_at fs 0) × IsCount (number_at fs 1)
-counts_told fs w = grind (arith, common_steps, spread, is_number, w.each)
-
 pub record IsShape (fs : List (Option ℕ)) : Type 0 where
   pub fields : fs ≡ map Some (number_at fs 0 ∷ number_at fs 1 ∷ number_at fs 2 ∷ number_at fs 3 ∷ [])
   pub ports : (1 ≤ number_at fs 0) × (number_at fs 0 ≤ 64)

@@ -4,7 +4,7 @@
 -- with those of this kind, each of which tells what its fields say, and what is behind them leads to the end from where
 -- the next kind is due.
 use Rattle.cq_state.proofs.Terms.{common_steps, ◌≡◌, ℕ, ◌+◌, false, List, [], ◌∷◌, ◌++◌, map, drop, Option, Some, refl, ap, sym, ◌∙◌, arith, rules, append_assoc, inl, inr, IsTrue, unwrap_or, AllByRecursion, append-nil, Transfer, Kind, Version, Next, Shape, Sum, Input, Rank, Listed, Buffered, Sent, Moved, End, Head, Seen, Named, State, Line, kinds, start, IsInRange, IsSeen, AreRankNumbers, IsNamed, IsSent, IsMoved, state_lines, state_text, numbered, input_line, rank_line, cell_line, sent_line, moved_line, added, gathered, nothing, number_at, seen_of, rank_of, named_of, sent_of, moved_of, ◌<◌, ◌≤◌, add-zero, length, ⊎_elim, ◌⊎◌, Within, is_free, needed, ranges, further, ports_behind, cell_numbers}
-use Rattle.cq_state.proofs.Fields.{version_told, end_told, count_told, counts_told, shape_told, seen_told, rank_told, named_told, sent_told, moved_told}
+use Rattle.cq_state.proofs.Fields.{shape_told, seen_told, rank_told, named_told, sent_told, moved_told}
 use Rattle.cq_state.proofs.OneReading.{state_is_exact}
 use Rattle.cq_state.proofs.Written.{Completes, at, line_of, lines_are, plain, state_has_text}
 use Rattle.cq_state.specs.declared.state.Sent as kept
