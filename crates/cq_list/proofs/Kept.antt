@@ -1,7 +1,7 @@
 -- The places and the pool of a list, before and after its calls. The cells for which they stand are known by the split
 -- alone, so each call has to show no more than the split of the cells that it promises; that these are the cells that
 -- the new places and the new pool stand for follows.
-use Rattle.cq_list.proofs.Terms.{◌+◌, all_insert, all_left, each_pair_left, keys_differ_insert, keeps_order_arrival, common_steps, rules, ◌≡◌, ℕ, zero, suc, ◌<◌, eqb, Bool, cond, List, [], ◌∷◌, length, set, take, concat, drop, min, None, Some, sym, ap, ◌∙◌, subst, arith, length-set, get_or-set_same, get_or-set_other, ⊎_elim, length-map, get_or_past, ◌&&◌, slice_get, remove, insert, position, position_or_len, cond_both, eqb-true, eqb-false, ltb-true, lt-ltb, cases_lt, slice_get-map, slice_get_within, slice_get_cases, find_at, Queued, is_before, HasOtherKey, MoreUrgentAhead, is_for, first_for, without_first, put, place_of_arrival, with_arrival, CanTell, IsSplit, merged, is_output, place_of_nth, count_of, PlacesView, PoolView, queue_of, Waiting, AreWaiting, StandFor, cells_in, all_filter, position_or_len-map}
+use Rattle.cq_list.proofs.Terms.{◌+◌, all_insert, all_left, each_pair_left, keys_differ_insert, keeps_order_arrival, common_steps, rules, ◌≡◌, ℕ, ◌<◌, eqb, Bool, cond, List, [], ◌++◌, length, set, take, drop, min, None, Some, sym, ap, ◌∙◌, subst, arith, length-set, get_or-set_same, get_or-set_other, ⊎_elim, length-map, get_or_past, ◌&&◌, slice_get, remove, insert, position, position_or_len, cond_both, eqb-true, eqb-false, ltb-true, lt-ltb, cases_lt, slice_get-map, slice_get_within, slice_get_cases, find_at, Queued, is_before, HasOtherKey, MoreUrgentAhead, is_for, first_for, without_first, put, place_of_arrival, with_arrival, HaveTold, IsSplit, is_output, place_of_nth, count_of, PlacesView, PoolView, queue_of, Waiting, AreWaiting, StandFor, cells_in, all_filter, position_or_len-map}
 use Rattle.cq_list.proofs.Split.{merged_queues, split_arrived, split_left, both_is_nth, first-is-head, length-filter-map, cell_at}
 
 -- an output with a cell is one of them
@@ -12,9 +12,7 @@ queue_inside queues j x head = grind (arith, common_steps, slice_get_within, get
 -- they stand for no other cells than those that are seen
 pub cells_are : {outputs : ℕ} {places : PlacesView} {pool : PoolView} {xs : List Queued} →
     StandFor outputs places pool xs → cells_in places pool ≡ xs
-cells_are {pool = pool} {xs} s =
-    ap (λ l. merged l (queue_of pool.queues)) s.split.outputs
-    ∙ merged_queues xs (queue_of pool.queues) s.split.queued
+cells_are {pool = pool} {xs} s = grind (arith, common_steps, merged_queues xs (queue_of pool.queues))
 
 pub kept : {outputs : ℕ} {places : PlacesView} {pool : PoolView} {xs : List Queued} → StandFor outputs places pool xs →
     StandFor outputs places pool (cells_in places pool)
@@ -24,11 +22,6 @@ kept {outputs} {places} {pool} s = subst (StandFor outputs places pool) (sym (ce
 pub queue_of-set : (queues : List (List Queued)) (j : ℕ) (f : List Queued → List Queued) (i : ℕ) → j < length queues →
     queue_of (set queues j (f (queue_of queues j))) i ≡ cond (eqb j i) (f (queue_of queues i)) (queue_of queues i)
 queue_of-set queues j f i inside = search (rules, cond_both, eqb-true, get_or-set_same, get_or-set_other, eqb-false)
-
-something_inside : {X : Type 0} (xs : List X) (k : ℕ) → k < length xs → slice_get xs k ≡ None → ⊥
-something_inside [] k inside none = omega arith
-something_inside (x ∷ xs) zero inside none = cc
-something_inside (x ∷ xs) (suc k) inside none = something_inside xs k (omega arith) none
 
 module _ {outputs : ℕ} {places : PlacesView} {pool : PoolView} {w : Waiting}
     (stand : StandFor outputs places pool (cells_in places pool))
@@ -57,15 +50,7 @@ module _ {outputs : ℕ} {places : PlacesView} {pool : PoolView} {w : Waiting}
       new_places.outputs ≡ outs → new_pool.queues ≡ set pool.queues j (f (queue_of pool.queues j)) →
       new_places.spare ≡ new_pool.spare → StandFor outputs new_places new_pool xs
   changed j f outs xs inside waiting split places_are queues_are spare =
-      record {
-        waiting = waiting;
-        split = record {
-          outputs = places_are ∙ split.outputs;
-          queued = λ i. ap (λ l. queue_of l i) queues_are ∙ queue_of-set pool.queues j f i inside ∙ split.queued i;
-        };
-        queues = ap length queues_are ∙ length-set pool.queues j (f (queue_of pool.queues j)) ∙ had.queues;
-        spare = spare;
-      }
+      grind (arith, common_steps, queue_of-set pool.queues j f, length-set)
 
   -- it goes in at the place that is computed from the first less urgent cell of its queue
   pub arrived : (cushion : ℕ) (c : Queued) {ahead later place : ℕ} {new_places : PlacesView} {new_pool : PoolView} →
@@ -115,7 +100,7 @@ module _ {outputs : ℕ} {places : PlacesView} {pool : PoolView} {w : Waiting}
 
   -- none waits for it
   pub position-none : (j : ℕ) → slice_get (queue_of pool.queues j) 0 ≡ None → position (is_for j) w.cells ≡ None
-  position-none j head = grind (arith, common_steps, find_at, first_is, cond_both, something_inside, ltb-true)
+  position-none j head = grind (arith, common_steps, find_at, first_is, cond_both, slice_get_cases, ltb-true)
 
   pub position-some : (j : ℕ) (x : Queued) → slice_get (queue_of pool.queues j) 0 ≡ Some x →
       position (is_for j) w.cells ≡ Some (position_or_len (is_output j) places.outputs)
@@ -124,19 +109,10 @@ module _ {outputs : ℕ} {places : PlacesView} {pool : PoolView} {w : Waiting}
 
   -- ## All cells, told block by block
 
-  module _ (blocks : List (List ℕ)) {heads : List (List Queued)} (in_blocks : concat blocks ≡ places.outputs)
-      (heads_are : heads ≡ pool.queues) where
-    pub can_tell : CanTell (concat blocks) (queue_of heads)
-    can_tell j =
-        let many = counted j in
-        let own = ap (λ q. length (queue_of q j)) heads_are in
-        let all = ap (count_of j) in_blocks in
-        omega arith
-
-    pub all_merged : merged (concat blocks) (queue_of heads) ≡ w.cells
-    all_merged =
-        ap (λ l. merged l (queue_of heads)) in_blocks ∙ ap (λ q. merged places.outputs (queue_of q)) heads_are
-        ∙ ap (λ (v : Waiting). v.cells) is
+  pub none_told : {first told : List ℕ} (behind : List ℕ) {heads : List (List Queued)} → told ≡ first →
+      first ++ behind ≡ places.outputs → heads ≡ pool.queues → HaveTold (told ++ behind) (queue_of heads) [] w.cells
+  none_told behind reads parts heads_are = rw (reads, parts, heads_are)
+      (record { all = ap (λ (v : Waiting). v.cells) is; can = λ j. let many = counted j in omega arith })
 
   -- ## The cell at a place
 

@@ -39,7 +39,7 @@ count_of j places = length (filter (is_output j) places)
 abbrev pub CanTell : List ℕ → Queues → Type 0
 CanTell places queues = (j : ℕ) → count_of j places ≤ length (queues j)
 
--- what is told once the cells at some places are told too, which are taken from the heads of the queues
-pub record HaveTold (places : List ℕ) (old new : Queues) (told all : List Queued) : Type 0 where
-  pub cells : all ≡ told ++ merged places old
-  pub left : (j : ℕ) → new j ≡ drop (count_of j places) (old j)
+-- what is told, and what the heads of the queues tell at the places that are left, are these cells
+pub record HaveTold (left : List ℕ) (queues : Queues) (told cells : List Queued) : Type 0 where
+  pub all : told ++ merged left queues ≡ cells
+  pub can : CanTell left queues

@@ -1,6 +1,7 @@
 //! The list of cells that wait at one input.
-ghost use Rattle.std.specs.Prelude.{◌≡◌, ◌+◌, ◌<◌, ◌≤◌, ◌&&◌, [], Some, IfOk, OnOk, length, position, slice_get, is_some, not, if◌then◌else◌};
+ghost use Rattle.std.specs.Prelude.{◌≡◌, ℕ, ◌+◌, ◌<◌, ◌≤◌, ◌&&◌, ◌++◌, List, [], Some, IfOk, OnOk, length, position, slice_get, is_some, not, if◌then◌else◌};
 ghost use Rattle.std.specs.List.{position_or_len};
+ghost use Rattle.cq_base.specs.declared.cell.Queued.{Queued};
 ghost use Rattle.cq_base.specs.Key.{is_before};
 ghost use Rattle.cq_base.specs.Cells.{HasOtherKey, MoreUrgentAhead, is_for, has_id, first_for, without_first, with_arrival};
 ghost use Rattle.cq_base.specs.Limits.{most_ports};
@@ -48,11 +49,13 @@ fn place_behind(places: &Places, output: Port, ahead: usize, all: usize) -> usiz
     places.place_of(output, ahead, all)
 }
 
-// Tells the cells at these places, behind those that are told. The error is want of memory.
+// Tells the cells at these places, behind those that are told. The places that are left go on telling the same cells.
+// The error is want of memory.
 fn tell<'a>(cells: &mut Vec<Queued>, heads: &mut Heads<'a>, places: &[Port]) -> Result<(), NoMemory>
     requires { CanTell places.now (queue_of heads.old) }
-    ensures { OnOk result (HaveTold places.now (queue_of heads.old) (queue_of heads.new)
-        cells.old.items cells.new.items) }
+    ensures { OnOk result ((left : List ℕ) (all : List Queued) →
+        HaveTold (places.now ++ left) (queue_of heads.old) cells.old.items all →
+        HaveTold left (queue_of heads.new) cells.new.items all) }
 {
     'places: for output in places {
         cells.push(heads.next(*output))?;

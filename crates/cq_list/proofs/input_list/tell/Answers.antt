@@ -1,15 +1,24 @@
-use Rattle.cq_list.proofs.Terms.{rules, arith, refl, sym, append-nil}
-use Rattle.cq_list.proofs.Told.{head_left, told_next}
+use Rattle.cq_list.proofs.Terms.{rules, arith, ◌++◌, ◌+◌, drop, drop_all, drop_more}
+use Rattle.cq_list.proofs.Told.{some_left, can_next, told_next}
 use Rattle.cq_list.proofs.input_list.tell.Goals as goal
 
 pub places-init : goal.places-init
-places-init c = record { cells = sym (append-nil _); left = λ j. refl }
+places-init c = record { can = c.requires; on = λ left all t. t }
 
 pub next-requires : goal.next-requires
-next-requires c = search (arith, rules, head_left)
+next-requires c =
+    let next = drop_more c.args.places.now c.places.output-index 0 c.places-test.true in
+    some_left _ _ _ (rw next at c.places.invariant.can)
 
 pub places-preserved : goal.places-preserved
 places-preserved c =
-    let next = told_next c.args.places.now c.places.output-index c.places.heads c.places.invariant c.next.ensures.head
-    c.next.ensures.queues c.in_ok-push.ensures.items in
-    search (arith, rules, next)
+    let next = drop_more c.args.places.now c.places.output-index 0 c.places-test.true in
+    record {
+      can = can_next _ c.places.heads c.next.ensures.head c.next.ensures.queues _ (rw next at c.places.invariant.can);
+      on = λ left all t. told_next _ c.places.heads c.next.ensures.head c.next.ensures.queues
+          (drop (c.places.output-index + 1) c.args.places.now ++ left) (rw next at (c.places.invariant.on left all t))
+          c.in_ok-push.ensures.items;
+    }
+
+pub returns : goal.returns
+returns c left all t = let told = c.places.invariant.on left all t in search (arith, rules, drop_all)

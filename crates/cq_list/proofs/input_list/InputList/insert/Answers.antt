@@ -15,9 +15,7 @@ now c =
     let least =
     c.min-place.ensures
     ∙ ap (min c.args.cushion) (c.min.ensures ∙ ap (min c.place_behind-later.result) c.len.ensures) in
-    arrived c.self.invariant c.self.view_is c.args.cushion c.args.queued c.requires.in_range c.requires.other_key
-    c.requires.ahead c.put-ahead.ensures.place c.place_behind-later.ensures least c.insert.ensures.outputs
-    c.put-ahead.ensures.queues c.insert.ensures.spare c.put-ahead.ensures.spare
+    search (arith, rules, arrived, least)
 
 pub invariant_of-self : goal.invariant_of-self
 invariant_of-self c = kept (now c)

@@ -20,8 +20,7 @@ remove_first-requires c =
 -- what the new places and the new pool stand for
 now : (c : goal.After-take) → StandFor c.self.inside.outputs c.remove_first.new.self c.take.new.self
     (without_first c.args.output c.args.self.now.cells)
-now c = left c.self.invariant c.self.view_is c.args.output _ c.take.ensures.first c.remove_first.ensures.outputs
-    c.take.ensures.queues c.remove_first.ensures.spare c.take.ensures.spare
+now c = search (arith, rules, left)
 
 pub invariant_of-self : goal.invariant_of-self
 invariant_of-self c = kept (now c)
