@@ -1,6 +1,7 @@
 -- A walk along the blocks, from the first on or from the last back. The places ahead of the block behind a block are
 -- those ahead of it and its own; so what is counted grows by a block's numbers, or shrinks by them.
-use Rattle.cq_list.proofs.Terms.{take-append-add, cases_lt, rules, ◌≡◌, ℕ, ◌+◌, ◌-◌, ◌<◌, ◌≤◌, Bool, List, [], ◌∷◌, ◌++◌, length, get_or, take, drop, sym, ap, ◌∙◌, arith, length-append, take-append-drop, common_steps, filter, concat, get_or_read, get_or-take, get_or-append_seam, length-drop, length-take-le, take-append-le, take-take, take_all, drop_more, take_more, append-nil, filter-append, concat-append, place_of_nth, is_output, count_of, IsSpot, IsAhead}
+use Rattle.cq_list.proofs.Terms.{take-append-add, cases_lt, rules, ◌≡◌, ℕ, ◌+◌, ◌-◌, ◌<◌, ◌≤◌, Bool, List, [], ◌∷◌, ◌++◌, length, get_or, take, drop, sym, ap, ◌∙◌, arith, length-append, take-append-drop, common_steps, filter, concat, get_or_read, length-drop, length-take-le, take-append-le, drop_more, take_more, append-nil, filter-append, concat-append, place_of_nth, is_output, count_of, IsSpot, IsAhead}
+use Rattle.std.proofs.lemmas.List.{same_from_push}
 use Rattle.cq_list.proofs.Counts.{count_le}
 use Rattle.cq_list.proofs.Nth.{nth_inside, nth_in_front, nth_behind}
 use Rattle.cq_list.proofs.Blocks.{ahead_more, whole_is}
@@ -14,16 +15,21 @@ take_past xs ys n past =
     let e : n ≡ length xs + (n - length xs) = omega arith in
     ap (λ m. take m (xs ++ ys)) e ∙ take-append-add xs ys (n - length xs)
 
-pub count_all_le : (blocks : List (List ℕ)) (i j : ℕ) → count_of j (concat (take i blocks)) ≤ length (concat blocks)
-count_all_le blocks i j = let le = count_le j (concat (take i blocks)) in let whole = whole_is blocks i in omega arith
+-- what stands ahead of a block is no more than all
+pub ahead_fits : {blocks : List (List ℕ)} {j i places own : ℕ} → IsAhead blocks j i places own →
+    (places ≤ length (concat blocks)) × (own ≤ length (concat blocks))
+ahead_fits {blocks} {j} {i} ahead =
+    let few = count_le j (concat (take i blocks)) in let whole = whole_is blocks i in (omega arith, omega arith)
 
 module _ (blocks : List (List ℕ)) (i : ℕ) {block : List ℕ} (inside : i < length blocks)
     (is_read : block ≡ get_or blocks i block) where
   block_is : block ≡ get_or blocks i []
   block_is = get_or_read blocks i block inside is_read []
 
-  pub rest_is : concat (drop i blocks) ≡ block ++ concat (drop (i + 1) blocks)
-  rest_is = ap concat (drop_more blocks i [] inside) ∙ ap (λ b. b ++ concat (drop (i + 1) blocks)) (sym block_is)
+  parts_are : concat blocks ≡ concat (take i blocks) ++ (block ++ concat (drop (i + 1) blocks))
+  parts_are = rw block_is (ap concat (sym (take-append-drop i blocks))
+      ∙ concat-append (take i blocks) (drop i blocks)
+      ∙ ap (λ l. concat (take i blocks) ++ concat l) (drop_more blocks i [] inside))
 
   pub ahead_next : length (concat (take i blocks)) + length block ≡ length (concat (take (i + 1) blocks))
   ahead_next = let more = ahead_more blocks i inside in let same = ap length block_is in omega arith
@@ -33,25 +39,29 @@ module _ (blocks : List (List ℕ)) (i : ℕ) {block : List ℕ} (inside : i < l
   count_next j =
       grind (arith, common_steps, take_more, concat-append, filter-append, length-append, append-nil, block_is)
 
-  pub rest_next : length (concat (drop i blocks)) ≡ length block + length (concat (drop (i + 1) blocks))
-  rest_next = ap length rest_is ∙ length-append block (concat (drop (i + 1) blocks))
+  -- what stands ahead of the block behind it, and of it by what stands ahead of that one
+  pub ahead_on : {j places own : ℕ} → IsAhead blocks j i places own →
+      IsAhead blocks j (i + 1) (places + length block) (own + count_of j block)
+  ahead_on ahead = search (arith, rules, ahead_next, count_next)
 
-  pub block_fits : length (concat (take i blocks)) + length block ≤ length (concat blocks)
-  block_fits = let whole = whole_is blocks i in let rest = rest_next in omega arith
+  pub ahead_off : {j next places own : ℕ} → IsAhead blocks j next places own → next ≡ i + 1 →
+      (length block ≤ places) × (count_of j block ≤ own)
+      × IsAhead blocks j i (places - length block) (own - count_of j block)
+  ahead_off {j} ahead is = let more = ahead_next in let count = count_next j in grind (arith, common_steps)
+
+  -- how many of the places ahead of one of the block are an output's
+  pub count_within : (j left place : ℕ) → left ≤ length block → length (concat (take i blocks)) + left ≡ place →
+      count_of j (concat (take i blocks)) + count_of j (take left block) ≡ count_of j (take place (concat blocks))
+  count_within j left place early is =
+      let ahead = take-append-add (concat (take i blocks)) (block ++ concat (drop (i + 1) blocks)) left in
+      grind (arith, common_steps, parts_are, ahead, take-append-le, filter-append, length-append)
 
   -- the place of number k where the block has it
   module _ {j k places own : ℕ} (ahead : IsAhead blocks j i places own) (late : own ≤ k)
       (early : k < own + count_of j block) {place at within : ℕ} (is : place ≡ places + within) (in_block : at ≡ i)
       (found : within ≡ place_of_nth (is_output j) (k - own) block) where
     pub nth_found : (place ≡ place_of_nth (is_output j) k (concat blocks)) × IsSpot blocks place at within
-    nth_found =
-        let whole = ap concat (sym (take-append-drop i blocks)) ∙ concat-append (take i blocks) (drop i blocks) in
-        search (arith, rules, nth_behind, rest_is, nth_in_front, nth_inside, block_is)
-
-  pub count_past_block : (j n : ℕ) → length block ≤ n →
-      count_of j (take n (concat (drop i blocks))) ≡ count_of j block + count_of j
-      (take (n - length block) (concat (drop (i + 1) blocks)))
-  count_past_block j n late = grind (arith, common_steps, rest_is, take_past, filter-append, length-append)
+    nth_found = search (arith, rules, nth_behind, parts_are, nth_in_front, nth_inside, block_is)
 
 -- ## From both ends at once
 
@@ -63,13 +73,10 @@ pub record AreMet (blocks : List (List ℕ)) (j i : ℕ) (front back : List ℕ)
   pub last : back ≡ get_or blocks (length blocks - (i + 1)) back
   pub ahead : left ≡ drop (i + 1) blocks
   pub behind : lent ≡ take (length blocks - (i + 1)) blocks
-  pub fits : places + length front ≤ length (concat blocks)
-  pub few : own + count_of j front ≤ length (concat blocks)
-  pub longer : places + length front ≡ length (concat (take (i + 1) blocks))
-  pub more : own + count_of j front ≡ count_of j (concat (take (i + 1) blocks))
-  pub all : later ≤ length (concat blocks)
-  pub shorter : length (concat (take (length blocks - (i + 1)) blocks)) + length back ≡ later
-  pub fewer : count_of j (concat (take (length blocks - (i + 1)) blocks)) + count_of j back ≡ some
+  pub on : IsAhead blocks j (i + 1) (places + length front) (own + count_of j front)
+  pub fits : length back ≤ later
+  pub few : count_of j back ≤ some
+  pub off : IsAhead blocks j (length blocks - (i + 1)) (later - length back) (some - count_of j back)
 
 module _ (blocks : List (List ℕ)) (i : ℕ) {j later some : ℕ} {from to : List (List ℕ)} (ahead : from ≡ drop i blocks)
     (behind : to ≡ take (length blocks - i) blocks) (rest : IsAhead blocks j (length blocks - i) later some) where
@@ -84,47 +91,12 @@ module _ (blocks : List (List ℕ)) (i : ℕ) {j later some : ℕ} {from to : Li
       let met : get_or blocks i front ∷ drop (i + 1) blocks ≡ front ∷ left =
       sym (drop_more blocks i front inside) ∙ next in
       let read : front ≡ get_or blocks i front = cc in
-      let parts : take (length blocks - i) blocks ≡ lent ++ back ∷ [] = sym behind ∙ last in
-      let all = length-take-le (length blocks - i) blocks (omega arith) in
-      let sum = ap length parts ∙ length-append lent (back ∷ []) in
-      let long : length lent ≡ length blocks - (i + 1) = omega arith in
-      let back_read : back ≡ get_or blocks (length blocks - (i + 1)) back =
-      sym (get_or-append_seam lent back [] back) ∙ ap (λ l. get_or l (length lent) back) (sym parts)
-      ∙ get_or-take (length blocks - i) blocks (length lent) back (omega arith)
-      ∙ ap (λ n. get_or blocks n back) long in
       let before : length blocks - (i + 1) < length blocks = omega arith in
       let same : length blocks - i ≡ length blocks - (i + 1) + 1 = omega arith in
-      let places = ap (λ n. length (concat (take n blocks))) same in
-      let own = ap (λ n. count_of j (concat (take n blocks))) same in
-      let rest_all = rest.all in
-      let rest_few = rest.few in
-      let counted_all = counted.all in
-      let counted_few = counted.few in
-      let longer = ahead_next blocks i inside read in
-      let more = count_next blocks i inside read j in
-      let shorter = ahead_next blocks (length blocks - (i + 1)) before back_read in
-      let fewer = count_next blocks (length blocks - (i + 1)) before back_read j in
-      let fits = block_fits blocks i inside read in
-      let few = count_all_le blocks (i + 1) j in
-      let most = block_fits blocks (length blocks - (i + 1)) before back_read in
-      record {
-        inside = inside;
-        first = read;
-        last = back_read;
-        ahead = cc;
-        behind =
-            sym (take_all (length lent) lent (omega arith))
-            ∙ sym (take-append-le (length lent) lent (back ∷ []) (omega arith))
-            ∙ ap (take (length lent)) (sym parts) ∙ take-take (length lent) (length blocks - i) blocks (omega arith)
-            ∙ ap (λ n. take n blocks) long;
-        fits = omega arith;
-        few = omega arith;
-        longer = omega arith;
-        more = omega arith;
-        all = omega arith;
-        shorter = omega arith;
-        fewer = omega arith;
-      }
+      let parts = same_from_push lent (take (length blocks - (i + 1)) blocks) back _ (sym last ∙ behind
+      ∙ ap (λ n. take n blocks) same ∙ take_more blocks (length blocks - (i + 1)) back before) in
+      let off = ahead_off blocks (length blocks - (i + 1)) before parts.1 rest same in
+      search (rules, parts, off, ahead_on, read)
 
   -- while there is more of an output ahead of what was passed from the end, neither is at its own
   pub both_left : {k : ℕ} → k < some → (0 < length from) × (0 < length to)

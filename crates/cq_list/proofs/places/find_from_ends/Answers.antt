@@ -1,6 +1,6 @@
 use Rattle.cq_list.proofs.Terms.{rules, arith, ◌≡◌, ◌+◌, ◌-◌, ◌<◌, ◌∙◌, ⊎_elim, length, take_all, concat, IsAhead}
 use Rattle.std.specs.VecDeque.Iter.{deque_iter_rest}
-use Rattle.cq_list.proofs.BlockWalk.{AreMet, are_met, both_left, nth_found}
+use Rattle.cq_list.proofs.BlockWalk.{AreMet, ahead_fits, are_met, both_left, nth_found}
 use Rattle.cq_list.proofs.places.find_from_ends.Goals as goal
 use Rattle.cq_list.proofs.places.find_from_ends.Goals.{Start, In-Some}
 
@@ -20,6 +20,7 @@ pub with_block-next-requires : goal.with_block-next-requires
 with_block-next-requires c =
     let most = most (goal.at.with_block-next-requires c).Start in
     let met = met (goal.at.with_block-next-requires c).In-Some in
+    let on = ahead_fits met.on in
     record { fits = omega arith; few = omega arith }
 
 pub returns-then-number-next : goal.returns-then-number-next
@@ -36,7 +37,8 @@ without_block-back-requires c =
 pub nth_in-requires-then-back-number-clause-fits : goal.nth_in-requires-then-back-number-clause-fits
 nth_in-requires-then-back-number-clause-fits c =
     let most = most (goal.at.nth_in-requires-then-back-number-clause-fits c).Start in
-    let met = met (goal.at.nth_in-requires-then-back-number-clause-fits c).In-Some in omega arith
+    let met = met (goal.at.nth_in-requires-then-back-number-clause-fits c).In-Some in
+    let all = ahead_fits c.each.invariant.back in omega arith
 
 pub returns-then-back-number : goal.returns-then-back-number
 returns-then-back-number c =
@@ -57,14 +59,7 @@ returns-then-back-number c =
 pub each-preserved : goal.each-preserved
 each-preserved c =
     let met = met (goal.at.each-preserved c).In-Some in
-    rw c.in-Some.ensures.steps.2 (record {
-      ahead = met.ahead;
-      behind = met.behind;
-      front = record { all = omega arith; few = omega arith };
-      back = record { all = omega arith; few = omega arith };
-      late = omega arith;
-      early = omega arith;
-    })
+    rw c.in-Some.ensures.steps.2 (search (arith, rules, met))
 
 pub unreachable-requires : goal.unreachable-requires
 unreachable-requires c =
