@@ -1,5 +1,5 @@
 -- Places in blocks: what is done to one block is done to the places where it stands, behind those of the blocks ahead.
-use Rattle.cq_list.proofs.Terms.{common_steps, rules, ◌≡◌, ℕ, zero, suc, ◌+◌, ◌-◌, ◌<◌, ◌≤◌, List, [], ◌∷◌, ◌++◌, length, get_or, set, take, drop, Some, ap, subst, arith, length-append, length-set, length-take, get_or-set_same, take-append-drop, append_assoc, insert, remove, slice_get, concat, take_more, take_all, take-set, take-set-le, take-take, take-append-le, get_or_read, concat-append, length-remove, insert_end, insert-append_left, insert-append_right, remove-append_left, remove-append_right, IsSpot, joined, pulled}
+use Rattle.cq_list.proofs.Terms.{common_steps, rules, ◌≡◌, ℕ, zero, suc, ◌+◌, ◌-◌, ◌<◌, ◌≤◌, List, [], ◌∷◌, ◌++◌, length, get_or, set, take, drop, Some, arith, length-append, length-set, length-take, get_or-set_same, take-append-drop, append_assoc, insert, remove, slice_get, concat, take_more, take_all, take-set, take-set-le, take-take, take-append-le, concat-append, length-remove, insert_end, insert-append_left, insert-append_right, remove-append_left, remove-append_right, IsSpot, joined, pulled, slice_get_cases}
 
 -- ## Block by block
 
@@ -21,8 +21,7 @@ shown_front (y ∷ xs) ys zero x e = e
 shown_front (y ∷ xs) ys (suc k) x e = shown_front xs ys k x e
 
 pub shown_behind : (xs ys : List ℕ) (k : ℕ) → slice_get (xs ++ ys) (length xs + k) ≡ slice_get ys k
-shown_behind [] ys k = ap (slice_get ys) (let e : 0 + k ≡ k = omega arith in e)
-shown_behind (y ∷ xs) ys k = search (arith, rules, shown_behind xs ys k)
+shown_behind xs ys k = grind (arith, common_steps, slice_get_cases)
 
 pub shown_in : (blocks : List (List ℕ)) (i o x : ℕ) → i < length blocks → slice_get (get_or blocks i []) o ≡ Some x →
     slice_get (concat blocks) (length (concat (take i blocks)) + o) ≡ Some x
@@ -80,43 +79,15 @@ pulled_in (b ∷ c ∷ bs) (suc i) inside = search (arith, rules, pulled_in (c �
 
 -- a place keeps its spot where the blocks ahead are the same and its own is no shorter
 module _ (blocks : List (List ℕ)) (i : ℕ) (inside : i + 1 < length blocks) where
-  abbrev pub block : List ℕ
-  block = get_or blocks i []
-
-  abbrev pub next : List ℕ
-  next = get_or blocks (i + 1) []
-
-  pub joined_at : get_or (joined blocks i) i [] ≡ block ++ next
+  pub joined_at : get_or (joined blocks i) i [] ≡ get_or blocks i [] ++ get_or blocks (i + 1) []
   joined_at = grind (arith, common_steps, length-remove, get_or-set_same)
 
   pub spot_joined : (place o : ℕ) → IsSpot blocks place i o → IsSpot (joined blocks i) place i o
   spot_joined place o spot =
       search (rules, length-set, length-take, take-set, take-append-le, take-take, joined_at, length-append)
 
-  pub pulled_at : get_or (pulled blocks i) i [] ≡ block ++ take 1 next
+  pub pulled_at : get_or (pulled blocks i) i [] ≡ get_or blocks i [] ++ take 1 (get_or blocks (i + 1) [])
   pulled_at = grind (arith, common_steps, length-set, get_or-set_same)
 
   pub spot_pulled : (place o : ℕ) → IsSpot blocks place i o → IsSpot (pulled blocks i) place i o
   spot_pulled place o spot = grind (arith, common_steps, length-set, take-set, take-set-le, pulled_at, length-append)
-
--- ## At a spot
-
-module _ (blocks : List (List ℕ)) (place i o : ℕ) (read : List ℕ) (spot : IsSpot blocks place i o)
-    (is_read : read ≡ get_or blocks i read) where
-  block_is : read ≡ get_or blocks i []
-  block_is = get_or_read blocks i read spot.inside is_read []
-
-  pub shown_at_spot : (x : ℕ) → slice_get read o ≡ Some x → slice_get (concat blocks) place ≡ Some x
-  shown_at_spot x at = grind (arith, common_steps, shown_in, block_is)
-
-  pub inserted_at : (y : ℕ) (new : List ℕ) → new ≡ insert read o y →
-      concat (set blocks i new) ≡ insert (concat blocks) place y
-  inserted_at y new is = grind (arith, common_steps, block_is, insert_in)
-
-  pub removed_at : (new : List ℕ) → new ≡ remove read o → concat (set blocks i new) ≡ remove (concat blocks) place
-  removed_at new is = grind (arith, common_steps, block_is, remove_in)
-
--- a spot of the same blocks
-pub spot_along : (old new : List (List ℕ)) (place block within : ℕ) → old ≡ new → IsSpot old place block within →
-    IsSpot new place block within
-spot_along old new place block within same spot = subst (λ (l : List (List ℕ)). IsSpot l place block within) same spot

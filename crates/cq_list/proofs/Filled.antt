@@ -1,7 +1,7 @@
 -- Blocks that are filled: each but the last has 16 places at least. This is told of each block by its own length, so
 -- it stays where a block gets no shorter, where one of 16 places or more comes in, and where any block goes. There
 -- are never many more blocks than a sixteenth of the places.
-use Rattle.cq_list.proofs.Terms.{common_steps, rules, ◌≡◌, ℕ, zero, suc, ◌+◌, ◌*◌, ◌<◌, ◌≤◌, List, [], ◌∷◌, ◌++◌, length, get_or, set, arith, length-append, length-set, length-take, length-drop, insert, remove, concat, length-remove, AreFilled, HaveMemory, joined, pulled, most_places, least_places}
+use Rattle.cq_list.proofs.Terms.{common_steps, rules, ◌≡◌, ℕ, zero, suc, ◌+◌, ◌*◌, ◌<◌, ◌≤◌, List, [], ◌∷◌, ◌++◌, length, get_or, set, arith, length-append, length-set, length-take, length-drop, insert, remove, concat, length-remove, AreFilled, HaveMemory, joined, pulled, least_places}
 use Rattle.cq_list.proofs.Blocks.{joined_at, pulled_at}
 
 pub few_blocks : (blocks : List (List ℕ)) → AreFilled blocks →
@@ -63,12 +63,6 @@ filled_pushed [] block filled many = tt
 filled_pushed (b ∷ []) block filled many = (many 0 (omega arith), tt)
 filled_pushed (b ∷ c ∷ bs) block filled many =
     (filled.0, filled_pushed (c ∷ bs) block filled.1 (λ i last. many (suc i) (omega arith)))
-
--- the last block is one
-pub full_last :
-    (blocks : List (List ℕ)) (i last : ℕ) → i + 1 ≡ length blocks → last + 1 ≡ length blocks →
-    most_places ≤ length (get_or blocks last []) → most_places ≤ length (get_or blocks i [])
-full_last blocks i last is too full = grind (arith, common_steps)
 
 pub filled_split :
     (blocks : List (List ℕ)) (i : ℕ) (front back : List ℕ) → AreFilled blocks → i < length blocks →

@@ -1,6 +1,6 @@
 use Rattle.cq_list.proofs.Terms.{rules, ◌<◌, ◌≤◌, refl, ℕ, Result, Ok, arith, get_or_read, length-insert}
 use Rattle.std.specs.Prelude.{Err, IsOk, OnErr}
-use Rattle.cq_list.proofs.Blocks.{inserted_at, split_in}
+use Rattle.cq_list.proofs.Blocks.{insert_in, split_in}
 use Rattle.cq_list.proofs.Filled.{room_for_block, filled_longer, filled_split}
 use Rattle.cq_list.proofs.places.insert_inside.Goals as goal
 
@@ -14,9 +14,9 @@ unwrap-requires c =
     has_room _ _ _ c.insert-2.ensures.full (omega arith)
 
 pub returns-then-len-lt-MOST_PLACES : goal.returns-then-len-lt-MOST_PLACES
-returns-then-len-lt-MOST_PLACES c = search (arith, rules, get_or_read, length-insert, inserted_at, filled_longer)
+returns-then-len-lt-MOST_PLACES c = search (arith, rules, get_or_read, length-insert, insert_in, filled_longer)
 
 pub returns : goal.returns
 returns c =
     let items = rw c.unwrap.ensures at c.insert-2.ensures.items in
-    search (arith, rules, get_or_read, inserted_at, split_in, filled_split, c.insert-2.ensures.capacity)
+    search (arith, rules, get_or_read, insert_in, split_in, filled_split, c.insert-2.ensures.capacity)

@@ -1,5 +1,5 @@
-use Rattle.cq_list.proofs.Terms.{PlacesView, arith, rules, ap, slice_get, ◌≡◌, ◌-◌, Some, concat}
-use Rattle.cq_list.proofs.Blocks.{shown_front, spot_along, shown_at_spot}
+use Rattle.cq_list.proofs.Terms.{PlacesView, arith, rules, ap, slice_get, ◌≡◌, ◌-◌, Some, concat, get_or_read}
+use Rattle.cq_list.proofs.Blocks.{shown_front, shown_in}
 use Rattle.cq_list.proofs.First.{shown_later}
 use Rattle.cq_list.proofs.places.Places.at.Goals as goal
 
@@ -10,5 +10,5 @@ pub returns : goal.returns
 returns c =
     let seen = ap (λ (v : PlacesView). slice_get v.outputs c.args.place) c.self.view_is in
     let at : slice_get (concat c.self.inside.others.items) (c.args.place - c.len-len.result) ≡ Some c.at-2.result =
-    search (arith, rules, spot_along, shown_at_spot) in
+    search (arith, rules, shown_in, get_or_read) in
     search (arith, rules, seen, at, shown_later)
