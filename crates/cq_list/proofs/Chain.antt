@@ -5,16 +5,12 @@
 -- cells of other queues are for other outputs.
 --
 -- A node that is linked in behind another one goes into the chain behind it, for it leads on to where that one led.
-use Rattle.cq_list.proofs.Terms.{common_steps, rules, ◌≡◌, ◌≢◌, ℕ, zero, suc, List, ◌∷◌, length, Option, None, Some, refl, sym, ap, ◌∙◌, subst, arith, insert, slice_get, AllByRecursion, same_Some, slice_get-map, Queued, IsBefore, IsRising, key_laws, all_at, Node, Nodes, followed, chain, cells, all_weaker}
+use Rattle.cq_list.proofs.Terms.{common_steps, rules, ◌≡◌, ◌≢◌, ℕ, zero, suc, List, ◌∷◌, length, Some, refl, ap, subst, arith, insert, slice_get, AllByRecursion, same_Some, slice_get-map, Queued, IsBefore, IsRising, key_laws, all_at, Node, Nodes, followed, chain, cells, all_weaker}
 
 -- a chain that is whole begins with a node
 pub begins : (nodes : Nodes) (n place : ℕ) → length (chain nodes (suc n) place) ≡ suc n →
     (node : Node) × (nodes place ≡ Some node)
-begins nodes n place whole = go (nodes place) refl
-  where
-    go : (o : Option Node) → nodes place ≡ o → (node : Node) × (nodes place ≡ Some node)
-    go None e = absurd (let none = rw e at whole in omega arith)
-    go (Some node) e = (node, e)
+begins nodes n place whole = search (arith, rules)
 
 pub chain-at : (nodes : Nodes) (n place : ℕ) (node : Node) → nodes place ≡ Some node →
     chain nodes (suc n) place ≡ (place, node.queued) ∷ chain nodes n node.next
@@ -59,12 +55,8 @@ module _ {old new : Nodes} {a k : ℕ} {ahead : Node} {c : Queued} (b : IsBehind
   chain_behind (suc n) first zero whole rising at =
       let node : Node = (begins old n first whole).0 in
       let seen = chain-at old n first node (begins old n first whole).1 in
-      let same = same_Some _ _ (ap (λ l. slice_get l 0) (sym seen) ∙ at) in
-      let place = ap (λ (e : ℕ × Queued). e.0) same in
-      let rest = rest_whole old n a ahead b.here (ap (λ i. length (chain old (suc n) i)) (sym place) ∙ whole) in
-      let stays = chain_stays old new (λ x. x ≢ ahead.queued) other_cell n ahead.next rest
-      (search (arith, rules, all_weaker, differs)) in
-      search (arith, rules, chain-at)
+      let stays = chain_stays old new (λ x. x ≢ ahead.queued) other_cell n ahead.next in
+      search (arith, rules, chain-at, same_Some, seen, stays, rest_whole, all_weaker, differs)
   chain_behind (suc n) first (suc p) whole rising at =
       let node : Node = (begins old n first whole).0 in
       let there = (begins old n first whole).1 in

@@ -1,6 +1,6 @@
 -- The counts of a block, where a place is put in or taken out: the count of its output changes by one, and the others
 -- stay. A place that is taken out can be put back, so the one follows from the other.
-use Rattle.cq_list.proofs.Terms.{all_at, common_steps, rules, ◌≡◌, ◌≢◌, ℕ, zero, suc, ◌+◌, ◌-◌, ◌<◌, ◌≤◌, List, [], ◌∷◌, ◌++◌, length, replicate, get_or, set, refl, sym, ap, ◌∙◌, subst, arith, length-set, length-append, get_or-set_same, get_or-set_other, Some, insert, remove, slice_get, same_Some, slice_get-get_or, AllByRecursion, eq-eqb, ne_eqb, cases_eq, get_or-replicate, length-replicate, length-insert, length-remove, length-filter, count_by-le-length, is_output, count_of, most_ports, most_places}
+use Rattle.cq_list.proofs.Terms.{all_at, common_steps, rules, ◌≡◌, ◌≢◌, ℕ, zero, suc, ◌+◌, ◌-◌, ◌<◌, ◌≤◌, List, [], ◌∷◌, ◌++◌, length, replicate, get_or, set, refl, ap, arith, length-set, length-append, get_or-set_same, get_or-set_other, Some, insert, remove, slice_get, slice_get-get_or, AllByRecursion, eq-eqb, ne_eqb, cases_eq, get_or-replicate, length-replicate, length-insert, length-remove, length-filter, count_by-le-length, is_output, count_of, most_ports, most_places, get_or_from_slice_get, take_more, take_all, append_assoc}
 use Rattle.cq_list.specs.Block.{AreCounts}
 use Rattle.cq_list.proofs.Nth.{fails}
 use Rattle.cq_list.proofs.Split.{filter-insert, filter-insert-other, filter-parts}
@@ -21,10 +21,7 @@ put_back (x ∷ xs) zero y inside read = ap (λ z. z ∷ xs) read
 put_back (x ∷ xs) (suc i) y inside read = ap (λ l. x ∷ l) (put_back xs i y (omega arith) read)
 
 all_remove : (P : ℕ → Type 0) (xs : List ℕ) (i : ℕ) → AllByRecursion P xs → AllByRecursion P (remove xs i)
-all_remove P [] zero all = tt
-all_remove P [] (suc i) all = tt
-all_remove P (x ∷ xs) zero all = all.1
-all_remove P (x ∷ xs) (suc i) all = (all.0, all_remove P xs i all.1)
+all_remove P xs i all = grind (arith, common_steps)
 
 -- an output beyond the last
 pub count_beyond : (xs : List ℕ) (j : ℕ) → AllByRecursion (λ i. i < most_ports) xs → most_ports ≤ j → 0 ≡ count_of j xs
@@ -32,14 +29,7 @@ count_beyond [] j all beyond = refl
 count_beyond (x ∷ xs) j all beyond = grind (arith, common_steps, fails, ne_eqb, count_beyond xs j all.1 beyond)
 
 pub no_places : (places counts : List ℕ) → places ≡ [] → counts ≡ replicate most_ports 0 → AreCounts places counts
-no_places places counts none zeros =
-    record {
-      counted = λ j inside. ap (λ l. get_or l j 0) zeros ∙ get_or-replicate most_ports j 0 0 inside
-          ∙ ap (count_of j) (sym none);
-      in_range = subst (AllByRecursion (λ j. j < most_ports)) (sym none) tt;
-      short = let len = ap length none in omega arith;
-      each = ap length zeros ∙ length-replicate {A = ℕ} most_ports 0;
-    }
+no_places places counts none zeros = rw (none, zeros) (search (arith, rules, get_or-replicate, length-replicate))
 
 -- lists with a place set, and with one more
 ruleset set_steps = (get_or-set_same, get_or-set_other, length-insert, length-set)
@@ -70,7 +60,5 @@ module _ (places counts : List ℕ) (had : AreCounts places counts) where
 
 pub moved_over : (xs back : List ℕ) (i x : ℕ) → i + 1 ≡ length xs → slice_get xs i ≡ Some x →
     remove xs i ++ insert back 0 x ≡ xs ++ back
-moved_over [] back i x last at = absurd (omega arith)
-moved_over (y ∷ []) back zero x last at = ap (λ z. z ∷ back) (sym (same_Some y x at))
-moved_over (y ∷ z ∷ xs) back zero x last at = absurd (omega arith)
-moved_over (y ∷ xs) back (suc i) x last at = ap (λ l. y ∷ l) (moved_over xs back i x (omega arith) at)
+moved_over xs back i x last at =
+    grind (arith, common_steps, take_more xs i x, take_all (i + 1) xs, get_or_from_slice_get, append_assoc)

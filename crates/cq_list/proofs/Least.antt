@@ -8,10 +8,6 @@ use Rattle.cq_base.specs.declared.cell.CellId.{CellId}
 abbrev pub is_below : CellId → ℕ → Queued → Bool
 is_below id n x = ltb x.cell.output n && has_id id x
 
--- whether it is for this output, and has the id
-abbrev pub is_own : CellId → ℕ → Queued → Bool
-is_own id j x = is_for j x && has_id id x
-
 pub least_starts : (id : CellId) (xs : List Queued) → position_or_len (is_below id 0) xs ≡ length xs
 least_starts id [] = refl
 least_starts id (x ∷ xs) = grind (arith, common_steps, first_later, le-ltb, least_starts id xs)
@@ -23,7 +19,7 @@ first_of_either p q [] = refl
 first_of_either p q (x ∷ xs) = grind (arith, common_steps, first_of_either p q xs)
 
 pub least_next : (id : CellId) (j : ℕ) (xs : List Queued) →
-    min (position_or_len (is_below id j) xs) (position_or_len (is_own id j) xs)
+    min (position_or_len (is_below id j) xs) (position_or_len (λ x. is_for j x && has_id id x) xs)
     ≡ position_or_len (is_below id (j + 1)) xs
 least_next id j xs = search (arith, rules, first_of_either, nat_tests)
 

@@ -1,7 +1,7 @@
 -- A queue of nodes that are linked, with one node more or less: it is linked again, and its cells are those of the
 -- queue with the cell put in, or without its head. The other queues keep their nodes, for these have cells for other
 -- outputs.
-use Rattle.cq_list.proofs.Terms.{slice_get-get_or, get_or-insert_at, common_steps, rules, ◌≡◌, ◌≢◌, ℕ, suc, ◌+◌, ◌<◌, ◌≤◌, eqb, cond, List, ◌∷◌, length, None, Some, sym, ap, ◌∙◌, subst, arith, insert, slice_get, AllByRecursion, position_or_len, cond_both, eqb-true, eqb-false, length-insert, length-map, same_Some, none-some, ◌-◌, Queued, Slab, get, Updates, IsRising, HasOtherKey, put, first_inside, all_at, Node, Queue, Nodes, chain, linked, places, cells, EndsAt, IsLinked, OthersStay, behind_first, all_weaker, all_put, rising_put, map-insert}
+use Rattle.cq_list.proofs.Terms.{slice_get-get_or, get_or-insert_at, common_steps, rules, ◌≡◌, ◌≢◌, ℕ, suc, ◌+◌, ◌<◌, ◌≤◌, eqb, cond, List, ◌∷◌, length, None, Some, sym, ap, ◌∙◌, subst, arith, insert, slice_get, AllByRecursion, position_or_len, length-insert, length-map, same_Some, none-some, ◌-◌, Queued, Slab, get, Updates, IsRising, HasOtherKey, put, first_inside, all_at, Node, Queue, Nodes, chain, linked, places, cells, EndsAt, IsLinked, OthersStay, behind_first, all_weaker, all_put, rising_put, map-insert}
 use Rattle.cq_list.proofs.Chain.{chain_stays, chain-at, differs, IsBehind, chain_behind}
 use Rattle.cq_list.proofs.Finger.{insert_end_kept}
 use Rattle.cq_list.proofs.Walk.{node_ahead, cell_ahead}
@@ -38,8 +38,7 @@ pub is_behind : {old mid new : Slab Node} {a k : ℕ} {ahead read : Node} {c : Q
     get old a ≡ Some ahead → Updates old mid k (Some (record { queued = c; next = ahead.next })) →
     get mid a ≡ Some read → Updates mid new a (Some (record { queued = read.queued; next = k })) →
     IsBehind (get old) (get new) a k ahead c
-is_behind {old} {mid} {k = k} {ahead = ahead} vacant here more again led =
-    search (rules, same_Some, still_there, led.others, none-some)
+is_behind vacant here more again led = search (rules, same_Some, still_there, led.others, none-some)
 
 module _ {old : Nodes} {j : ℕ} {queue : Queue} (had : IsLinked old j queue) (count : ℕ) {a : ℕ}
     (ends : EndsAt (places (linked old queue)) count a) (some : 0 < count) where
@@ -51,9 +50,8 @@ module _ {old : Nodes} {j : ℕ} {queue : Queue} (had : IsLinked old j queue) (c
 
     pub others_stay : OthersStay j old new
     others_stay i node there ne =
-        let own : ahead.queued.cell.output ≡ j = all_at (λ c. c.cell.output ≡ j) (cells (linked old queue)) (count - 1)
-        ahead.queued had.own (cell_ahead had.chained ends some b.here) in
-        search (rules, b.others, same_Some)
+        let shown = cell_ahead had.chained ends some b.here in
+        search (rules, b.others, same_Some, all_at, shown)
 
 insert_end_shown : {X : Type 0} (xs : List X) (n : ℕ) (y : X) → length xs ≡ n → slice_get (insert xs n y) n ≡ Some y
 insert_end_shown xs n y len =
@@ -62,8 +60,6 @@ insert_end_shown xs n y len =
 pub placed : (chained more : List (ℕ × Queued)) (n k : ℕ) (c : Queued) → more ≡ insert chained n (k, c) →
     places more ≡ insert (places chained) n k
 placed chained more n k c e = ap places e ∙ map-insert (λ (x : ℕ × Queued). x.0) chained n (k, c)
-
-ruleset equal_or_not = (cond_both, eqb-true, eqb-false)
 
 module _ (old new : Nodes) (j : ℕ) (queue more : Queue) (count k : ℕ) (c : Queued) (had : IsLinked old j queue)
     (own : c.cell.output ≡ j) (other : HasOtherKey c (cells (linked old queue)))

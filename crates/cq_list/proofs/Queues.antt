@@ -1,5 +1,5 @@
 -- A pool in which one queue changes: each queue is linked as before, and the cells of the others are the same.
-use Rattle.cq_list.proofs.Terms.{common_steps, rules, ◌≡◌, ◌≢◌, ℕ, zero, suc, ◌+◌, ◌<◌, ◌≤◌, List, [], ◌∷◌, replicate, length, get_or, set, drop, Some, refl, sym, ap, ◌∙◌, arith, length-set, get_or-set_same, get_or-set_other, Bool, position_or_len, cases_lt, cases_eq, length-map, get_or-map, get_or_past, get_or_read, ext_get_or, length-replicate, sum_by-replicate, sum_by-set, slice_get, Slab, get, slab_len, Node, Queued, Queue, PoolView, Nodes, linked, places, cells, IsLinked, OthersStay, AreLinked, IsPool, Ahead, AreFingers, HaveFingers, behind_first, no_queue, queue_at, cells_in_queues, queue_of}
+use Rattle.cq_list.proofs.Terms.{common_steps, rules, ◌≡◌, ◌≢◌, ℕ, zero, suc, ◌+◌, ◌<◌, ◌≤◌, List, [], ◌∷◌, replicate, length, get_or, set, drop, Some, refl, ap, ◌∙◌, arith, length-set, get_or-set_same, get_or-set_other, Bool, position_or_len, cases_lt, cases_eq, length-map, get_or-map, get_or_past, get_or_read, ext_get_or, length-replicate, sum_by-replicate, sum_by-set, slice_get, Slab, get, slab_len, Node, Queued, Queue, PoolView, Nodes, linked, places, cells, IsLinked, OthersStay, AreLinked, IsPool, Ahead, AreFingers, HaveFingers, behind_first, no_queue, queue_at, cells_in_queues, queue_of}
 use Rattle.cq_list.proofs.Linked.{linked_stays, is_linked_along, cells_behind, linked_behind}
 use Rattle.cq_list.proofs.Walk.{head_there, head_shown}
 
@@ -146,8 +146,6 @@ module _ (nodes : Nodes) (queues : List Queue) {seen : List (List Queued)} (j : 
 
     pub cells_told : cells_in_queues nodes (set queues j rest) ≡ set seen j (drop 1 (queue_of seen j))
     cells_told =
-        ap (λ q. cells_in_queues nodes (set queues j q)) less
-        ∙ cells_changed nodes nodes j queues (behind_first queue node.next) had head_read.inside (λ i m there ne. there)
-        ∙ ap (λ l. set (cells_in_queues nodes queues) j (drop 1 l))
-        (sym (head_read.are_cells ∙ cells_behind head_read.is_linked has_head here))
-        ∙ ap (λ l. set l j (drop 1 (queue_of seen j))) is
+        let now = cells_changed nodes nodes j queues (behind_first queue node.next) had head_read.inside
+        (λ i m there ne. there) in
+        search (arith, rules, now, cells_behind, head_read, has_head)

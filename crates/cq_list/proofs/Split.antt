@@ -21,8 +21,8 @@ use Rattle.cq_list.proofs.Nth.{passes, fails, first_of_both, place_of_nth-map}
 pub filter-insert-other : {X : Type 0} (p : X → Bool) (xs : List X) (i : ℕ) (y : X) → p y ≡ false →
     filter p (insert xs i y) ≡ filter p xs
 filter-insert-other p xs i y e =
-    filter-append p (take i xs) (y ∷ drop i xs) ∙ ap (λ l. filter p (take i xs) ++ l) (fails p y (drop i xs) e)
-    ∙ sym (filter-append p (take i xs) (drop i xs)) ∙ ap (filter p) (take-append-drop i xs)
+    let parts = sym (ap (filter p) (take-append-drop i xs)) ∙ filter-append p (take i xs) (drop i xs) in
+    grind (arith, common_steps, filter-append, fails, parts)
 
 pub filter-insert : {X : Type 0} (p : X → Bool) (xs : List X) (i : ℕ) (y : X) → p y ≡ true →
     filter p (insert xs i y) ≡ filter p (take i xs) ++ y ∷ filter p (drop i xs)
@@ -63,20 +63,17 @@ queue_rising j (x ∷ xs) order = search (rules, cond_both, all_filtered, eqb-tr
 pub put_between : (before after : List Queued) (c : Queued) → IsRising (before ++ c ∷ after) →
     put c (before ++ after) ≡ before ++ c ∷ after
 put_between [] [] c rising = refl
-put_between [] (y ∷ after) c rising = ap (λ b. cond b (c ∷ y ∷ after) (y ∷ put c after)) rising.0.0
+put_between [] (y ∷ after) c rising = search (arith, rules)
 put_between (x ∷ before) after c rising =
-    let ahead = (all_back (IsBefore x) before (c ∷ after) rising.0).0 in
-    search (arith, rules, key_laws.one_way, put_between before after c)
+    search (arith, rules, all_back (IsBefore x) before (c ∷ after), key_laws.one_way, put_between before after c)
 
 -- the cell's own queue, after its arrival
 own_arrived : (cushion : ℕ) (c : Queued) (xs : List Queued) (j : ℕ) → c.cell.output ≡ j → KeepsOrder xs →
     HasOtherKey c xs → MoreUrgentAhead cushion c xs → filter (is_for j) (with_arrival cushion c xs) ≡ put c
     (filter (is_for j) xs)
 own_arrived cushion c xs j own order other ahead =
-    let at = place_of_arrival cushion c xs in
-    let parts = filter-insert (is_for j) xs at c (eq-eqb c.cell.output j own) in
     let rising = queue_rising j (with_arrival cushion c xs) (keeps_order_arrival cushion c xs order other ahead) in
-    search (arith, rules, put_between, filter-parts)
+    search (arith, rules, filter-insert, eq-eqb, put_between, filter-parts)
 
 -- the queues with one cell more
 abbrev pub with_queued : Queued → Queues → Queues
@@ -134,10 +131,7 @@ pub both_is_nth :
     (places : List ℕ) (queues : Queues) (xs : List Queued) (j : ℕ) (q : Queued → Bool) → IsSplit places queues xs →
     position_or_len (λ x. is_for j x && q x) xs ≡ place_of_nth (is_output j) (position_or_len q (queues j)) places
 both_is_nth places queues xs j q s =
-    first_of_both (is_for j) q xs
-    ∙ sym (search (arith, rules, place_of_nth-map))
-    ∙ ap (place_of_nth (is_output j) (position_or_len q (filter (is_for j) xs))) (sym s.outputs)
-    ∙ ap (λ l. place_of_nth (is_output j) (position_or_len q l) places) (sym (s.queued j))
+    search (arith, rules, first_of_both (is_for j) q xs, place_of_nth-map, s.queued j)
 
 -- the cell at a place, in its queue
 own_at : (xs : List Queued) (i : ℕ) (c : Queued) → slice_get xs i ≡ Some c →

@@ -1,14 +1,13 @@
 -- A walk along a queue, node by node. Where it has come the rest of the chain begins at the place that it looks at,
 -- none of the cells behind it is less urgent, and it knows the place of the last of them.
-use Rattle.cq_list.proofs.Terms.{common_steps, rules, ◌≡◌, ℕ, zero, suc, ◌+◌, ◌-◌, ◌<◌, ◌≤◌, subst, length, ⊎_elim, cases_lt, Bool, true, false, List, ◌∷◌, drop, Some, sym, ap, ◌∙◌, arith, length-drop, slice_get, slice_get-get_or, position_or_len, drop-drop, drop_more, length-map, slice_get-map, slice_get_within, get_or_from_slice_get, Queued, first_inside, Node, Queue, Nodes, chain, linked, cells, EndsAt, IsChained, first_le, places, same_Some, Key, is_before, key_laws}
+use Rattle.cq_list.proofs.Terms.{common_steps, rules, ◌≡◌, ℕ, zero, suc, ◌+◌, ◌-◌, ◌<◌, ◌≤◌, length, cases_lt, Bool, true, false, List, ◌∷◌, drop, Some, sym, ap, ◌∙◌, arith, length-drop, slice_get, slice_get-get_or, position_or_len, drop-drop, drop_more, length-map, slice_get-map, slice_get_within, get_or_from_slice_get, Queued, first_inside, Node, Queue, Nodes, chain, linked, cells, EndsAt, IsChained, first_le, places, same_Some, Key, is_before, key_laws}
 use Rattle.std.proofs.lemmas.List.Sums.{passes_at_first}
 use Rattle.cq_list.proofs.Chain.{chain-at, begins}
 use Rattle.cq_list.proofs.Finger.{ends_inside}
 use Rattle.cq_list.proofs.Put.{is_no_sooner, sooner_to}
 
 shown_at : {X : Type 0} (xs : List X) (i : ℕ) (x : X) (ys : List X) → drop i xs ≡ x ∷ ys → slice_get xs i ≡ Some x
-shown_at xs i x ys e =
-    grind (arith, common_steps, length-drop i xs, drop_more xs i x, slice_get-get_or xs i x)
+shown_at xs i x ys e = grind (arith, common_steps, drop_more xs i x, slice_get-get_or xs i x)
 
 -- it has come past so many nodes and looks at this place
 abbrev pub HasReached : Nodes → Queue → ℕ → ℕ → Type 0
@@ -53,10 +52,8 @@ head_shown {nodes} {queue} had some here = cell_shown had (reached_first nodes q
 -- a place that is no later than the first one that passes, and does not, is earlier
 past_this : {X : Type 0} (p : X → Bool) (xs : List X) (i : ℕ) (x : X) → slice_get xs i ≡ Some x → p x ≡ false →
     i ≤ position_or_len p xs → i < position_or_len p xs
-past_this p xs i x at fails le = ⊎_elim (λ lt. lt) (λ ge.
-    let same : i ≡ position_or_len p xs = omega arith in
-    let inside = slice_get_within xs i x at in
-    cc (passes_at_first p xs x (omega arith), get_or_from_slice_get xs i x x at)) (cases_lt i (position_or_len p xs))
+past_this p xs i x at fails le =
+    grind (arith, common_steps, cases_lt, passes_at_first p xs x, slice_get_within, get_or_from_slice_get)
 
 -- and none of the cells behind it passes
 pub record HasPassed (nodes : Nodes) (queue : Queue) (p : Queued → Bool) (count place : ℕ) : Type 0 where
@@ -131,15 +128,10 @@ module _ {nodes : Nodes} {queue : Queue} (had : IsChained nodes queue) where
       pub all_sooner : (key : Key) → is_before node.queued.key key ≡ true →
           count ≤ position_or_len (is_no_sooner key) (cells (linked nodes queue))
       all_sooner key sooner =
-          let ahead = sooner_to key node.queued (cells (linked nodes queue)) (count - 1)
-          (λ x first. key_laws.on x.key node.queued.key key first sooner) had.rising cell_ahead in
-          search (arith, rules, past_this, is_no_sooner, cell_ahead)
+          search (arith, rules, sooner_to, key_laws.on, cell_ahead, past_this, is_no_sooner)
 
       -- and where it has the key, all but it
       pub all_but_last : (key : Key) → node.queued.key ≡ key →
           count - 1 ≡ position_or_len (is_no_sooner key) (cells (linked nodes queue))
       all_but_last key own =
-          let ahead = sooner_to key node.queued (cells (linked nodes queue)) (count - 1)
-          (λ x first. subst (λ (k : Key). is_before x.key k ≡ true) own first) had.rising cell_ahead in
-          let never = subst (λ (k : Key). is_before node.queued.key k ≡ false) own
-          (key_laws.never_itself node.queued.key) in search (arith, rules, first_le, is_no_sooner, cell_ahead)
+          search (arith, rules, sooner_to, key_laws.never_itself, cell_ahead, first_le, is_no_sooner)

@@ -1,5 +1,5 @@
-use Rattle.cq_list.proofs.Terms.{rules, ap, ◌∙◌, subst, arith, sym, get_or-le-sum_by, HasOtherKey, put, PoolView, position_or_len}
-use Rattle.cq_list.proofs.Put.{is_no_sooner, no_sooner_is_later}
+use Rattle.cq_list.proofs.Terms.{rules, ap, subst, arith, get_or-le-sum_by, HasOtherKey, put, PoolView}
+use Rattle.cq_list.proofs.Put.{no_sooner_is_later}
 use Rattle.cq_list.proofs.Queues.{read_of, fingers_read, is_pool_changed, view_changed}
 use Rattle.cq_list.proofs.Walk.{all_placed, within}
 use Rattle.cq_list.proofs.pool.Pool.put.Goals as goal
@@ -13,17 +13,9 @@ ahead_of-ahead-requires c =
 pub put_into-requires : goal.put_into-requires
 put_into-requires c =
     let read = read_of c.self.invariant c.self.view_is c.requires.in_range c.index-queue.ensures in
-    let pool = c.self.invariant in
     let spare = ap (λ (v : PoolView). v.spare) c.self.view_is in
     let other_key = subst (HasOtherKey c.args.queued) read.are_cells c.requires.other_key in
-    record {
-      room = omega arith;
-      linked = read.is_linked;
-      other_key = other_key;
-      count = c.ahead_of-ahead.ensures.count ∙ no_sooner_is_later c.args.queued _ other_key;
-      last = c.ahead_of-ahead.ensures.last;
-      fits = search (arith, rules, get_or-le-sum_by, read.read);
-    }
+    search (arith, rules, read, spare, other_key, no_sooner_is_later, get_or-le-sum_by)
 
 pub put-requires : goal.put-requires
 put-requires c =
@@ -49,13 +41,7 @@ invariant_of-self c =
 pub returns : goal.returns
 returns c =
     let read = read_of c.self.invariant c.self.view_is c.requires.in_range c.index-queue.ensures in
-    let pool = c.self.invariant in
     let spare = ap (λ (v : PoolView). v.spare) c.self.view_is in
-    record {
-      place = c.ahead_of-ahead.ensures.count
-          ∙ ap (position_or_len (is_no_sooner c.args.queued.key)) (sym read.are_cells)
-          ∙ no_sooner_is_later c.args.queued _ c.requires.other_key;
-      queues = view_changed c.put_into.new.nodes c.self.invariant read c.put_into.ensures.others
-          c.put_into.ensures.linked (put c.args.queued) c.put_into.ensures.cells;
-      spare = omega arith;
-    }
+    let now = view_changed c.put_into.new.nodes c.self.invariant read c.put_into.ensures.others
+    c.put_into.ensures.linked (put c.args.queued) c.put_into.ensures.cells in
+    search (arith, rules, read, spare, now, no_sooner_is_later)

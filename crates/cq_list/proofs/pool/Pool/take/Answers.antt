@@ -34,13 +34,9 @@ returns c =
     let many = as_many read in
     let some : 0 < c.index-queue.result.now.len = let some = c.requires in omega arith in
     let removed = c.remove-node.ensures in
-    let pool = c.self.invariant in
     let spare = ap (λ (v : PoolView). v.spare) c.self.view_is in
-    record {
-      first = search (arith, rules, head_shown);
-      queues = rw c.behind_first.ensures (view_changed c.remove-node.new.self c.self.invariant read
-          (rest_stay read.is_linked some removed.value removed.updates)
-          (linked_less read.is_linked some removed.value removed.updates) (drop 1)
-          (sym (ap (drop 1) (cells_less read.is_linked some removed.value removed.updates))));
-      spare = omega arith;
-    }
+    let now = view_changed c.remove-node.new.self c.self.invariant read
+    (rest_stay read.is_linked some removed.value removed.updates)
+    (linked_less read.is_linked some removed.value removed.updates) (drop 1)
+    (sym (ap (drop 1) (cells_less read.is_linked some removed.value removed.updates))) in
+    search (arith, rules, head_shown, spare, now)
