@@ -1,15 +1,14 @@
 -- Cells in blocks, one after another. What is done to one block is done to the cells where it stands, behind those of
 -- the blocks ahead.
 use Rattle.cq_base.proofs.Library.{append-nil}
-use Rattle.cq_urgency.proofs.Terms.{common_steps, rules, sym, ◌∙◌, ◌≡◌, ℕ, zero, suc, ◌+◌, ◌<◌, ◌≤◌, ◌-◌, List, [], ◌∷◌, ◌++◌, length, set, take, Some, refl, ap, append_assoc, length-append, take-append-drop, arith, insert, slice_get, insert-append_left, insert-append_right, sum_by-cons, Queued, flattened, block_at, cells_in_all, halved}
+use Rattle.cq_urgency.proofs.Terms.{common_steps, rules, ◌≡◌, ℕ, zero, suc, ◌+◌, ◌<◌, ◌≤◌, ◌-◌, List, [], ◌∷◌, ◌++◌, length, set, take, Some, refl, append_assoc, length-append, take-append-drop, arith, insert, slice_get, insert-append_left, insert-append_right, sum_by-cons, Queued, flattened, block_at, cells_in_all, halved, cases_lt, slice_get_cases}
 
 pub length-flattened : (blocks : List (List Queued)) → cells_in_all blocks ≡ length (flattened blocks)
 length-flattened [] = refl
 length-flattened (b ∷ bs) = grind (arith, common_steps, length-append, sum_by-cons, length-flattened bs)
 
 pub some_blocks : (blocks : List (List Queued)) → 0 < length (flattened blocks) → 0 < length blocks
-some_blocks [] some = absurd (omega arith)
-some_blocks (b ∷ bs) some = omega arith
+some_blocks blocks some = grind (arith, common_steps, cases_lt)
 
 -- the cells of one block more stand behind those of the blocks so far
 pub one_more : (blocks : List (List Queued)) (i : ℕ) → i < length blocks →
@@ -26,9 +25,7 @@ in_front (y ∷ xs) ys zero x e = e
 in_front (y ∷ xs) ys (suc k) x e = in_front xs ys k x e
 
 behind : (xs ys : List Queued) (k n : ℕ) → n ≡ length xs + k → slice_get (xs ++ ys) n ≡ slice_get ys k
-behind [] ys k n e = ap (slice_get ys) (let same : n ≡ k = omega arith in same)
-behind (y ∷ xs) ys k zero e = absurd (omega arith)
-behind (y ∷ xs) ys k (suc n) e = behind xs ys k n (omega arith)
+behind xs ys k n e = grind (arith, common_steps, slice_get_cases)
 
 pub shown_in : (blocks : List (List Queued)) (i o n : ℕ) (x : Queued) → i < length blocks →
     slice_get (block_at blocks i) o ≡ Some x → n ≡ cells_in_all (take i blocks) + o →

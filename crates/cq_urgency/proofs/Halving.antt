@@ -48,8 +48,6 @@ cushion_none key (x ∷ xs) a = search (arith, rules, cushion_none key xs a.1)
 pub put_is : (c : Queued) (xs : List Queued) → IsRising xs → HasOtherKey c xs →
     insert xs (cushion c.key xs) c ≡ put c xs
 put_is c [] r other = refl
-put_is c (x ∷ xs) r other = cond_both (is_before c.key x.key) (c ∷ x ∷ xs) (x ∷ put c xs)
-    (λ l. insert (x ∷ xs) (cushion c.key (x ∷ xs)) c ≡ l) (λ e. ap (λ n. insert (x ∷ xs) n c)
-    (cushion_none c.key (x ∷ xs) (all_weaker (IsBefore c) (λ y. is_before y.key c.key ≡ false)
-    (λ y. key_laws.one_way c.key y.key) (x ∷ xs) (e, before_all c x xs e r.0))))
-    (λ e. search (arith, rules, after_other, put_is c xs r.1 other.1))
+put_is c (x ∷ xs) r other =
+    let after = all_weaker (IsBefore c) (λ y. is_before y.key c.key ≡ false) (λ y. key_laws.one_way c.key y.key) in
+    search (arith, rules, cond_both, cushion_none, after (x ∷ xs), before_all, after_other, put_is c xs r.1 other.1)

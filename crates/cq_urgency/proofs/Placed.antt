@@ -2,13 +2,12 @@
 -- changed in the pool changes at its one place in the order and nowhere else; a block that comes in under a number that
 -- was free or is new stands nowhere in the order, so that the blocks there stay; and so do the others where the first
 -- one becomes free.
-use Rattle.cq_urgency.proofs.Terms.{common_steps, rules, ◌≡◌, ◌≢◌, ℕ, zero, suc, ◌+◌, ◌<◌, ◌≤◌, Bool, true, false, List, [], ◌∷◌, ◌++◌, length, map, get_or, set, take, drop, refl, sym, ap, ◌∙◌, arith, Some, length-set, length-take, length-drop, get_or-set_same, get_or-set_other, get_or-drop, drop-map, ◌==◌, insert, slice_get, sum_by, cases_Bool, cases_eq, cases_lt, ltb-true, lt-ltb, eq-eqb, ne_eqb, cond-true, cond-false, take_more, take_all, drop_more, set-set, length_push, length-map, map-set, take-map, get_or-map, get_or_past, get_or_read, length-insert, insert_end, sum_by-cons, sum_by_push, sum_by-insert, get_or-le-sum_by, slice_get_within, get_or_from_slice_get, Queued, BlocksView, block_at, cells_in_all, counts_behind, get_or-insert_below, halved, without_first, in_order, bit, times, has, parted, ArePlaced, ComesIn, map-insert, most_cells}
+use Rattle.cq_urgency.proofs.Terms.{common_steps, rules, ◌≡◌, ◌≢◌, ℕ, zero, suc, ◌+◌, ◌<◌, ◌≤◌, Bool, List, [], ◌∷◌, ◌++◌, length, map, get_or, set, take, drop, refl, sym, ap, ◌∙◌, arith, Some, length-set, length-take, length-drop, get_or-set_same, get_or-set_other, get_or-drop, drop-map, ◌==◌, insert, slice_get, sum_by, cases_Bool, cases_eq, cases_lt, ltb-true, lt-ltb, eq-eqb, ne_eqb, cond-true, cond-false, take_more, drop_more, set-set, length_push, length-map, map-set, take-map, get_or-map, get_or_past, get_or_read, length-insert, insert_end, sum_by-cons, sum_by_push, sum_by-insert, get_or-le-sum_by, slice_get_within, get_or_from_slice_get, Queued, BlocksView, block_at, cells_in_all, counts_behind, get_or-insert_below, halved, without_first, in_order, bit, times, has, parted, ArePlaced, ComesIn, map-insert, most_cells}
 
 -- ## How often a number stands in a list
 
 bit_le : (b : Bool) → bit b ≤ 1
-bit_le true = omega arith
-bit_le false = omega arith
+bit_le b = search (arith, rules, cases_Bool b)
 
 bit_same : (m n : ℕ) → m ≡ n → bit (m == n) ≡ 1
 bit_same m n e = ap bit (eq-eqb m n e)
@@ -200,8 +199,7 @@ split {pool = pool} {first = first} {order = order} w i {number = number} {other
 pub count_halved : (blocks : List (List Queued)) (counts : List ℕ) (i : ℕ) → counts ≡ counts_behind blocks →
     length (block_at blocks i) ≡ most_cells → i ≡ 0 → 32 ∷ counts ≡ counts_behind (halved blocks i)
 count_halved [] counts i is full e = absurd (omega arith)
-count_halved (b ∷ bs) counts zero is full e =
-    let long = length-drop 32 b in cc
+count_halved (b ∷ bs) counts zero is full e = cc (length-drop 32 b)
 count_halved (b ∷ bs) counts (suc n) is full e = absurd (omega arith)
 
 pub count_halved_behind : (blocks : List (List Queued)) (counts : List ℕ) (i behind : ℕ) →
@@ -253,22 +251,16 @@ module _ (pool pool' : List (List Queued)) (from to place : ℕ) (inside : from 
       set pool' to next ≡ set pool to (take (place + 1) (drop 32 (block_at pool from)))
   moved_more read block next x early e f at is_next =
       let half = drop 32 (block_at pool from) in
+      let here = get_or_from_slice_get block (place + 32) x x at in
+      let there = get_or-drop 32 (block_at pool from) place x in
+      let more = take_more half place x in
       let size = length-drop 32 (block_at pool from) in
-      let few : place ≡ length (take place half) = let len = length-take place half in omega arith in
-      let sum : place + 32 ≡ 32 + place = omega arith in
-      let here : x ≡ get_or half place x =
-      cc (
-        sum,
-        get_or_from_slice_get block (place + 32) x x at,
-        read_from block f,
-        get_or-drop 32 (block_at pool from) place x,
-      ) in search (arith, rules, read_to, set-set, insert_end, take_more)
+      grind (arith, common_steps, here, there, more, size, read_from, read_to, set-set, insert_end)
 
   pub moved_all : (block front : List Queued) → place ≡ 32 → block ≡ get_or pool' from block → front ≡ take 32 block →
       set pool' from front ≡ parted pool from to
   moved_all block front all e is_front =
-      let size = length-drop 32 (block_at pool from) in
-      cc (is, read_from block e, take_all place (drop 32 (block_at pool from)) (omega arith))
+      grind (arith, common_steps, length-drop 32 (block_at pool from), read_from)
 
 pub upper_first : (block : List Queued) (x : Queued) → slice_get block 32 ≡ Some x →
     x ∷ [] ≡ take 1 (drop 32 block)

@@ -5,7 +5,7 @@
 --
 -- A full block that is split keeps each place: in its front half, or in its back half behind 32 cells more.
 use Rattle.cq_urgency.specs.declared.blocks.Spot.{Spot}
-use Rattle.cq_urgency.proofs.Terms.{⊎_elim, cases_lt, rules, ◌≡◌, ℕ, zero, suc, ◌+◌, ◌<◌, ◌≤◌, true, false, List, [], ◌∷◌, ◌++◌, length, take, Some, length-append, length-set, length-take, length-drop, get_or-set_same, arith, sym, subst, common_steps, slice_get, AllByRecursion, cases_Bool, take-append-le, take-take, take-set, length-insert, get_or-insert_below, get_or-insert_at, sum_by_more, Key, Queued, is_before, IsBefore, IsRising, cushion, key_laws, all_at, flattened, block_at, halved, AreFilled, AreBegun, IsSpot, starts_before, all_weaker, all_front, all_back, most_cells, drop, ap}
+use Rattle.cq_urgency.proofs.Terms.{cases_lt, rules, ◌≡◌, ℕ, zero, suc, ◌+◌, ◌<◌, ◌≤◌, true, false, List, [], ◌∷◌, ◌++◌, length, take, Some, length-append, length-set, length-take, length-drop, get_or-set_same, arith, sym, subst, common_steps, slice_get, AllByRecursion, cases_Bool, take-append-le, take-take, take-set, length-insert, get_or-insert_below, get_or-insert_at, sum_by_more, Key, Queued, is_before, IsBefore, IsRising, cushion, key_laws, all_at, flattened, block_at, halved, AreFilled, AreBegun, IsSpot, starts_before, all_weaker, all_front, all_back, most_cells, drop, ap}
 use Rattle.cq_urgency.proofs.Flattened.{length-flattened}
 use Rattle.cq_urgency.proofs.Halving.{cushion_all, cushion_none, cushion_le, cushion-append}
 
@@ -137,12 +137,9 @@ pub spot_halved : (blocks : List (List Queued)) (ahead : ℕ) (was now : Spot) �
     (32 < was.within → (now.block ≡ was.block + 1) × (now.within + 32 ≡ was.within)) →
     IsSpot (halved blocks was.block) ahead now.block now.within
     × (length (block_at (halved blocks was.block) now.block) < most_cells)
-spot_halved blocks ahead was now spot full front back = ⊎_elim
-    (λ late. rw (back late).0 (
-      in_back_half blocks ahead was.block was.within spot full now.within (back late).1,
-      let size = back_length blocks ahead was.block was.within spot full in omega arith,
-    ))
-    (λ early. rw (front early) (
-      in_front_half blocks ahead was.block was.within spot full early,
-      let size = front_length blocks ahead was.block was.within spot full in omega arith,
-    )) (cases_lt 32 was.within)
+spot_halved blocks ahead was now spot full front back =
+    let before = in_front_half blocks ahead was.block was.within spot full in
+    let behind = in_back_half blocks ahead was.block was.within spot full now.within in
+    let first = front_length blocks ahead was.block was.within spot full in
+    let second = back_length blocks ahead was.block was.within spot full in
+    search (arith, rules, cases_lt 32 was.within, before, behind)

@@ -24,10 +24,4 @@ pub returns : goal.returns
 returns c =
     let all = full c.len.result _ _ c.len.ensures.len c.len.ensures.fits c.if-len-lt-MOST_CELLS.false c.block.ensures in
     let spot = spot_halved _ _ _ _ c.spot_of-spot.ensures all c.in_halves.ensures.front c.in_halves.ensures.back in
-    record {
-      cells = search (arith, rules, all, flattened-halved);
-      filled = search (arith, rules, all, filled_halved);
-      most = c.split.ensures.most;
-      spot = rw c.split.ensures.blocks spot.0;
-      room = rw c.split.ensures.blocks spot.1;
-    }
+    search (arith, rules, all, spot, flattened-halved, filled_halved)
