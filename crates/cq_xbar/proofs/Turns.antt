@@ -99,8 +99,7 @@ module _ {m : Partners} {lists : List Waiting} {buffers : List Buffered} {n : �
         n < length lists → w ≡ list_left (Some j) (list_at lists n) → b ≡ with_cell c (buffer_at buffers j) →
         Crossed m lists buffers (n + 1) (set lists' n w) (set buffers' j b)
     crossed_one c w b first inside is_left is_with =
-        let there : j < length buffers = let within = pairs.ports n j p in omega arith in
-        search (rules, length-set, get_or-set_other, get_or-set_same, cases_lt, pairs.once, same_Some)
+        search (rules, length-set, get_or-set_other, get_or-set_same, cases_lt, same_Some)
 
     -- as is seen of a list and a buffer that were read, and of what was taken and put
     module _ (d : Waiting) (r : Option Queued) (c : Queued) (inside : n < length lists)
@@ -116,9 +115,7 @@ module _ {m : Partners} {lists : List Waiting} {buffers : List Buffered} {n : �
           b.cells ≡ put c (get_or buffers' j e).cells → b.spare + 1 ≡ (get_or buffers' j e).spare →
           Crossed m lists buffers (n + 1) (set lists' n w) (set buffers' j b)
       crossed_more w b cells outputs spare filled less =
-          crossed_one c w b (sym (ap (first_for j) (cells-at lists n)) ∙ first_crosses) inside
-          (rw (← (next_list d inside)) (left_by j (get_or lists' n d) w r c some cells outputs spare))
-          (rw (← next_buffer) (with_by c (get_or buffers' j e) b filled less))
+          search (rules, crossed_one, cells-at, first_crosses, next_list, left_by, next_buffer, with_by)
 
 -- ## After the last input
 
