@@ -11,8 +11,7 @@ before_place : (R : Queued → Queued → Type 0) (cells : List Queued) (i : ℕ
     EachPair R cells → AllByRecursion (λ x. R x (get_or cells i d)) (take i cells)
 before_place R [] i d inside pairs = absurd (omega arith)
 before_place R (c ∷ cells) zero d inside pairs = tt
-before_place R (c ∷ cells) (suc i) d inside pairs =
-    (All-from_recursion (R c) cells pairs.0 i d (omega arith), before_place R cells i d (omega arith) pairs.1)
+before_place R (c ∷ cells) (suc i) d inside pairs = search (rules, All-from_recursion, before_place R cells i d)
 
 -- ## The end of a list
 

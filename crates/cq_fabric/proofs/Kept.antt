@@ -113,7 +113,6 @@ module _ (ms : List Machine) (slot : ℕ) (cells : List (Option Cell)) (f g : Fa
   outputs_kept j =
       let came = sum_comes j r.arrived.inputs f.inputs cells step.arrive.ports (λ i.
       let e = ap (count j) (step.arrive.lists i) in search (arith, rules, came_one, came_cell)) in
-      let same = ap (λ bs. length (list_of bs j)) step.arrive.buffers in
       let first = moved r.first r.arrived r.filled step.first_chosen.matching step.fill j in
       search (arith, rules, rest_of, length-drop, moved)
 

@@ -83,7 +83,6 @@ holds_rests lists judged after holds limits long less =
     let front = get_or_map (λ (xs : List Queued). slice_get xs 0) lists j nil in
     let rest = get_or_map (λ (xs : List Queued). drop 1 xs) lists j nil in
     let left = get_or_map length (rests lists) j nil in
-    let n = less j in
     search (arith, rules, one_less, holds.held) in
     search (arith, rules, length-map, ext_get_or 0 after.held (map length (rests lists)), holds.held)
 

@@ -10,12 +10,9 @@ newest_later y c xs older rest =
 
 newest_insert : (xs : List Queued) (p : ℕ) (c : Queued) → p ≤ length xs → ArrivedBefore c.key.slot xs →
     IsNewest c (insert xs p c)
-newest_insert xs zero c inside before =
-    let late = all_at (λ y. y.key.slot < c.key.slot) xs in
-    record { place = 0; at = refl; alone = λ t x at same. grind (arith, common_steps, late) }
+newest_insert xs zero c inside before = grind (arith, common_steps, all_at)
 newest_insert [] (suc p) c inside before = absurd (omega arith)
-newest_insert (y ∷ xs) (suc p) c inside before =
-    newest_later y c (insert xs p c) before.0 (newest_insert xs p c (omega arith) before.1)
+newest_insert (y ∷ xs) (suc p) c inside before = grind (arith, common_steps, newest_later, newest_insert xs p c)
 
 pub newest_arrived : (cushion : ℕ) (c : Queued) (xs : List Queued) → ArrivedBefore c.key.slot xs →
     IsNewest c (with_arrival cushion c xs)

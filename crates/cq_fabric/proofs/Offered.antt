@@ -3,7 +3,7 @@
 -- is transferred, the lists change in its pairs. All keys of waiting cells differ before and after: a cell that comes
 -- has a key that none had, and cells that leave take theirs away. So the first cells of different lists have
 -- different keys, as the offers ask.
-use Rattle.cq_fabric.proofs.Terms.{common_steps, rules, ◌≡◌, ◌≢◌, ℕ, ◌+◌, ◌<◌, ◌≤◌, ◌⊎◌, true, List, [], length, map, get_or, set, replicate, Option, Some, None, refl, sym, ap, ◌∙◌, ⊎_elim, arith, All, insert, IsDistinct, cases_eq, cases_lt, length-map, length-replicate, get_or_default, get_or_past, get_or-replicate, get_or-set_same, get_or-set_other, length-set, Queued, Key, MoreUrgentAhead, cushion, with_arrival, place_of_arrival, first_for, Waiting, cells_of, list_of, FirstKeysDiffer, AreOrdersOf, first_key, key_before, orders_of, Moves, list_taken, Orders, no_offers, ports, Partners, partner_of, with_pair, are_orders, IsAmong, came_to, among_insert, was_waiting, KeysApart, ComeApart, Comes, no_list, list_at, list_with, empty_list, AreSameWithout, one_orders, place_in-le-length, IsSameBut, same_list, same_but_arrival, same_but_taken, same_without, most_ports, cells-at}
+use Rattle.cq_fabric.proofs.Terms.{common_steps, rules, ◌≡◌, ◌≢◌, ℕ, ◌+◌, ◌<◌, ◌≤◌, ◌⊎◌, true, List, [], length, map, get_or, set, replicate, Option, Some, None, refl, sym, ap, ◌∙◌, ⊎_elim, arith, All, insert, IsDistinct, cases_eq, cases_lt, length-map, length-replicate, get_or_default, get_or_past, get_or-replicate, get_or-set_same, get_or-set_other, length-set, Queued, MoreUrgentAhead, cushion, with_arrival, place_of_arrival, first_for, Waiting, cells_of, list_of, FirstKeysDiffer, AreOrdersOf, first_key, key_before, orders_of, Moves, list_taken, Orders, no_offers, ports, Partners, partner_of, with_pair, are_orders, IsAmong, came_to, among_insert, was_waiting, KeysApart, ComeApart, Comes, list_at, list_with, empty_list, AreSameWithout, one_orders, place_in-le-length, IsSameBut, same_list, same_but_arrival, same_but_taken, same_without, most_ports, cells-at}
 use Rattle.std.proofs.Math.ListN.{get_or-map}
 use Rattle.cq_prefs.proofs.BehindFirst.{comes_behind, same_offers}
 use Rattle.cq_fabric.proofs.Queued.{firsts_apart}
@@ -40,11 +40,7 @@ pub record HasCome (lists lists' : List Waiting) (n cushion : ℕ) (c : Queued) 
 pub set_came : (lists : List Waiting) (n cushion : ℕ) (c : Queued) (old w : Waiting) → n < length lists →
     w.cells ≡ with_arrival cushion c (get_or lists n old).cells → HasCome lists (set lists n w) n cushion c
 set_came lists n cushion c old w inside cells =
-    record {
-      long = length-set lists n w;
-      here = search (arith, rules, get_or-set_same, get_or_default);
-      others = λ k other. get_or-set_other lists n k w no_list other;
-    }
+    grind (arith, common_steps, length-set, get_or-set_same, get_or_default, get_or-set_other)
 
 module _ {lists lists' : List Waiting} {o : Orders} {n cushion : ℕ} {c : Queued} (comes : Comes lists o n c)
     (come : HasCome lists lists' n cushion c) where
@@ -62,12 +58,7 @@ module _ {lists lists' : List Waiting} {o : Orders} {n cushion : ℕ} {c : Queue
   come_among k d h = grind (arith, common_steps, among_insert, this_list, other_list, cases_eq)
 
   come_apart : KeysApart (cells_of lists')
-  come_apart i k x y a b e =
-      let key : Queued → Key = λ q. q.key in
-      ⊎_elim (λ new_x. ⊎_elim (λ new_y. new_x.0 ∙ sym new_y.0)
-      (λ old_y. absurd (comes.older k y old_y (sym e ∙ sym (ap key new_x.1)))) (come_among k y b))
-      (λ old_x. ⊎_elim (λ new_y. absurd (comes.older i x old_x (e ∙ sym (ap key new_y.1))))
-      (λ old_y. comes.waiting i k x y old_x old_y e) (come_among k y b)) (come_among i x a)
+  come_apart i k x y a b e = search (rules, come_among)
 
   pub come_differ : FirstKeysDiffer (cells_of lists')
   come_differ = firsts_apart (cells_of lists') come_apart
@@ -115,15 +106,11 @@ module _ {came : List (Option Queued)} {buffers : List (List Queued)} {old now :
 
   module _ (come : ComeApart came (cells_of old)) where
     apart_so_far : KeysApart (cells_of now)
-    apart_so_far i k x y a b e = ⊎_elim (λ new_x. ⊎_elim (λ new_y. come.each i k x y new_x.1 new_y.1 e)
-        (λ old_y. absurd (come.older i k x y new_x.1 old_y (sym e))) (was_or_came k y b)) (λ old_x.
-        ⊎_elim (λ new_y. absurd (come.older k i y x new_y.1 old_x e))
-        (λ old_y. come.waiting i k x y old_x old_y e) (was_or_came k y b)) (was_or_came i x a)
+    apart_so_far i k x y a b e = search (rules, was_or_came)
 
     older_so_far : (c : Queued) → came_to came n ≡ Some c → (k : ℕ) (d : Queued) →
         IsAmong d (list_of (cells_of now) k) → d.key ≢ c.key
-    older_so_far c is k d h e = ⊎_elim (λ new. let same = come.each k n d c new.1 is e in omega arith)
-        (λ old. come.older n k c d is old e) (was_or_came k d h)
+    older_so_far c is k d h e = search (rules, was_or_came)
 
     -- one more comes
     pub next_comes : (c : Queued) → came_to came n ≡ Some c → n < length now → length now ≤ most_ports → Comes now o n c

@@ -1,6 +1,6 @@
 -- Lists and buffers with their rooms. A cell that goes into a list takes the room that the list has for it, and a
 -- cell that leaves gives it back, so that no list and no buffer can hold more cells, or fewer, than before.
-use Rattle.cq_fabric.proofs.Terms.{zero, suc, common_steps, rules, ◌≡◌, ℕ, ◌+◌, ◌<◌, ◌≤◌, cond, List, [], ◌∷◌, ◌++◌, length, map, get_or, take, drop, Option, Some, None, refl, ap, ◌∙◌, ⊎_elim, arith, replicate, is_some, slice_get, cases_lt, cond_both, length-map, get_or_default, get_or_past, ext_get_or, drop_all, take_all, append-nil, get_or-replicate, length-insert, Queued, is_for, first_for, without_first, fronts, rests, Waiting, cells_of, Buffered, cells_in, list_of, FirstKeysDiffer, orders_of, output_order, Moves, Orders, Partners, IsMatching, are_orders, HaveCells, HaveRoom, MovesRoom, list_spare, buffer_spare, partner_or_free, length_put, came_to, list_arrived, first_at, Queues, FitLists, KeysApart, CanCross, FitEach, AreSquare, list_room, buffer_room, fabric_of, no_list, list_at, list_with, front_of, popped, has_there, most_ports, cells-at, list_spare-at}
+use Rattle.cq_fabric.proofs.Terms.{zero, suc, common_steps, rules, ◌≡◌, ℕ, ◌+◌, ◌<◌, ◌≤◌, cond, List, [], ◌∷◌, ◌++◌, length, map, get_or, take, drop, Option, Some, None, refl, ap, ◌∙◌, ⊎_elim, arith, replicate, is_some, slice_get, cases_lt, cond_both, length-map, get_or_default, get_or_past, ext_get_or, drop_all, take_all, append-nil, get_or-replicate, length-insert, Queued, first_for, without_first, fronts, rests, Waiting, cells_of, Buffered, cells_in, list_of, FirstKeysDiffer, orders_of, output_order, Moves, Orders, Partners, IsMatching, are_orders, HaveCells, HaveRoom, MovesRoom, list_spare, buffer_spare, partner_or_free, length_put, came_to, list_arrived, from_first, Queues, FitLists, KeysApart, CanCross, FitEach, AreSquare, list_room, buffer_room, fabric_of, no_list, list_at, list_with, front_of, popped, most_ports, cells-at, list_spare-at}
 use Rattle.std.proofs.Math.ListN.{get_or-map}
 
 -- what a slice of a vector leaves of the vector
@@ -26,7 +26,7 @@ list_room-is : (lists : List Waiting) (i : ℕ) →
     get_or (map list_room lists) i 0 ≡ length (list_of (cells_of lists) i) + list_spare lists i
 list_room-is lists i = rw (cells-at lists i, list_spare-at lists i) (room-at lists i)
 
-buffer_room-is : (buffers : List Buffered) (j : ℕ) →
+pub buffer_room-is : (buffers : List Buffered) (j : ℕ) →
     get_or (map buffer_room buffers) j 0 ≡ length (list_of (cells_in buffers) j) + buffer_spare buffers j
 buffer_room-is [] j = omega arith
 buffer_room-is (b ∷ buffers) zero = refl
@@ -80,9 +80,7 @@ module _ {lists : List Waiting} {buffers : List Buffered} {came : List (Option Q
 -- first cells for one output in different lists have different keys
 pub firsts_apart : (lists : List (List Queued)) → KeysApart lists → FirstKeysDiffer lists
 firsts_apart lists apart j i k c d a b e =
-    let p = first_at (is_for j) (list_of lists i) c a in
-    let q = first_at (is_for j) (list_of lists k) d b in
-    apart i k c d (has_there (list_of lists i) p.place c p.at) (has_there (list_of lists k) q.place d q.at) e
+    apart i k c d (from_first j (list_of lists i) c a).0 (from_first j (list_of lists k) d b).0 e
 
 pub has_cell : (lists : List (List Queued)) (buffers : List (List Queued)) (from to : List ℕ) (o : Orders)
     (m : Partners) → CanCross (record { inputs = lists; buffers = buffers; from_inputs = from; to_outputs = to }) →

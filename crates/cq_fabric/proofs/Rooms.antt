@@ -1,11 +1,5 @@
--- How many cells buffers can hold: no fewer than they do, and so many that a number of 64 bits counts them.
-use Rattle.cq_fabric.proofs.Terms.{common_steps, ◌≡◌, ℕ, zero, suc, ◌+◌, ◌^◌, ◌<◌, ◌≤◌, List, [], ◌∷◌, ◌++◌, length, map, get_or, take, replicate, arith, ap, All, cases_lt, get_or_past, take_more, All-push, map_next, map_same, Buffered, cells_in, list_of, buffer_room, Queued}
-
-pub within_rooms : (buffers : List Buffered) (j : ℕ) →
-    length (list_of (cells_in buffers) j) ≤ get_or (map buffer_room buffers) j 0
-within_rooms [] j = omega arith
-within_rooms (b ∷ buffers) zero = omega arith
-within_rooms (b ∷ buffers) (suc j) = within_rooms buffers j
+-- How many cells buffers can hold: so many that a number of 64 bits counts them.
+use Rattle.cq_fabric.proofs.Terms.{common_steps, ◌≡◌, ℕ, ◌+◌, ◌^◌, ◌<◌, List, [], ◌∷◌, ◌++◌, length, map, get_or, take, replicate, arith, ap, All, cases_lt, get_or_past, take_more, All-push, map_next, map_same, Buffered, cells_in, buffer_room, Queued}
 
 pub rooms_fit : (rooms : List ℕ) → All (λ room. room < 2 ^ 64) rooms → (j : ℕ) → get_or rooms j 0 < 2 ^ 64
 rooms_fit rooms all j = grind (arith, common_steps, get_or_past, cases_lt)

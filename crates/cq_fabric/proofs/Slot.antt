@@ -3,7 +3,7 @@
 -- ones of this slot, and each cell that waits has slack 1, so that the more urgent cells for an output stand below
 -- the cushion of one that comes. Of the rooms it is enough that the buffer of each output for which a cell waits or
 -- comes has room for one: where the first matching fills that room, the output sends a cell and has it again.
-use Rattle.cq_fabric.proofs.Terms.{common_steps, rules, ◌≡◌, ℕ, zero, suc, ◌+◌, ◌-◌, ◌<◌, ◌≤◌, true, List, [], ◌∷◌, length, get_or, drop, Option, Some, None, refl, sym, ap, ◌∙◌, subst, ⊎_elim, arith, ◌⊎◌, IfSome, filter, cases_lt, cond_both, eqb-true, eq-eqb, get_or-map, get_or_past, length-drop, length-map, same_Some, Cell, Queued, Key, arrival_at, ArrivedBefore, is_for, Machine, count_for, LimiterView, AreForPorts, Ranking, fronts, list_of, orders_of, Partners, IsMatching, IsStable, HaveCells, partner_or_free, length_put, SendsAlike, IsAmong, waiting_for, came_to, Arrives, Transfers, Departs, SlotRecord, FabricSlot, first_at, was_waiting, Sound, came_from, keyed_from, rest_of, HoldsFabric, IsNewest, Queues, ComeApart, FitLists, CanCross, fabric_of, Keyed, arrived_sound, moved_sound, sent_sound, same_slot, sound_from, has_there, all_from_has, came_or_was}
+use Rattle.cq_fabric.proofs.Terms.{common_steps, rules, ◌≡◌, ℕ, zero, suc, ◌+◌, ◌-◌, ◌<◌, ◌≤◌, true, List, [], ◌∷◌, length, get_or, drop, Option, Some, None, refl, sym, ap, ◌∙◌, subst, ⊎_elim, arith, ◌⊎◌, IfSome, filter, cases_lt, cond_both, eq-eqb, get_or-map, get_or_past, length-drop, length-map, same_Some, Cell, Queued, Key, arrival_at, ArrivedBefore, is_for, Machine, count_for, LimiterView, AreForPorts, Ranking, fronts, list_of, orders_of, Partners, IsMatching, IsStable, HaveCells, partner_or_free, length_put, SendsAlike, IsAmong, waiting_for, came_to, Arrives, Transfers, Departs, SlotRecord, FabricSlot, from_first, was_waiting, Sound, came_from, keyed_from, HoldsFabric, IsNewest, Queues, ComeApart, FitLists, CanCross, fabric_of, Keyed, arrived_sound, moved_sound, sent_sound, same_slot, sound_from, all_from_has, came_or_was}
 use Rattle.std.proofs.lemmas.List.FromFn.{length-range_with_len}
 use Rattle.cq_base.proofs.Pooled.{looked_few}
 use Rattle.cq_prefs.specs.Moves.{transfers_of}
@@ -43,8 +43,7 @@ can_cross slot q ranks sound room =
     let firsts = firsts_cross slot (fabric_of q ranks) sound in
     record {
       apart = λ i k c d a b e. (sound.apart.waiting i k c d a b e).0;
-      room = λ i j has. let first = first_at (is_for j) (list_of q.inputs i) has.0 has.1 in
-          search (arith, rules, first, has_there, eqb-true);
+      room = λ i j has. let first = from_first j (list_of q.inputs i) has.0 has.1 in room i j has.0 first.0 first.1;
       keys = firsts.keys;
     }
 
@@ -56,8 +55,7 @@ length_rest xs = omega (arith, length-drop 1 xs)
 pub few_cross : (m : Partners) (lists : List (List Queued)) (slot phase : ℕ) → IsMatching (orders_of lists) m →
     length (transfers_of m lists slot phase) ≤ length lists
 unfolding transfers_of
-few_cross m lists slot phase matching =
-    grind (arith, common_steps, looked_few, length-range_with_len, length-map)
+few_cross m lists slot phase matching = grind (arith, common_steps, looked_few, length-range_with_len, length-map)
 
 -- ## A slot
 
@@ -88,10 +86,7 @@ module _ {ms : List Machine} {slot : ℕ} {q0 : Queues} {ranks0 : List (List ℕ
   come_apart =
       record {
         waiting = λ i k c d a b e. (sound0.apart.waiting i k c d a b e).0;
-        older = λ i k c d is h e.
-            let lt = sound0.early.waiting k d h in
-            let at = keyed.slot_is i c is in
-            let same = ap (λ (x : Key). x.slot) e in omega arith;
+        older = λ i k c d is h e. grind (arith, sound0.early.waiting k d h, keyed.slot_is i c is);
         each = λ i k c d a b e. sym (keyed.input_is i c a) ∙ ap (λ (x : Key). x.input) e ∙ keyed.input_is k d b;
       }
 
@@ -118,9 +113,7 @@ module _ {ms : List Machine} {slot : ℕ} {q0 : Queues} {ranks0 : List (List ℕ
     -- a cell that waits at an input now waited there, or came
     one_waits : (i j : ℕ) (c : Queued) → IsAmong c (list_of q1.inputs i) → c.cell.output ≡ j →
         1 ≤ waiting_for j q0.inputs + count_for j cells
-    one_waits i j c h e =
-        ⊎_elim (λ new. search (arith, rules, arrives_one, arrival)) (search (arith, rules, waits_one j q0.inputs i c))
-        (came_or_was (fabric_of q0 []) (came_to came i) (list_of q0.inputs i) c (rw (arrived.lists i) at h))
+    one_waits i j c h e = search (rules, arrives_one, arrival, waits_one, came_or_was)
 
     module _ (room : BuffersHaveRoom (length ms) q0 cells) where
       room1 : (i j : ℕ) (c : Queued) → IsAmong c (list_of q1.inputs i) → c.cell.output ≡ j →
@@ -141,8 +134,8 @@ module _ {ms : List Machine} {slot : ℕ} {q0 : Queues} {ranks0 : List (List ℕ
             1 ≤ waiting_for j q0.inputs + count_for j cells + length (list_of q0.buffers j)
         sent_was_held j some = ⊎_elim (λ r.
             let cell = crossing r.0 j r.1 in
-            let p = first_at (is_for j) (list_of q1.inputs r.0) cell.0 cell.1 in
-            search (arith, rules, one_waits r.0 j cell.0, has_there, eqb-true))
+            let first = from_first j (list_of q1.inputs r.0) cell.0 cell.1 in
+            let one = one_waits r.0 j cell.0 first.0 first.1 in omega arith)
             (λ free. search (arith, rules)) (partner_or_free m1 j)
 
         module _ {before judged : LimiterView} (holds : HoldsFabric (fabric_of q0 ranks0) before)
@@ -165,7 +158,6 @@ module _ {ms : List Machine} {slot : ℕ} {q0 : Queues} {ranks0 : List (List ℕ
           -- no buffer is longer than before the first matching
           no_longer : (j : ℕ) → length (list_of q3.buffers j) ≤ length (list_of q1.buffers j)
           no_longer j =
-              let rest = ap (λ bs. length (list_of bs j)) sent.buffers ∙ ap length (rest_of q2.buffers j) in
               ⊎_elim (λ r. let cell = crossing r.0 j r.1 in
               let given = moved1.moves.given r.0 j cell.0 r.1 cell.1 in
               grind (arith, common_steps, length_put, length_rest))

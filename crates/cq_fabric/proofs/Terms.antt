@@ -30,7 +30,7 @@ pub use Rattle.cq_xbar.proofs.Turns.{cells-at, list_spare-at}
 pub use Rattle.cq_xbar.specs.Crossbar.{HaveCells, HaveRoom, MovesRoom, buffer_spare, list_spare}
 pub use Rattle.cq_laws.proofs.Came.{came_cell, came_from, keyed_from}
 pub use Rattle.cq_laws.proofs.Falls.{rest_of}
-pub use Rattle.cq_laws.proofs.Members.{among_insert, first_at, was_waiting}
+pub use Rattle.cq_laws.proofs.Members.{among_insert, from_first, was_waiting}
 pub use Rattle.cq_laws.proofs.Sound.{Sound, not_before_itself}
 pub use Rattle.cq_laws.specs.Agreement.{Agrees, SendsAlike}
 pub use Rattle.cq_laws.specs.Fabric.{Fabric, IsAmong, IsEmptyFabric, buffer, cushion_of, empty_fabric, input}
@@ -53,4 +53,4 @@ pub use Rattle.cq_prefs.specs.Renewal.{AreSameWithout}
 pub use Rattle.cq_laws.proofs.WholeRuns.{empty_agree_at, empty_list}
 pub use Rattle.cq_laws.proofs.{AfterArrivals.Keyed, AfterArrivals.arrived_sound, AfterArrivals.came_or_was, AfterDepartures.sent_sound, AfterTransfer.moved_sound, Held.hold_as_many, Held.nothing_for, NothingRefused.none_come, NothingRefused.run_with, OneSlot.same_slot, OneSlot.sound_from, QuietSlots.empty_is, QuietSlots.quiet_run}
 pub use Rattle.cq_laws.specs.{FabricRun.FabricRun, LimitedQuiet.quiet_limited_slots}
-pub use Rattle.cq_base.proofs.Having.{all_from_has, has_there}
+pub use Rattle.cq_base.proofs.Having.{all_from_has}

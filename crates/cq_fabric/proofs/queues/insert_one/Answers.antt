@@ -1,4 +1,4 @@
-use Rattle.cq_fabric.proofs.Terms.{common_steps, rules, length-set, arith, get_or_default, length-map, get_or-map, get_or-set_other, get_or-set_same, no_list}
+use Rattle.cq_fabric.proofs.Terms.{common_steps, rules, length-set, arith, get_or_default, length-map, get_or-map, get_or-set_other, get_or-set_same}
 use Rattle.cq_fabric.proofs.Offered.{come_behind, come_differ, come_same, set_came}
 use Rattle.cq_fabric.proofs.queues.insert_one.Goals as goal
 
@@ -20,20 +20,12 @@ renew_pair-requires-clause-others c =
     c.index-lists-input-3.result w c.requires.comes.inside c.insert.ensures.cells in
     come_same c.requires.comes came _ (search (arith, rules, length-set))
 
-pub returns-then-behind-clause-offers : goal.returns-then-behind-clause-offers
-returns-then-behind-clause-offers c =
-    search (arith, rules, length-map, get_or-map, come_behind, set_came, get_or_default)
-
-pub returns-then-behind-clause-list : goal.returns-then-behind-clause-list
-returns-then-behind-clause-list c = grind (arith, common_steps, get_or_default, get_or-map, get_or-set_same)
-
-pub returns-then-behind-clause-others : goal.returns-then-behind-clause-others
-returns-then-behind-clause-others c i other =
-    get_or-set_other c.args.lists.now c.args.input i c.insert.new.self no_list other
+pub returns-then-behind : goal.returns-then-behind
+returns-then-behind c = search
+    (arith, rules, length-map, get_or-map, come_behind, set_came, get_or_default, get_or-set_same, get_or-set_other)
 
 pub returns-clause-list : goal.returns-clause-list
 returns-clause-list c = grind (arith, common_steps, get_or_default, get_or-map, get_or-set_same)
 
 pub returns-clause-others : goal.returns-clause-others
-returns-clause-others c i other =
-    get_or-set_other c.args.lists.now c.args.input i c.insert.new.self no_list other
+returns-clause-others c = search (arith, rules, get_or-set_other)
