@@ -3,7 +3,7 @@
 -- are judged one after another: the marks so far, and then those of judging what is left, are those of judging all; and
 -- what the outputs hold so far, with what is still to be admitted, is what they hold at the end.
 
-use Rattle.cq_ideal.proofs.Terms.{rules, ◌≡◌, ◌≢◌, ℕ, zero, suc, ◌+◌, ◌-◌, ◌<◌, ◌≤◌, ◌^◌, eqb, Bool, true, false, cond, List, [], ◌∷◌, ◌++◌, length, drop, get_or, set, Option, Some, None, refl, sym, ap, ◌∙◌, arith, subst, common_steps, All-from_recursion, drop_all, drop_more, get_or-map, length-map, Cell, arrival_at, Refused, is_first, mark_at, refused, CanCount, HasPorts, LimiterView, where_up, cells_refused, packets_refused, refused_counts, with_cells, with_refused, take, get_or-set_same, get_or-set_other, cases_Bool, eqb-true, eq-eqb, ne_eqb, drop-set-lt, get_or-drop, length-set, set-get_or, take_all, append-nil, unwrap_or-slice_get, admitted, mark_after, held_after, marks_after, count_for, ComeToPorts, all_weaker, most_ports}
+use Rattle.cq_ideal.proofs.Terms.{rules, ◌≡◌, ◌≢◌, ℕ, zero, suc, ◌+◌, ◌-◌, ◌<◌, ◌≤◌, ◌^◌, eqb, Bool, true, false, cond, List, [], ◌∷◌, ◌++◌, length, drop, get_or, set, Option, Some, None, refl, sym, ap, ◌∙◌, arith, common_steps, All-from_recursion, drop_all, drop_more, get_or-map, length-map, Cell, arrival_at, Refused, is_first, mark_at, refused, CanCount, HasPorts, LimiterView, where_up, cells_refused, packets_refused, refused_counts, with_cells, with_refused, take, get_or-set_same, get_or-set_other, cases_Bool, eqb-true, eq-eqb, ne_eqb, drop-set-lt, get_or-drop, length-set, set-get_or, take_all, append-nil, unwrap_or-slice_get, admitted, mark_after, held_after, marks_after, count_for, ComeToPorts, all_weaker, most_ports, few_kept}
 use Rattle.cq_ideal.proofs.Refusals.{all_zero, count_both}
 use Rattle.cq_ideal.proofs.Changed.{at_place, changed_to, next_place}
 use Rattle.cq_ideal.proofs.FlowFound.{cell_listed}
@@ -33,17 +33,17 @@ pub this_output : (r : Refused) (cell : Cell) (first : ℕ) → eqb cell.output 
 unfolding cells_refused packets_refused
 this_output r cell first same is = grind (arith, common_steps)
 
--- a count that has room for a cell more
-one_left : (n : ℕ) (cell : Cell) (r : Refused) → (r.packets + (n + 1) < 2 ^ 64) × (r.cells + (n + 1) < 2 ^ 64) →
-    ((with_cells (cell ∷ []) r).packets + n < 2 ^ 64) × ((with_cells (cell ∷ []) r).cells + n < 2 ^ 64)
+-- the counts that have room for so many cells more have it for these: no more are counted at an output than there are
+pub counts_fit : (cells : List Cell) (n m : ℕ) (counts : List Refused) → CanCount (n + m) counts → length cells ≤ m →
+    CanCount n (with_refused cells counts)
 unfolding cells_refused packets_refused
-one_left n cell r can = grind (arith, common_steps)
+counts_fit cells n m counts can few k d inside =
+    let long = length-map counts (with_cells cells) in
+    search (arith, rules, get_or-map (with_cells cells) counts k d d, few_kept)
 
 pub counts_left : (n : ℕ) (cell : Cell) (counts : List Refused) → CanCount (n + 1) counts →
     CanCount n (with_refused (cell ∷ []) counts)
-counts_left n cell counts can k d inside =
-    let long = length-map counts (with_cells (cell ∷ [])) in
-    search (arith, rules, get_or-map (with_cells (cell ∷ [])) counts k d d, one_left n cell)
+counts_left n cell counts can = counts_fit (cell ∷ []) n 1 counts can (omega arith)
 
 pub fewer_left : (n m : ℕ) (counts : List Refused) → CanCount m counts → n ≤ m → CanCount n counts
 fewer_left n m counts can le k d inside = grind (arith, common_steps)
@@ -84,18 +84,6 @@ pub none_counted : (counts : List Refused) → with_refused [] counts ≡ counts
 unfolding cells_refused packets_refused
 none_counted [] = refl
 none_counted (r ∷ counts) = grind (arith, common_steps, none_counted counts)
-
--- the counts that have room for so many cells more have it for these
-pub counts_fit : (cells : List Cell) (n m : ℕ) (counts : List Refused) → CanCount (n + m) counts → length cells ≤ m →
-    CanCount n (with_refused cells counts)
-counts_fit [] n m counts can few =
-    subst (CanCount n) (sym (none_counted counts)) (fewer_left n (n + m) counts can (omega arith))
-counts_fit (cell ∷ cells) n zero counts can few = absurd (omega arith)
-counts_fit (cell ∷ cells) n (suc m) counts can few =
-    let one : n + suc m ≡ n + m + 1 = omega arith in
-    subst (CanCount n) (sym (all_counted_both (cell ∷ []) cells counts))
-    (counts_fit cells n m (with_refused (cell ∷ []) counts)
-    (counts_left (n + m) cell counts (subst (λ (k : ℕ). CanCount k counts) one can)) (omega arith))
 
 -- where nothing was refused yet there is room for many
 pub zero_fits : (n : ℕ) (limits : List (Option ℕ)) → n < 2 ^ 64 → CanCount n (refused_counts limits [])
