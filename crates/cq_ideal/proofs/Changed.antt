@@ -38,13 +38,6 @@ module _ {X Y : Type 0} (f : X → Y) (items : List X) {seen : List Y} (are : ma
   pub seen_at : {x : X} (d : Y) → o < length items → x ≡ get_or items o x → f x ≡ get_or seen o d
   seen_at {x} d inside is = ap f is ∙ sym (get_or-map f items o x d inside) ∙ ap (λ l. get_or l o d) are
 
-  -- another item in its place
-  pub seen_set : (s : X) {y : Y} → f s ≡ y → map f (set items o s) ≡ set seen o y
-  seen_set s e = map-set f items o s ∙ ap (λ l. set l o (f s)) are ∙ ap (set seen o) e
-
-  pub seen_same : {x : X} (s : X) → x ≡ get_or items o x → f s ≡ f x → map f (set items o s) ≡ seen
-  seen_same {x} s is e = map-set_same f items o s x (e ∙ ap f is) ∙ are
-
 -- ## One item changed
 
 abbrev pub changed_to : {X : Type 0} → List X → List X → ℕ → List X
@@ -96,30 +89,25 @@ room_in q = q.room
 
 module _ (items : List QueueView) (o : ℕ) {q : QueueView} {v : QueuesView} (inside : o < length v.lists)
     (is : q ≡ get_or items o q) (view_is : record { lists = map cells_in items; rooms = map room_in items } ≡ v) where
-  lists_are : map cells_in items ≡ v.lists
-  lists_are = ap (λ (w : QueuesView). w.lists) view_is
-
-  rooms_are : map room_in items ≡ v.rooms
-  rooms_are = ap (λ (w : QueuesView). w.rooms) view_is
-
   here : o < length items
-  here = item_inside cells_in items lists_are o inside
+  here = item_inside cells_in items (ap (λ (w : QueuesView). w.lists) view_is) o inside
 
   pub cells_seen : q.cells ≡ list_at v.lists o
-  cells_seen = seen_at cells_in items lists_are o [] here is
+  cells_seen = cc (get_or-map cells_in items o q [] here)
 
   pub room_seen : q.room ≡ get_or v.rooms o 0
-  room_seen = seen_at room_in items rooms_are o 0 here is
+  room_seen = cc (get_or-map room_in items o q 0 here)
 
   -- the queue is within its room, which is a number of 64 bits
   pub is_within : All IsWithin items → IsWithin q
   is_within held = subst IsWithin (sym is) (held o q here)
 
+  -- another queue in its place
   pub lists_after : (s : QueueView) {y : List Queued} → s.cells ≡ y → map cells_in (set items o s) ≡ set v.lists o y
-  lists_after s e = seen_set cells_in items lists_are o s e
+  lists_after s e = cc (map-set cells_in items o s, ap (λ (w : QueuesView). w.lists) view_is)
 
   pub rooms_after : (s : QueueView) → s.room ≡ q.room → map room_in (set items o s) ≡ v.rooms
-  rooms_after s e = seen_same room_in items rooms_are o s is e
+  rooms_after s e = cc (map-set_same room_in items o s q (e ∙ ap room_in is))
 
 -- the lists that were made so far are empty, and have the rooms of the first outputs
 pub record Made (rooms : List ℕ) (n : ℕ) (items : List QueueView) : Type 0 where
@@ -131,7 +119,7 @@ pub one_made : (rooms : List ℕ) (n : ℕ) (items more : List QueueView) (q : Q
     more ≡ items ++ q ∷ [] → n < length rooms → q.cells ≡ [] → q.room ≡ get_or rooms n 0 → q.room < 2 ^ 64 →
     Made rooms (n + 1) more
 one_made rooms n items more q made is inside empty room one =
-    grind (arith, common_steps, map_same, rooms_are, map_next, All-push)
+    grind (arith, common_steps, map_same, map_next, All-push)
 
 -- empty lists are within any room
 pub empty_within : (items : List QueueView) (n : ℕ) → map cells_in items ≡ replicate n [] →
@@ -172,29 +160,25 @@ as_many F S items v view_is = cc (length-map items S, length-map items F)
 module _ {R : Type 0} (F S : R → List ℕ) (items : List R) (o : ℕ) {r : R} {v : RanksView}
     (inside : o < length v.fixed) (is : r ≡ get_or items o r)
     (view_is : record { fixed = map F items; states = map S items } ≡ v) where
-  fixed_is : map F items ≡ v.fixed
-  fixed_is = ap (λ (w : RanksView). w.fixed) view_is
-
-  states_is : map S items ≡ v.states
-  states_is = ap (λ (w : RanksView). w.states) view_is
+  place : o < length items
+  place = item_inside F items (ap (λ (w : RanksView). w.fixed) view_is) o inside
 
   -- the machine at its place, and its state
   pub machine_seen : (M : List ℕ → Machine) → M (F r) ≡ machine_at (map M v.fixed) o
-  machine_seen M =
-      let here = item_inside F items fixed_is o inside in
-      cc (seen_at F items fixed_is o (F r) here is, get_or-map M v.fixed o (F r) (first_come []) inside)
+  machine_seen M = cc (get_or-map F items o r (F r) place, get_or-map M v.fixed o (F r) (first_come []) inside)
 
   pub state_seen : S r ≡ get_or v.states o []
-  state_seen = seen_at S items states_is o [] (item_inside F items fixed_is o inside) is
+  state_seen = cc (get_or-map S items o r [] place)
 
+  -- another machine in its place
   pub fixed_after : (s : R) → F s ≡ F r → map F (set items o s) ≡ v.fixed
-  fixed_after s e = seen_same F items fixed_is o s is e
+  fixed_after s e = cc (map-set_same F items o s r (e ∙ ap F is))
 
   pub states_after : (s : R) {y : List ℕ} → S s ≡ y → map S (set items o s) ≡ set v.states o y
-  states_after s e = seen_set S items states_is o s e
+  states_after s e = cc (map-set S items o s)
 
   pub states_same : (s : R) → S s ≡ S r → map S (set items o s) ≡ v.states
-  states_same s e = seen_same S items states_is o s is e
+  states_same s e = cc (map-set_same S items o s r (e ∙ ap S is))
 
   pub many_after : (s : R) → length (map S (set items o s)) ≡ length v.states
-  many_after s = length-map (set items o s) S ∙ length-set items o s ∙ sym (length-map items S) ∙ ap length states_is
+  many_after s = cc (length-map (set items o s) S, length-set items o s, length-map items S)
