@@ -49,20 +49,17 @@ module _ (ms : List Machine) (n : ℕ) where
   idle_run (suc count) slot ranks =
       let rest = idle_run count (slot + 1) (idled ms n ranks) in search (arith, rules, next_slot, quiet_slot)
 
-  quiet_run : (count slot : ℕ) (ranks : List (List ℕ)) → idled ms n ranks ≡ ranks →
-      ideal_run ms slot (replicate count no_arrivals) (empty_ideal n ranks)
-      ≡ Ok (nothing_sent count n (empty_ideal n ranks))
-  unfolding ideal_run
-  quiet_run zero slot ranks same = refl
-  quiet_run (suc count) slot ranks same = search (rules, next_slot, quiet_slot, quiet_run count (slot + 1) ranks same)
-
   -- so many slots are as one, where a second one changes nothing
   pub rested_run : (count slot : ℕ) (ranks rested : List (List ℕ)) → 0 < count → rested ≡ idled ms n ranks →
       idled ms n rested ≡ rested →
       ideal_run ms slot (replicate count no_arrivals) (empty_ideal n ranks)
       ≡ Ok (nothing_sent count n (empty_ideal n rested))
   unfolding ideal_run
-  rested_run count slot ranks rested some is again = grind (arith, common_steps, next_slot, quiet_slot, quiet_run)
+  rested_run zero slot ranks rested some is again = absurd (omega arith)
+  rested_run (suc zero) slot ranks rested some is again = search (arith, rules, next_slot, quiet_slot)
+  rested_run (suc (suc count)) slot ranks rested some is again =
+      let rest = rested_run (suc count) (slot + 1) rested rested (omega arith) (sym again) again in
+      search (arith, rules, next_slot, quiet_slot)
 
 -- ## The machines
 
