@@ -15,7 +15,7 @@ unfoldable pub use Rattle.cq_ideal.specs.Admission.{admission}
 pub use Rattle.cq_ideal.specs.Ending.{IdealEnds, first_slots, is_over, slots_of}
 unfoldable pub use Rattle.cq_ideal.specs.Ending.{arriving_from, slots_of_run, whole_ideal_run}
 pub use Rattle.cq_ideal.specs.Flows.{FlowsLeaveAsTheyCame, IsForSwitch, IsRunnable, RiseByInput, came_in_flow, leaves_in_flow, left_in_flow}
-pub use Rattle.cq_ideal.specs.Ideal.{HasRoomFor, HaveLeft, IdealSwitch, SpareFollows, answer_to, count_for, marked_state}
+pub use Rattle.cq_ideal.specs.Ideal.{HasRoomFor, HaveLeft, IdealSwitch, SpareFollows, count_for, marked_state}
 pub use Rattle.cq_ideal.specs.IdealRun.{IsEmptyIdeal, Ran, departures_ran, empty_ideal, nothing_sent, then_ran}
 unfoldable pub use Rattle.cq_ideal.specs.IdealRun.{departures_of, ideal_run}
 pub use Rattle.cq_ideal.specs.IdealSlot.{IdealState, Sent, departures_from, fronts, ideal_sends, put_all, rests}

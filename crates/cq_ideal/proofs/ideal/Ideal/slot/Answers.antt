@@ -1,4 +1,4 @@
-use Rattle.cq_ideal.proofs.Terms.{rules, ◌+◌, sym, ap, arith, answer_to}
+use Rattle.cq_ideal.proofs.Terms.{rules, ◌+◌, arith}
 use Rattle.cq_ideal.proofs.Slot.{Begun, begun, can_take_in, come_to_ports, have_keys, have_room, limited_fault, placed, same_state, seen}
 use Rattle.cq_ideal.proofs.ideal.Ideal.slot.Given as given
 use Rattle.cq_ideal.proofs.ideal.Ideal.slot.Goals as goal
@@ -21,14 +21,12 @@ arrive-requires g c =
     let room = have_room begins judged taken in
     search (arith, rules, come_to_ports begins judged taken, room, have_keys begins judged taken)
 
-pub send-requires-clause-fit : goal.send-requires-clause-fit
-send-requires-clause-fit g c =
-    search (arith, rules, placed (known g (goal.at.send-requires-clause-fit g c).After-self))
-
-pub send-requires-clause-holds : goal.send-requires-clause-holds
-send-requires-clause-holds g c = (placed (known g (goal.at.send-requires-clause-holds g c).After-self)
-    c.take_in.ensures.judged c.in_default.ensures.taken c.arrive.new.self c.arrive.ensures.lists
-    c.arrive.ensures.rooms c.take_in.ensures.fixed c.take_in.ensures.many).holds
+pub send-requires : goal.send-requires
+send-requires g c =
+    let p = placed (known g (goal.at.send-requires g c).After-self) c.take_in.ensures.judged
+    c.in_default.ensures.taken c.arrive.new.self c.arrive.ensures.lists c.arrive.ensures.rooms c.take_in.ensures.fixed
+    c.take_in.ensures.many in
+    search (arith, rules, p)
 
 pub invariant_of-self-2 : goal.invariant_of-self-2
 invariant_of-self-2 g c =
@@ -37,33 +35,16 @@ invariant_of-self-2 g c =
     c.take_in.ensures.many in
     search (arith, rules, p, c.send.ensures.gone.lists)
 
-pub returns-in-Err-clause-answer : goal.returns-in-Err-clause-answer
-returns-in-Err-clause-answer g c =
-    search (arith, rules, limited_fault (known g (goal.at.returns-in-Err-clause-answer g c).After-self))
+pub returns-in-Err : goal.returns-in-Err
+returns-in-Err g c =
+    let begins = known g (goal.at.returns-in-Err g c).After-self in
+    let none = limited_fault begins c.take_in.ensures.judged c.in-Err.ensures.fault in
+    search (arith, rules, begins)
 
-pub returns-in-Err-clause-slot : goal.returns-in-Err-clause-slot
-returns-in-Err-clause-slot g c =
-    search (arith, rules, limited_fault (known g (goal.at.returns-in-Err-clause-slot g c).After-self))
-
-pub returns-in-Err-clause-unchanged : goal.returns-in-Err-clause-unchanged
-returns-in-Err-clause-unchanged g c = search (arith, rules, known)
-
-pub returns-in-Err-clause-same : goal.returns-in-Err-clause-same
-returns-in-Err-clause-same g c = search (arith, rules, known)
-
-pub returns-clause-answer : goal.returns-clause-answer
-returns-clause-answer g c = sym (ap answer_to (placed (known g (goal.at.returns-clause-answer g c).After-self)
-    c.take_in.ensures.judged c.in_default.ensures.taken c.arrive.new.self c.arrive.ensures.lists
-    c.arrive.ensures.rooms c.take_in.ensures.fixed c.take_in.ensures.many).limited_ok)
-
-pub returns-clause-slot : goal.returns-clause-slot
-returns-clause-slot g c =
-    let p = placed (known g (goal.at.returns-clause-slot g c).After-self) c.take_in.ensures.judged
-    c.in_default.ensures.taken c.arrive.new.self c.arrive.ensures.lists c.arrive.ensures.rooms c.take_in.ensures.fixed
-    c.take_in.ensures.many in
+pub returns : goal.returns
+returns g c =
+    let begins = known g (goal.at.returns g c).After-self in
+    let p = placed begins c.take_in.ensures.judged c.in_default.ensures.taken c.arrive.new.self c.arrive.ensures.lists
+    c.arrive.ensures.rooms c.take_in.ensures.fixed c.take_in.ensures.many in
     let new = seen c.send.new.ranks c.send.new.queues c.send.new.limiter (c.args.slot + 1) c.self.inside.stopped in
-    rw p.limited_ok
-    (search (arith, rules, p.spare new, same_state, known g (goal.at.returns-clause-slot g c).After-self))
-
-pub returns-clause-same : goal.returns-clause-same
-returns-clause-same g c = search (arith, rules, known)
+    rw p.limited_ok (search (arith, rules, p.spare new, same_state, begins))
