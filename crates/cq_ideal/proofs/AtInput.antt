@@ -1,9 +1,9 @@
 -- What arrives in the slots of a run, slot by slot, is what was to arrive, in its order: the cells that come to an
 -- input, and those of a flow. At the place of the flow's input stand all its cells of a slot, so they are among the
 -- cells that come to the input.
-use Rattle.cq_ideal.proofs.Terms.{common_steps, ◌≡◌, ℕ, zero, suc, ◌+◌, ◌<◌, ◌≤◌, List, [], ◌∷◌, None, Option, refl, sym, ap, ◌∙◌, ⊎_elim, arith, AllByRecursion, and_right, cases_lt, cond-false, ne_eqb, get_or_past, unwrap_or-slice_get, Cell, Arrival, arriving, arriving_at, enough, traffic_of, arrival_at, RiseByInput, came_in_flow, came_at, cells_at, most_ports}
+use Rattle.cq_ideal.proofs.Terms.{common_steps, ◌≡◌, ℕ, zero, suc, ◌+◌, ◌<◌, List, [], ◌∷◌, None, Option, refl, sym, ap, ◌∙◌, ⊎_elim, arith, AllByRecursion, cases_lt, get_or_past, unwrap_or-slice_get, Cell, Arrival, arriving, arriving_at, enough, traffic_of, arrival_at, RiseByInput, came_in_flow, came_at, cells_at, most_ports, all_weaker}
 use Rattle.cq_ideal.proofs.Ends.{all_slots}
-use Rattle.cq_ideal.proofs.FlowFound.{cell_listed, length-arriving}
+use Rattle.cq_ideal.proofs.FlowFound.{cell_listed, found, found_none, length-arriving, listed_same}
 use Rattle.cq_ideal.proofs.FlowRank.{present}
 use Rattle.cq_ideal.proofs.FlowRun.{flow_came}
 use Rattle.cq_ideal.proofs.FlowStands.{is_of_flow, of_flow}
@@ -25,6 +25,19 @@ all_shown i came shown rise = ap (cells_at i) (sym (all_slots came))
 pub come_in_order : (i : ℕ) → i < most_ports → (came : List Arrival) → RiseByInput came →
     cells_at i (traffic_of came) ≡ came_at i came
 come_in_order i inside came rise = all_shown i came (is_shown i inside came) rise
+
+-- and so it is of any number, since what is no input shows nothing
+pub all_in_order : (i : ℕ) (came : List Arrival) → AllByRecursion (λ a. a.cell.id.input < most_ports) came →
+    RiseByInput came → cells_at i (traffic_of came) ≡ came_at i came
+unfolding found
+all_in_order i came inputs rise = ⊎_elim (λ inside. come_in_order i inside came rise)
+    (λ past. all_shown i came (λ t.
+    let none : Option Cell = None in
+    let long = length-arriving came t most_ports refl in
+    let nobody = found_none came t i (all_weaker (λ a. a.cell.id.input < most_ports) _ (λ a l at is. omega arith) came
+    inputs) in
+    unwrap_or-slice_get (arriving came t) i none ∙ get_or_past (arriving came t) i none (omega arith)
+    ∙ sym (listed_same (arriving_at came t i) none nobody)) rise) (cases_lt i most_ports)
 
 -- ## A flow comes at its input
 
@@ -59,22 +72,7 @@ module _ (i c j : ℕ) where
   of_line [] = refl
   of_line (a ∷ came) = grind (arith, common_steps, of_line came)
 
-  -- what is no input shows nothing
-  shown_past : (came : List Arrival) → AllByRecursion (λ a. a.cell.id.input < most_ports) came → most_ports ≤ i →
-      IsShown came i
-  shown_past came inputs past t =
-      let none : Option Cell = None in
-      let long = length-arriving came t most_ports refl in
-      unwrap_or-slice_get (arriving came t) i none ∙ get_or_past (arriving came t) i none (omega arith)
-      ∙ sym (nobody came inputs)
-    where
-      nobody : (came : List Arrival) → AllByRecursion (λ a. a.cell.id.input < most_ports) came →
-          ◌≡◌ {A = Option Cell} (arriving_at came t i) None
-      nobody [] all = refl
-      nobody (a ∷ came) all = grind (arith, common_steps, and_right, ne_eqb, cond-false, nobody came all.1)
-
   pub came_in_order : (came : List Arrival) → AllByRecursion (λ a. a.cell.id.input < most_ports) came →
       RiseByInput came → flow_came i c j (traffic_of came) ≡ came_in_flow i c j came
   came_in_order came inputs rise = comes_at_input (traffic_of came) (all_stand came)
-      ∙ ap (of_flow i c j) (⊎_elim (λ inside. come_in_order i inside came rise)
-      (λ past. all_shown i came (shown_past came inputs past) rise) (cases_lt i most_ports)) ∙ of_line came
+      ∙ ap (of_flow i c j) (all_in_order i came inputs rise) ∙ of_line came

@@ -12,6 +12,9 @@ cell_listed (Some cell) = cell ∷ []
 pub listed : (o : Option Cell) (cells : List Cell) → cons_option o cells ≡ cell_listed o ++ cells
 listed cell cells = grind (arith, common_steps)
 
+pub listed_same : (o p : Option Cell) → cell_listed o ≡ cell_listed p → o ≡ p
+listed_same cell other e = grind (arith, common_steps)
+
 -- the cell that arrives in a slot at an input, if one does
 unfoldable pub found : List Arrival → ℕ → ℕ → List Cell
 found came t k = cell_listed (arriving_at came t k)

@@ -1,7 +1,7 @@
 -- The slots of departures: no departure of a run is behind its slots. And in the slot of the last arrival a cell comes.
 use Rattle.cq_ideal.proofs.Terms.{rules, ◌≡◌, ℕ, ◌+◌, ◌<◌, ◌≤◌, List, [], ◌∷◌, ◌++◌, length, Option, Some, None, ⊎_elim, arith, common_steps, max, AllByRecursion, cases_eq, cases_lt, eq-eqb, Arrival, arriving, end_of, Cell, Departure, Queued, Machine, slots_of, IsForSwitch, count_for, departures_of, departures_from, departures_in, arrival_at, most_ports}
 use Rattle.cq_ideal.proofs.RestAtInput.{is_shown}
-use Rattle.cq_ideal.proofs.FlowFound.{cell_listed, found, found_here, other_slot}
+use Rattle.cq_ideal.proofs.FlowFound.{found, found_here, listed_same, other_slot}
 
 -- ## The slots of departures
 
@@ -53,11 +53,8 @@ counted_at : (cells : List (Option Cell)) (i : ℕ) (cell : Cell) → arrival_at
 counted_at [] i cell at = absurd (let P : ⊥ = cc in P)
 counted_at (o ∷ cells) i cell at = grind (arith, common_steps, eq-eqb, counted_at cells)
 
-listed_one : (o : Option Cell) (cell : Cell) → cell_listed o ≡ cell ∷ [] → o ≡ Some cell
-listed_one o cell is = grind (arith, common_steps)
-
 pub counted_in : (ports : ℕ) (came : List Arrival) (slot : ℕ) (c : Comes ports came slot) →
     1 ≤ count_for c.cell.output (arriving came slot)
 unfolding found
 counted_in ports came slot c = counted_at (arriving came slot) c.input c.cell
-    (search (arith, rules, is_shown, listed_one))
+    (search (arith, rules, is_shown, listed_same))
