@@ -3,9 +3,9 @@
 -- is sent. So after the last slot with an arrival no more cells wait than came in all, and each later slot takes one
 -- of them. Slots that are enough are enough with limits: no more cells are admitted in a slot than come, and there are
 -- as many slots.
-use Rattle.cq_ideal.proofs.Terms.{◌≡◌, ℕ, zero, suc, ◌≤◌, Bool, List, [], ◌∷◌, length, drop, Option, refl, ap, arith, ◌+◌, replicate, Result, Ok, common_steps, IfOk, Cell, Arrival, traffic_of, arriving, enough, Machine, Admission, admitted, admitted_in, empty_limited, limited_run, AreJudged, TagFault, no_arrivals, IdealState, IsEmptyIdeal, Ran, ideal_run, empty_ideal, most_ports, rules}
+use Rattle.cq_ideal.proofs.Terms.{◌≡◌, ℕ, zero, suc, ◌≤◌, Bool, List, [], ◌∷◌, length, drop, Option, refl, ap, arith, ◌+◌, replicate, Result, Ok, common_steps, IfOk, Cell, Arrival, traffic_of, arriving, enough, Machine, Admission, admitted, admitted_in, empty_limited, limited_run, AreJudged, TagFault, no_arrivals, IdealState, IsEmptyIdeal, Ran, ideal_run, empty_ideal, most_ports, rules, All-replicate, Queued}
 use Rattle.cq_ideal.proofs.Admitted.{its_marks}
-use Rattle.cq_ideal.proofs.Ends.{nothing_left}
+use Rattle.cq_ideal.proofs.Ends.{none_waits, nothing_left}
 use Rattle.cq_ideal.proofs.FlowCount.{come_count-traffic_of, length-traffic_of, quiet_at_end}
 use Rattle.cq_ideal.proofs.FlowRank.{present, only_ok}
 use Rattle.cq_ideal.proofs.FlowRun.{come_count}
@@ -57,9 +57,8 @@ no_more limits marks traffic admissions judged = absurd judged
 -- ## As many slots as are enough
 
 pub waiting-empty : (ports : ℕ) → waiting (replicate ports []) ≡ 0
-unfolding waiting
-waiting-empty zero = refl
-waiting-empty (suc ports) = let rest = waiting-empty ports in omega arith
+waiting-empty ports =
+    none_waits (replicate ports []) (All-replicate (λ (cells : List Queued). cells ≡ []) ports [] refl)
 
 if_ok : {A : Type 0} (P : A → Type 0) (x : Result A TagFault) → ((a : A) → x ≡ Ok a → P a) → IfOk x P
 if_ok P fault f = grind (arith, common_steps)

@@ -1,7 +1,7 @@
 -- A run with limits is the run without limits of the admitted arrivals: both step through the same slots, and end at
 -- the same fault. Where no output has a limit all arrivals are admitted, so it is the run without limits of all
 -- arrivals.
-use Rattle.cq_ideal.proofs.Terms.{common_steps, rules, arith, ◌≡◌, ℕ, zero, suc, ◌+◌, Bool, List, [], ◌∷◌, map, replicate, Option, Result, Ok, Err, refl, ap, ◌∙◌, AllByRecursion, Cell, no_arrivals, TagFault, Machine, Admission, Marked, NoLimits, RefusesNone, admitted_in, marked, marks_down, nothing_refused, IdealState, Sent, ideal_slot, Ran, ideal_run, nothing_sent, LimitedSent, LimitedRan, with_admission, limited_slot, then_limited, in_front, limited_run, nothing_came, admitted_traffic, unlimited, AreJudged}
+use Rattle.cq_ideal.proofs.Terms.{common_steps, rules, arith, ◌≡◌, ℕ, ◌+◌, Bool, List, [], ◌∷◌, map, replicate, Option, Result, Ok, Err, refl, ap, ◌∙◌, AllByRecursion, Cell, no_arrivals, TagFault, Machine, Admission, Marked, NoLimits, RefusesNone, admitted_in, marked, marks_down, nothing_refused, IdealState, Sent, ideal_slot, Ran, ideal_run, nothing_sent, LimitedSent, LimitedRan, with_admission, limited_slot, then_limited, in_front, limited_run, nothing_came, admitted_traffic, unlimited, AreJudged, All-replicate, all_from_has, recursion_from_All}
 use Rattle.cq_ideal.proofs.Changed.{map-replicate}
 use Rattle.cq_ideal.proofs.Admitted.{no_arrivals_refuse_none, no_limits_refuse_none}
 
@@ -117,16 +117,16 @@ module _ (limits : List (Option ℕ)) (ms : List Machine) where
 
   pub none_refused_in : (ports : ℕ) (traffic : List (List (Option Cell))) → NoLimits limits →
       AllByRecursion (RefusesNone limits (marks_down ports)) traffic
-  none_refused_in ports [] none = tt
-  none_refused_in ports (cells ∷ traffic) none =
-      (no_limits_refuse_none limits ports cells none, none_refused_in ports traffic none)
+  none_refused_in ports traffic none =
+      all_from_has _ traffic (λ cells _. no_limits_refuse_none limits ports cells none)
 
 -- ## Slots without arrivals
 
 pub none_in : (limits : List (Option ℕ)) (marks : List Bool) (slots : ℕ) →
     AllByRecursion (RefusesNone limits marks) (replicate slots no_arrivals)
-none_in limits marks zero = tt
-none_in limits marks (suc slots) = (no_arrivals_refuse_none limits marks, none_in limits marks slots)
+none_in limits marks slots =
+    let all = All-replicate (RefusesNone limits marks) slots no_arrivals (no_arrivals_refuse_none limits marks) in
+    recursion_from_All _ _ all
 
 -- many slots in which nothing comes refuse nothing
 pub rest_refuses_none : (limits : List (Option ℕ)) (ms : List Machine) (slots slot ports : ℕ) (marks : List Bool)
