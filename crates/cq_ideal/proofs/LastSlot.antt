@@ -10,7 +10,7 @@ slots_of-append [] b = omega arith
 slots_of-append (d ∷ a) b = let rest = slots_of-append a b in omega arith
 
 -- it is that slot where one sends
-slots_in : (slot j : ℕ) (gone : List (Option Queued)) → let sent = departures_from slot j gone in
+pub slots_in : (slot j : ℕ) (gone : List (Option Queued)) → let sent = departures_from slot j gone in
     (slots_of sent ≤ slot + 1) × (0 < length sent → slots_of sent ≡ slot + 1)
 slots_in slot j [] = (omega arith, λ some. absurd (omega arith))
 slots_in slot j (None ∷ gone) = slots_in slot (j + 1) gone
@@ -19,11 +19,6 @@ slots_in slot j (Some q ∷ gone) = let rest = (slots_in slot (j + 1) gone).0 in
 pub slots_of-departures : (slot : ℕ) (gone : List (Option Queued)) → slots_of (departures_in slot gone) ≤ slot + 1
 unfolding departures_in
 slots_of-departures slot gone = (slots_in slot 0 gone).0
-
-pub of_slot : (slot : ℕ) (gone : List (Option Queued)) → 0 < length (departures_in slot gone) →
-    slots_of (departures_in slot gone) ≡ slot + 1
-unfolding departures_in
-of_slot slot gone some = (slots_in slot 0 gone).1 some
 
 -- no departure is behind the slots of a run
 pub slots_within : (slot : ℕ) (gone : List (List (Option Queued))) →

@@ -5,7 +5,7 @@
 use Rattle.cq_ideal.proofs.Terms.{common_steps, rules, ◌≡◌, ℕ, zero, suc, ◌+◌, ◌-◌, ◌<◌, ◌≤◌, List, [], ◌∷◌, length, Option, Ok, sym, ap, ◌∙◌, ⊎_elim, arith, max, slice_index_or, count_for, AllByRecursion, cases_lt, length-replicate, Arrival, arriving, end_of, Cell, Queued, Machine, admitted_in, arriving_from, slots_of, slots_of_run, whole_ideal_run, IsForSwitch, Ran, departures_of, empty_ideal, ideal_run, IdealState, departures_in, slots_of_limited_run, whole_limited_run, LimitedRan, empty_limited, length-append}
 use Rattle.cq_ideal.proofs.Ends.{nothing_left}
 use Rattle.cq_ideal.proofs.FlowRank.{only_ok}
-use Rattle.cq_ideal.proofs.LastSlot.{comes, counted_in, of_slot, slots_of-append, slots_within}
+use Rattle.cq_ideal.proofs.LastSlot.{comes, counted_in, slots_in, slots_of-append, slots_within}
 use Rattle.cq_ideal.proofs.LimitedEnds.{at_ok, cut_at, gone_long, limited_over_at_end, limited_test, no_limit, not_before, run_to, slots_as_before, state_ran, whole_as}
 use Rattle.cq_ideal.proofs.LimitedRuns.{is_run_of}
 use Rattle.cq_ideal.proofs.Parted.{arriving_here, departures_append, first_slot}
@@ -17,10 +17,10 @@ use Rattle.cq_ideal.proofs.Waiting.{counted, some_waits, waiting}
 one_departs : (ms : List Machine) (slot j : ℕ) (cells : List (Option Cell)) (traffic : List (List (Option Cell)))
     (s : IdealState) (ran : Ran) → ideal_run ms slot (cells ∷ traffic) s ≡ Ok ran → j < length s.lists →
     0 < length (slice_index_or s.lists j []) + count_for j cells → slot + 1 ≤ slots_of (departures_of slot ran.gone)
-unfolding departures_of
+unfolding departures_of departures_in
 one_departs ms slot j cells traffic s ran is inside some =
     let p = first_slot ms slot cells traffic s ran is in
-    let here = of_slot slot p.sent.gone ((counted ms slot cells s p.sent p.ran_slot).departs j inside some) in
+    let here = (slots_in slot 0 p.sent.gone).1 ((counted ms slot cells s p.sent p.ran_slot).departs j inside some) in
     search (arith, rules, slots_of-append)
 
 one_of_waiting : (ms : List Machine) (slot : ℕ) (traffic : List (List (Option Cell))) (s : IdealState) (ran : Ran) →
