@@ -119,6 +119,11 @@ none_beyond ports class_count input cells for beyond k cell at =
 
 -- ## All inputs
 
+-- the cells from an input on
+pub from_input : (cells : List (Option Cell)) (input : ℕ) (o : Option Cell) → length cells ≡ most_ports →
+    input < most_ports → o ≡ arrival_at cells input → drop input cells ≡ o ∷ drop (input + 1) cells
+from_input cells input o places inside is = grind (arith, common_steps, drop_more, unwrap_or-slice_get)
+
 pub record InTurn (M : List ℕ → Machine) (slot : ℕ) (cells : List (Option Cell)) (first : RanksView) (input : ℕ)
     (ranks : RanksView) (came : List (Option Queued)) : Type 0 where
   pub fixed : ranks.fixed ≡ first.fixed
@@ -134,19 +139,22 @@ module _ {M : List ℕ → Machine} {slot : ℕ} {cells : List (Option Cell)} {f
     {ranks : RanksView} {came : List (Option Queued)} (so_far : InTurn M slot cells first input ranks came) where
   -- one input more
   pub in_turn_next : (ranks_new : RanksView) (cell : Option Cell) (q : Option Queued) → length cells ≡ most_ports →
-      input < most_ports → input < length first.fixed → drop input cells ≡ cell ∷ drop (input + 1) cells →
+      input < most_ports → input < length first.fixed → cell ≡ arrival_at cells input →
       ranks_new.fixed ≡ ranks.fixed → length ranks_new.states ≡ length ranks.states →
       ((rest : List (Option Cell)) → ranking (map M ranks.fixed) slot input (cell ∷ rest) ranks.states
       ≡ after_input q (ranking (map M ranks.fixed) slot (input + 1) rest ranks_new.states)) →
       InTurn M slot cells first (input + 1) ranks_new (set came input q)
-  in_turn_next ranks_new cell q places inside port next fixed many one =
+  in_turn_next ranks_new cell q places inside port is fixed many one =
+      let next = from_input cells input cell places inside is in
       grind (arith, common_steps, length-set, get_or-set_other, take_more_set, after_inputs-snoc)
 
   -- a fault
-  pub in_turn_fault : (cell : Option Cell) (fault : TagFault) → drop input cells ≡ cell ∷ drop (input + 1) cells →
+  pub in_turn_fault : (cell : Option Cell) (fault : TagFault) → length cells ≡ most_ports → input < most_ports →
+      cell ≡ arrival_at cells input →
       ((rest : List (Option Cell)) → ranking (map M ranks.fixed) slot input (cell ∷ rest) ranks.states ≡ Err fault) →
       ranking (map M first.fixed) slot 0 cells first.states ≡ Err fault
-  in_turn_fault cell fault next one = search (rules, after_inputs-fault)
+  in_turn_fault cell fault places inside is one =
+      let next = from_input cells input cell places inside is in search (rules, after_inputs-fault)
 
   -- no port is left
   pub in_turn_last : (class_count : ℕ) → AreForPorts (length first.fixed) class_count cells →
@@ -209,11 +217,6 @@ pub if_some : (o : Option Queued) (P : Queued → Type 0) → ((q : Queued) → 
 if_some q P f = grind (arith, common_steps)
 
 -- ## The walk over the inputs
-
--- the cells from an input on
-pub from_input : (cells : List (Option Cell)) (input : ℕ) (o : Option Cell) → length cells ≡ most_ports →
-    input < most_ports → o ≡ arrival_at cells input → drop input cells ≡ o ∷ drop (input + 1) cells
-from_input cells input o places inside is = grind (arith, common_steps, drop_more, unwrap_or-slice_get)
 
 -- What was put in so far, and then the cells of the inputs from this one on, is all that is put in; and there is room
 -- for the cells of these, and each has its own key.

@@ -1,6 +1,6 @@
-use Rattle.cq_ideal.proofs.Terms.{rules, ◌≡◌, ◌+◌, ◌∷◌, drop, Option, None, Some, refl, sym, ◌∙◌, arith, err_from_is_err_and, Cell, admitted}
+use Rattle.cq_ideal.proofs.Terms.{rules, None, Some, refl, sym, ◌∙◌, arith, err_from_is_err_and}
 use Rattle.cq_ideal.proofs.Admitted.{admitted_for_ports}
-use Rattle.cq_ideal.proofs.Came.{in_turn_next, in_turn_fault, in_turn_last, from_input}
+use Rattle.cq_ideal.proofs.Came.{in_turn_next, in_turn_fault, in_turn_last}
 use Rattle.cq_ideal.proofs.ranks.Ranks.take.Goals as goal
 use Rattle.cq_ideal.proofs.ranks.Ranks.take.Goals.{in-None, in-Some+in_ok-queued-in-Some}
 
@@ -9,35 +9,28 @@ inputs-init g c = search (arith, rules, c.begin.ensures.beyond)
 
 pub inputs-preserved : goal.inputs-preserved
 inputs-preserved g c =
-    let input = c.inputs.input in
-    let cells = admitted c.args.limiter.now.marks c.args.arrivals.now in
     let few = c.requires.few in
     let ports = c.len-ports.ensures.value in
     let inside = c.inputs-test.true in
-    let next : (o : Option Cell) → c.admitted.result ≡ o → drop input cells ≡ o ∷ drop (input + 1) cells = λ o is.
-    from_input cells input o c.admitted.ensures.places (omega arith) (sym is ∙ c.admitted.ensures.answer) in
     let inv = c.inputs.invariant in
     let places = c.admitted.ensures.places in
     elim c.match-admitted.branch [
       | in-None w ↦ rw (w.self-is, w.came-is, w.put.ensures) (in_turn_next inv c.inputs.self None None places
-          (omega arith) (omega arith) (next None w.in-None.is) refl refl (λ rest. refl))
+          (omega arith) (omega arith) (sym w.in-None.is ∙ c.admitted.ensures.answer) refl refl (λ rest. refl))
       | in-Some+in_ok-queued-in-Some w ↦ rw (w.self-is, w.came-is, w.put-in-Some.ensures) (in_turn_next inv
           w.keyed.new.self (Some w.in-Some.cell) (Some w.in_ok-queued-in-Some.queued) places (omega arith)
-          (omega arith) (next (Some w.in-Some.cell) w.in-Some.is) w.keyed.ensures.fixed w.keyed.ensures.many
+          (omega arith) (sym w.in-Some.is ∙ c.admitted.ensures.answer) w.keyed.ensures.fixed w.keyed.ensures.many
           w.in_ok-queued-in-Some.ensures.came)
     ]
 
 pub returns-in_err-queued-in-Some-clause-fault : goal.returns-in_err-queued-in-Some-clause-fault
 returns-in_err-queued-in-Some-clause-fault g c =
     let p = err_from_is_err_and c.from_residual.result c.from_residual.ensures.1 in
-    let input = c.inputs.input in
-    let cells = admitted c.args.limiter.now.marks c.args.arrivals.now in
     let few = c.requires.few in
     let ports = c.len-ports.ensures.value in
     let inside = c.inputs-test.true in
-    let next = from_input cells input (Some c.in-Some.cell) c.admitted.ensures.places (omega arith)
-    (sym c.in-Some.is ∙ c.admitted.ensures.answer) in
-    rw (p.1, p.2) (in_turn_fault c.inputs.invariant (Some c.in-Some.cell) _ next c.in_err-queued-in-Some.ensures.fault)
+    rw (p.1, p.2) (in_turn_fault c.inputs.invariant (Some c.in-Some.cell) _ c.admitted.ensures.places (omega arith)
+    (sym c.in-Some.is ∙ c.admitted.ensures.answer) c.in_err-queued-in-Some.ensures.fault)
 
 pub returns-clause-came : goal.returns-clause-came
 returns-clause-came g c =
