@@ -1,11 +1,11 @@
 -- Where the run of the ideal switch ends, where outputs have limits: as many slots as are enough end with empty lists,
 -- so there is a least number of slots after which no cell is to come and none waits, and from there on the slots send
 -- nothing. A switch without limits is one with limits that refuses nothing, so its run ends where that one's does.
-use Rattle.cq_ideal.proofs.Terms.{rules, ◌≡◌, ℕ, ◌+◌, ◌-◌, ◌<◌, ◌≤◌, Bool, true, false, List, [], ◌++◌, length, map, Option, Result, Ok, Err, refl, sym, ap, ◌∙◌, subst, ⊎_elim, arith, get_or, common_steps, flat_map-append, IsOkAnd, position_or_len, range_with_len, cases_lt, append-nil, get_or-range_with_len, length-range_with_len, fails_before_first, passes_at_first, prefix_len-le-length, Arrival, end_of, enough, traffic_of, TagFault, Machine, Marked, NoLimits, admitted_in, marked, marks_down, nothing_refused, IdealEnds, arriving_from, first_slots, is_over, slots_of_run, whole_ideal_run, IsEmptyIdeal, Ran, departures_of, departures_ran, empty_ideal, ideal_run, IdealState, LimitedIdealEnds, departures_limited, slots_of_limited_run, whole_limited_run, LimitedRan, empty_limited, limited_run, unlimited, refused_in}
+use Rattle.cq_ideal.proofs.Terms.{rules, ◌≡◌, ℕ, ◌+◌, ◌-◌, ◌<◌, ◌≤◌, Bool, true, false, List, [], ◌++◌, length, Option, Result, Ok, Err, refl, sym, ap, ◌∙◌, subst, ⊎_elim, arith, get_or, common_steps, flat_map-append, IsOkAnd, position_or_len, range_with_len, cases_lt, append-nil, get_or-range_with_len, length-range_with_len, fails_before_first, passes_at_first, prefix_len-le-length, Arrival, end_of, enough, traffic_of, TagFault, Machine, Marked, NoLimits, admitted_in, marked, marks_down, IdealEnds, arriving_from, first_slots, is_over, slots_of_run, whole_ideal_run, IsEmptyIdeal, Ran, departures_of, departures_ran, empty_ideal, ideal_run, IdealState, LimitedIdealEnds, departures_limited, slots_of_limited_run, whole_limited_run, LimitedRan, empty_limited, limited_run, unlimited, refused_in}
 use Rattle.cq_ideal.proofs.Ends.{all_slots, none_waits, over_from_test, test_after}
 use Rattle.cq_ideal.proofs.EnoughSlots.{no_more, limited_empty_at_end}
 use Rattle.cq_ideal.proofs.LimitedParts.{behind, limited_going_on, limited_parts, limited_stays_empty}
-use Rattle.cq_ideal.proofs.LimitedRuns.{is_run_of, judged, none_refused_in, none_refused_ran, run_of_all, run_of_none}
+use Rattle.cq_ideal.proofs.LimitedRuns.{as_limited, is_run_of, judged, none_refused_in, none_refused_ran, run_of_all, run_of_none}
 use Rattle.cq_ideal.proofs.Parted.{arriving_length, arriving_parts, departures_append, sends_long}
 
 -- the run without what is said of limits
@@ -224,15 +224,6 @@ module _ (ms : List Machine) (ports : ℕ) (ranks : List (List ℕ)) (came : Lis
       limited n ≡ none_refused_ran (marks_down ports) (first_slots came n) x
   refusing_none n x is = grind (arith, common_steps, run_of_none, none_refused_in, no_limit)
 
-  -- the run with limits that is this one
-  abbrev pub as_limited : ℕ → Ran → LimitedRan
-  as_limited n ran =
-      record {
-        admissions = map (nothing_refused (marks_down ports)) (first_slots came n);
-        gone = ran.gone;
-        after = marked (marks_down ports) ran.after;
-      }
-
   plain_after : (n : ℕ) (s : Marked IdealState) → IsOkAnd (limited n) (λ ran. ran.after ≡ s) →
       IsOkAnd (plain_run n) (λ ran. ran.after ≡ s.state)
   plain_after n s e = grind (arith, common_steps, its_runs, ok_unlimited)
@@ -261,7 +252,7 @@ module _ (ms : List Machine) (ports : ℕ) (ranks : List (List ℕ)) (came : Lis
 
   pub whole_as : (ran : Ran) → whole_ideal_run ms came (empty_ideal ports ranks) ≡ Ok ran →
       whole_limited_run [] ms came (empty_limited ports ranks)
-      ≡ Ok (as_limited (slots_of_run ms came (empty_ideal ports ranks)) ran)
+      ≡ Ok (as_limited (marks_down ports) (first_slots came (slots_of_run ms came (empty_ideal ports ranks))) ran)
   unfolding whole_limited_run whole_ideal_run
   whole_as ran is = ap limited (slots_as_before [] ms ports ranks came no_limit) ∙ refusing_none _ (Ok ran) is
 
@@ -278,7 +269,8 @@ module _ (ms : List Machine) (ports : ℕ) (ranks : List (List ℕ)) (came : Lis
   -- what a run of more slots says of one of fewer
   pub fewer_slots : (m n : ℕ) (ran : Ran) → m ≤ n → plain_run n ≡ Ok ran → (first : Ran) × (plain_run m ≡ Ok first)
   fewer_slots m n ran le is =
-      let f = cut_at [] ms ports ranks came m n (as_limited n ran) le (refusing_none n (Ok ran) is) in
+      let whole = as_limited (marks_down ports) (first_slots came n) ran in
+      let f = cut_at [] ms ports ranks came m n whole le (refusing_none n (Ok ran) is) in
       (state_ran f.first, sym (its_runs m) ∙ ap unlimited f.ran_first)
 
   pub whole_fault : (n : ℕ) (fault : TagFault) → plain_run n ≡ Err fault →

@@ -6,9 +6,12 @@ use Rattle.cq_ideal.proofs.Changed.{map-replicate}
 use Rattle.cq_ideal.proofs.Admitted.{no_arrivals_refuse_none, no_limits_refuse_none}
 
 -- a run without limits, as one with limits that refuses none of these arrivals
+abbrev pub as_limited : List Bool → List (List (Option Cell)) → Ran → LimitedRan
+as_limited marks traffic ran =
+    record { admissions = map (nothing_refused marks) traffic; gone = ran.gone; after = marked marks ran.after }
+
 abbrev pub none_refused_ran : List Bool → List (List (Option Cell)) → Result Ran TagFault → Result LimitedRan TagFault
-none_refused_ran marks traffic (Ok ran) =
-    Ok (record { admissions = map (nothing_refused marks) traffic; gone = ran.gone; after = marked marks ran.after })
+none_refused_ran marks traffic (Ok ran) = Ok (as_limited marks traffic ran)
 none_refused_ran marks traffic (Err fault) = Err fault
 
 module _ (limits : List (Option ℕ)) (ms : List Machine) where
