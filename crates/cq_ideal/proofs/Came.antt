@@ -112,10 +112,11 @@ none_ranked ms slot input (None ∷ cells) states h =
 none_ranked ms slot input (Some cell ∷ cells) states h = absurd (h zero cell refl)
 
 -- no cell comes to an input that is no port
-none_beyond : (ports class_count input : ℕ) (cells : List (Option Cell)) → AreForPorts ports class_count cells →
-    ports ≤ input → (k : ℕ) (cell : Cell) → get_or (drop input cells) k None ≡ Some cell → ⊥
-none_beyond ports class_count input cells for beyond k cell at =
-    grind (arith, common_steps, for.inputs (input + k) cell, unwrap_or-slice_get cells (input + k) None)
+pub none_beyond : (ports input : ℕ) (cells : List (Option Cell)) →
+    ((place : ℕ) (cell : Cell) → arrival_at cells place ≡ Some cell → place < ports) → ports ≤ input → (k : ℕ)
+    (cell : Cell) → get_or (drop input cells) k None ≡ Some cell → ⊥
+none_beyond ports input cells inputs beyond k cell at =
+    grind (arith, common_steps, inputs (input + k) cell, unwrap_or-slice_get cells (input + k) None)
 
 -- ## All inputs
 
@@ -165,7 +166,8 @@ module _ {M : List ℕ → Machine} {slot : ℕ} {cells : List (Option Cell)} {f
       let left = length (drop input cells) in
       let behind = ext_get_or none (drop input came) (replicate left none)
       (grind (arith, common_steps, length-drop, length-replicate)) (search (arith, rules, get_or-drop, same_at)) in
-      search (arith, rules, none_ranked, none_beyond, after_inputs-ok, take-append-drop)
+      let beyond = none_beyond (length first.fixed) input cells for.inputs past in
+      search (arith, rules, none_ranked, beyond, after_inputs-ok, take-append-drop)
 
 -- ## Putting cells into the lists
 

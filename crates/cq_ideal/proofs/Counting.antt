@@ -3,12 +3,12 @@
 -- are judged one after another: the marks so far, and then those of judging what is left, are those of judging all; and
 -- what the outputs hold so far, with what is still to be admitted, is what they hold at the end.
 
-use Rattle.cq_ideal.proofs.Terms.{rules, ◌≡◌, ◌≢◌, ℕ, zero, suc, ◌+◌, ◌-◌, ◌<◌, ◌≤◌, ◌^◌, eqb, Bool, true, false, cond, List, [], ◌∷◌, ◌++◌, length, drop, get_or, set, Option, Some, None, refl, sym, ap, ◌∙◌, arith, common_steps, All-from_recursion, drop_all, drop_more, get_or-map, length-map, Cell, arrival_at, Refused, is_first, mark_at, refused, CanCount, HasPorts, LimiterView, where_up, cells_refused, packets_refused, refused_counts, with_cells, with_refused, take, get_or-set_same, get_or-set_other, cases_Bool, eqb-true, eq-eqb, ne_eqb, drop-set-lt, get_or-drop, length-set, set-get_or, take_all, append-nil, unwrap_or-slice_get, admitted, mark_after, held_after, marks_after, count_for, ComeToPorts, all_weaker, most_ports, few_kept}
+use Rattle.cq_ideal.proofs.Terms.{rules, ◌≡◌, ◌≢◌, ℕ, zero, suc, ◌+◌, ◌-◌, ◌<◌, ◌≤◌, ◌^◌, eqb, Bool, true, false, cond, List, [], ◌∷◌, ◌++◌, length, drop, get_or, set, Option, Some, None, refl, sym, ap, ◌∙◌, arith, common_steps, All-from_recursion, drop_all, drop_more, get_or-map, length-map, Cell, arrival_at, Refused, is_first, mark_at, refused, CanCount, HasPorts, LimiterView, where_up, cells_refused, packets_refused, refused_counts, with_cells, with_refused, take, get_or-set_same, get_or-set_other, cases_Bool, eqb-true, eq-eqb, ne_eqb, drop-set-lt, length-set, set-get_or, take_all, append-nil, admitted, mark_after, held_after, marks_after, count_for, ComeToPorts, all_weaker, most_ports, few_kept}
 use Rattle.cq_ideal.specs.Taking.{HasJudged}
 use Rattle.cq_ideal.proofs.Refusals.{all_zero, count_both}
 use Rattle.cq_ideal.proofs.Changed.{at_place, changed_to, next_place}
 use Rattle.cq_ideal.proofs.FlowFound.{cell_listed}
-use Rattle.cq_ideal.proofs.Came.{from_input}
+use Rattle.cq_ideal.proofs.Came.{from_input, none_beyond}
 
 -- ## Where there are no counts
 
@@ -198,17 +198,14 @@ module _ {cells : List (Option Cell)} {first : LimiterView} {input : ℕ} {now :
   pub judged_last : HasPorts first → ComeToPorts (length first.limits) cells → length first.limits ≤ input →
       HasJudged cells first now
   judged_last has come past =
-      let none : Option Cell = None in
       let limits = ap length so_far.limits in
-      let over : drop input now.marks ≡ [] = drop_all input now.marks (omega arith) in
+      let over = drop_all input now.marks (omega arith) in
       let marks : now.marks ≡ marks_after first.limits first.held first.marks cells =
       cc (take_all input now.marks (omega arith), append-nil (take input now.marks), so_far.judged) in
       record {
         marks = marks;
         held = λ j _.
-            let nothing = none_to_count j (drop input cells) (λ k c at. let l = come.inputs (input + k) c in
-            grind (arith, common_steps, unwrap_or-slice_get cells (input + k) none, get_or-drop input cells k none)) in
-            let all = so_far.held j in grind (arith, common_steps);
+            search (arith, rules, none_to_count j (drop input cells), none_beyond _ input cells come.inputs past);
         limits = so_far.limits;
         ports = record { held = omega arith; marks = omega arith };
       }
