@@ -72,17 +72,13 @@ waiting-filled : (came : List (Option Queued)) (lists : List (List Queued)) →
 unfolding filled
 waiting-filled came lists = grind (arith, common_steps, waiting-map, filled_none lists, total_put came)
 
--- what is sent of the lists, and what is left of them
+-- what is sent of the lists, and what is left of them: less, where a cell waits
 sent_of_waiting : (slot j : ℕ) (lists : List (List Queued)) →
-    length (departures_from slot j (fronts lists)) + waiting (rests lists) ≡ waiting lists
+    (length (departures_from slot j (fronts lists)) + waiting (rests lists) ≡ waiting lists)
+    × (waiting (rests lists) ≤ waiting lists - 1)
 unfolding waiting
-sent_of_waiting slot j [] = refl
+sent_of_waiting slot j [] = (refl, omega arith)
 sent_of_waiting slot j (xs ∷ lists) = grind (arith, common_steps, sent_of_waiting slot (j + 1) lists)
-
-less_waiting : (lists : List (List Queued)) → waiting (rests lists) ≤ waiting lists - 1
-unfolding waiting
-less_waiting [] = omega arith
-less_waiting (xs ∷ lists) = grind (arith, common_steps, less_waiting lists)
 
 -- no list has more cells than all together
 one_of_all : (lists : List (List Queued)) (j : ℕ) → length (slice_index_or lists j []) ≤ waiting lists
@@ -178,7 +174,6 @@ counted_sent ms slot cells old r same =
     let long = length-filled r.came old.lists in
     let full = waiting-filled r.came old.lists in
     let sent = sent_of_waiting slot 0 lists in
-    let less = less_waiting lists in
     let left = left_of cells old r same in
     search (arith, rules, length-map, left, filled_long r.came old.lists, count_to-cells, one_of_all lists)
 
