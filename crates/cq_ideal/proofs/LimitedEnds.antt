@@ -60,6 +60,9 @@ module _ (limits : List (Option ℕ)) (ms : List Machine) (ports : ℕ) (ranks :
       let le = limited_not_more in
       cc (range_at m (omega arith), fails_before_first over (range_with_len 0 (enough came)) m 0 (omega arith))
 
+  least : (m : ℕ) → over m ≡ true → last ≤ m
+  least m is = grind (arith, common_steps, cases_lt m last, not_before m)
+
   over_at_last : last < enough came → over last ≡ true
   over_at_last lt =
       let is = last_is in
@@ -90,14 +93,7 @@ module _ (limits : List (Option ℕ)) (ms : List Machine) (ports : ℕ) (ranks :
       LimitedIdealEnds limits ms came (empty_limited ports ranks) last ran.after
   unfolding whole_limited_run
   limited_ends ran is =
-      let at = limited_over_at_end ran is in
-      record {
-        after = at_ok (run_to last) ran is;
-        all_came = at.0;
-        empty = at.1;
-        first = λ m s after le empty.
-            search (arith, rules, limited_test came m (run_to m) s after le empty, not_before m);
-      }
+      let at = limited_over_at_end ran is in search (arith, rules, at_ok, limited_test, least)
 
   -- ## More slots, and fewer
 
@@ -147,8 +143,7 @@ module _ (limits : List (Option ℕ)) (ms : List Machine) (ports : ℕ) (ranks :
   pub limited_found_end : (n : ℕ) (end : Marked IdealState) →
       LimitedIdealEnds limits ms came (empty_limited ports ranks) n end → last ≡ n
   limited_found_end n end y =
-      let test = limited_test came n (run_to n) end y.after y.all_came y.empty in
-      let le : last ≤ n = search (arith, rules, not_before, cases_lt) in
+      let le = least n (limited_test came n (run_to n) end y.after y.all_came y.empty) in
       let o = ran_from (run_to n) end y.after in
       let f = cut_at last n o.0 le o.1 in
       let at = limited_over_at_end f.first f.ran_first in
