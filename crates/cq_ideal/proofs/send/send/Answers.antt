@@ -9,12 +9,9 @@ pub outputs-init : goal.outputs-init
 unfolding departures_in
 outputs-init g c = search (arith, rules)
 
-pub sent-requires-clause-output : goal.sent-requires-clause-output
-sent-requires-clause-output g c = search (arith, rules, length-map)
-
-pub sent-requires-clause-holds : goal.sent-requires-clause-holds
-sent-requires-clause-holds g c =
-    search (arith, rules, holds_some c.outputs.queues.lists c.outputs.limiter c.outputs.output)
+pub sent-requires : goal.sent-requires
+sent-requires g c =
+    search (arith, rules, length-map, holds_some c.outputs.queues.lists c.outputs.limiter c.outputs.output)
 
 pub outputs-preserved : goal.outputs-preserved
 outputs-preserved g c =
