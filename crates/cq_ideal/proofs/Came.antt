@@ -205,10 +205,8 @@ own_stays p q lists j inside apart own = grind (arith, common_steps, one_put, co
 own_keys_rest : (o : Option Queued) (came : List (Option Queued)) (lists : List (List Queued)) →
     HaveOwnKeys (o ∷ came) lists → ((q : Queued) → o ≡ Some q → q.cell.output < length lists) →
     HaveOwnKeys came (with_came o lists)
-own_keys_rest None came lists own inside = record {
-  waiting = λ k. own.waiting (suc k);
-  others = λ k n q r lt. own.others (suc k) (suc n) q r (omega arith);
-}
+own_keys_rest None came lists own inside =
+    record { waiting = λ k. own.waiting (suc k); others = λ k n q r lt. own.others (suc k) (suc n) q r (omega arith) }
 own_keys_rest (Some p) came lists own inside = record {
   waiting = λ k q at j. own_stays p q lists j (inside p refl) (own.others zero (suc k) p q (omega arith) refl at)
       (own.waiting (suc k) q at j);
