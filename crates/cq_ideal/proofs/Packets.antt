@@ -2,17 +2,17 @@
 -- what became of it becomes of all its cells. Where the cells are those of packets of rising numbers, the admitted
 -- ones are by induction all cells of some of the packets, and the refused ones all cells of the others: the packet
 -- that goes on is admitted where the mark is down, and for the rest the first cell of the next one decides.
-use Rattle.cq_ideal.proofs.Terms.{rules, ◌≡◌, ℕ, zero, suc, ◌+◌, ◌<◌, ◌≤◌, Bool, true, false, cond, not, List, [], ◌∷◌, filter, Option, Some, None, refl, sym, ap, ◌∙◌, ⊎_elim, arith, common_steps, nat_lt, AllByRecursion, cons_option, cond-false, lt-ltb, le-ltb, Cell, arrival_at, Admission, admission, admitted_in, is_first, mark_after, held_after, marks_after, mark_at, unless, where_up, AreJudged, AreOfPackets, AreWholePackets, cells_at}
+use Rattle.cq_ideal.proofs.Terms.{rules, ◌≡◌, ℕ, zero, suc, ◌+◌, ◌<◌, ◌≤◌, Bool, true, false, cond, not, List, [], ◌∷◌, filter, Option, Some, None, refl, sym, ap, ◌∙◌, ⊎_elim, arith, common_steps, nat_lt, AllByRecursion, cons_option, cond-false, lt-ltb, le-ltb, Cell, arrival_at, Admission, admitted_in, is_first, mark_after, held_after, marks_after, mark_at, unless, where_up, AreJudged, AreOfPackets, AreWholePackets, cells_at}
 use Rattle.cq_ideal.proofs.Admitted.{admitted_at, its_marks}
 
 -- ## The mark of one input
 
 -- no first cell arrives
-abbrev pub GoesOn : Option Cell → Type 0
+abbrev GoesOn : Option Cell → Type 0
 GoesOn None = Unit {0}
 GoesOn (Some cell) = is_first cell ≡ false
 
-pub mark_stays : (limits : List (Option ℕ)) (held : List ℕ) (marks : List Bool) (cells : List (Option Cell)) (i : ℕ) →
+mark_stays : (limits : List (Option ℕ)) (held : List ℕ) (marks : List Bool) (cells : List (Option Cell)) (i : ℕ) →
     GoesOn (arrival_at cells i) → mark_at (marks_after limits held marks cells) i ≡ mark_at marks i
 mark_stays limits held (mark ∷ marks) (cell ∷ cells) zero on = search (arith, rules, cond-false)
 mark_stays limits held (mark ∷ marks) (cell ∷ cells) (suc i) on =
@@ -76,11 +76,6 @@ step next mark up (Some cell) came taken refused same are rest =
 -- ## Slot by slot
 
 module _ (limits : List (Option ℕ)) (i : ℕ) where
-  pub mark_is : (held : List ℕ) (marks : List Bool) (cells : List (Option Cell)) (a : Admission) →
-      a ≡ admission limits held marks cells → GoesOn (arrival_at cells i) → mark_at a.marks i ≡ mark_at marks i
-  unfolding admission
-  mark_is held marks cells a e on = cc ((mark_stays limits held marks cells i on))
-
   -- the cells that are refused at the input
   abbrev pub refused_here : List (List (Option Cell)) → List Admission → List Cell
   refused_here [] admissions = []
@@ -100,7 +95,7 @@ module _ (limits : List (Option ℕ)) (i : ℕ) where
       rw (ap (λ (l : List (Option Cell)). arrival_at l i) by.1 ∙ admitted_at a.marks cells i) (step next
       (mark_at marks i) (mark_at a.marks i) (arrival_at cells i) (cells_at i traffic)
       (cells_at i (admitted_in admissions)) (refused_here traffic admissions)
-      (mark_is judged.0.0 marks cells a judged.0.1) are
+      (λ on. ap (λ (l : List Bool). mark_at l i) by.0 ∙ mark_stays limits judged.0.0 marks cells i on) are
       (λ n rest. taken_or_refused n a.marks traffic admissions judged.1 rest))
   taken_or_refused next marks traffic admissions judged are = absurd judged
 
