@@ -1,4 +1,4 @@
-use Rattle.cq_ideal.proofs.Terms.{◌≡◌, [], length, map, replicate, sym, ap, ◌∙◌, subst, length-map, length-replicate, AreForOneSwitch, AllArrivedBefore}
+use Rattle.cq_ideal.proofs.Terms.{◌≡◌, [], length, map, sym, ap, ◌∙◌, subst, length-map, length-replicate, AreForOneSwitch, AllArrivedBefore, arith, rules}
 use Rattle.cq_ideal.proofs.Holding.{holds_none}
 use Rattle.cq_ideal.proofs.Came.{arrived_none}
 use Rattle.cq_ideal.proofs.ideal.Ideal.new.Goals as goal
@@ -12,18 +12,8 @@ invariant_of-result g c =
     let lists : length c.in_ok-new.field-0.lists ≡ length c.args.ranks.items =
     ap length c.in_ok-new.ensures.lists ∙ length-replicate (length c.args.rooms.now) [] ∙ c.requires.rooms in
     let limits = c.requires.limits in
-    record {
-      fit = record {
-        machines = subst AreForOneSwitch (ap (map g.R.Rank.machine) (sym fixed)) c.requires.machines;
-        fixed = sym (length-map c.of.result.fixed g.R.Rank.machine);
-        states = ap length c.of.ensures.states ∙ length-map c.args.ranks.items g.R.Rank.state ∙ sym many;
-        lists = lists ∙ sym many;
-        rooms = ap length c.in_ok-new.ensures.rooms ∙ c.requires.rooms ∙ sym many;
-      };
-      limits = ap length c.in_ok-new-2.ensures.limits ∙ limits ∙ sym many;
-      marks = ap length c.in_ok-new-2.ensures.marks ∙ length-replicate (length c.args.limits.now) _ ∙ limits ∙ sym many;
-      arrived = subst (AllArrivedBefore 0) (sym c.in_ok-new.ensures.lists) (arrived_none 0 (length c.args.rooms.now));
-      holds = λ _. holds_none c.in_ok-new-2.field-0 (length c.args.limits.now) c.in_ok-new.field-0.lists
-          (ap length c.in_ok-new-2.ensures.limits) c.in_ok-new-2.ensures.held
-          (c.in_ok-new.ensures.lists ∙ ap (λ n. replicate n []) (c.requires.rooms ∙ sym limits));
-    }
+    let machines = subst AreForOneSwitch (ap (map g.R.Rank.machine) (sym fixed)) c.requires.machines in
+    let arrived = subst (AllArrivedBefore 0) (sym c.in_ok-new.ensures.lists)
+    (arrived_none 0 (length c.args.rooms.now)) in
+    let holds = holds_none c.in_ok-new-2.field-0 (length c.args.limits.now) c.in_ok-new.field-0.lists in
+    search (arith, rules, length-map, length-replicate, holds)
