@@ -34,8 +34,5 @@ returns-in_err-queued-in-Some-clause-fault g c =
 
 pub returns-clause-came : goal.returns-clause-came
 returns-clause-came g c =
-    let ports = c.len-ports.ensures.value in
-    let past = c.inputs-test.false in
-    in_turn_last c.inputs.invariant _
-    (admitted_for_ports _ _ c.args.limiter.now.marks c.args.arrivals.now c.requires.arrivals) c.requires.some
-    (omega arith)
+    let for = admitted_for_ports _ _ c.args.limiter.now.marks c.args.arrivals.now c.requires.arrivals in
+    search (arith, rules, in_turn_last c.inputs.invariant _ for)
