@@ -72,19 +72,14 @@ module _ (limits : List (Option ℕ)) (ms : List Machine) (ports : ℕ) (ranks :
   pub run_all : run_to (enough came) ≡ limited_run limits ms 0 (traffic_of came) (empty_limited ports ranks)
   run_all = ap (λ l. limited_run limits ms 0 l (empty_limited ports ranks)) (all_slots came)
 
-  some_slots : end_of came ≤ enough came
-  unfolding enough
-  some_slots = omega arith
-
-  empty_after_all : (ran : LimitedRan) → run_to (enough came) ≡ Ok ran → IsEmptyIdeal ran.after.state
-  empty_after_all ran is = grind (arith, common_steps, run_all, limited_empty_at_end limits ms ports ranks came)
-
   -- what is known where the run of so many slots meets no fault
   pub limited_over_at_end : (ran : LimitedRan) → run_to last ≡ Ok ran →
       (end_of came ≤ last) × IsEmptyIdeal ran.after.state
+  unfolding enough
   limited_over_at_end ran is =
+      let all = limited_empty_at_end limits ms ports ranks came in
       ⊎_elim (λ lt. search (arith, rules, over_from_test came last (unlimited (run_to last)), over_at_last lt))
-      (λ ge. search (arith, rules, limited_not_more, some_slots, empty_after_all)) (cases_lt last (enough came))
+      (λ ge. search (arith, rules, limited_not_more, run_all)) (cases_lt last (enough came))
 
   pub at_ok : (x : Result LimitedRan TagFault) (ran : LimitedRan) → x ≡ Ok ran → IsOkAnd x (λ r. r.after ≡ ran.after)
   at_ok x ran is = grind (arith, common_steps)
