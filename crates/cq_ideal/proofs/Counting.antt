@@ -10,13 +10,6 @@ use Rattle.cq_ideal.proofs.Changed.{at_place, changed_to, next_place}
 use Rattle.cq_ideal.proofs.FlowFound.{cell_listed}
 use Rattle.cq_ideal.proofs.Came.{from_input, none_beyond}
 
--- ## Where there are no counts
-
--- where there are no counts there is nothing to add to
-pub nothing_to_count : (cells : List Cell) (counts : List Refused) → length counts ≡ 0 →
-    counts ≡ with_refused cells counts
-nothing_to_count cells rs none = grind (arith, common_steps)
-
 -- ## One cell
 
 abbrev pub one_if : Bool → ℕ
@@ -117,9 +110,6 @@ module _ {cells : List (Option Cell)} {first : LimiterView} {input : ℕ} {now :
     pub counting_none : None ≡ where_up (mark_at first.marks input) (arrival_at cells input) →
         Counting cells first (input + 1) now
     counting_none is = search (arith, rules, split None is, fewer_left)
-
-    pub can_count_one : CanCount 1 now.refused
-    can_count_one = fewer_left 1 (length first.limits - input) now.refused so_far.few (omega arith)
 
     pub counting_some : (cell : Cell) (after : LimiterView) →
         Some cell ≡ where_up (mark_at first.marks input) (arrival_at cells input) →

@@ -1,7 +1,7 @@
 -- Counts of what is refused. A count over two lists is the sum of the counts over each, so counts add up slot by
 -- slot, output by output. And an arriving cell is admitted or refused by the mark of its input, so it is counted
 -- once.
-use Rattle.cq_ideal.proofs.Terms.{common_steps, ◌≡◌, ℕ, ◌+◌, eqb, Bool, cond, List, [], ◌∷◌, ◌++◌, length, filter, Option, Some, None, refl, ap, ◌∙◌, append_assoc, arith, enumerate_from, filter_map, option_map, append-nil, length-append, filter-append, Cell, Refused, Admission, admission, admitted, marks_after, refused, count_for, AreAllZero, EachCountsOnce, cells_refused, packets_refused, refused_at, refused_counts, refused_in, with_refused}
+use Rattle.cq_ideal.proofs.Terms.{common_steps, ◌≡◌, ℕ, ◌+◌, Bool, List, [], ◌∷◌, ◌++◌, length, filter, Option, Some, None, refl, ap, ◌∙◌, append_assoc, arith, enumerate_from, filter_map, option_map, append-nil, length-append, filter-append, Cell, Refused, Admission, admission, admitted, marks_after, refused, count_for, AreAllZero, EachCountsOnce, cells_refused, packets_refused, refused_at, refused_counts, refused_in, with_refused}
 
 -- ## Two lists of refused cells
 
@@ -41,19 +41,11 @@ one_slot_more admissions a = grind (arith, common_steps, append-nil, append_asso
 
 -- ## Each cell once
 
-of_none : (j : ℕ) → cells_refused j [] ≡ 0
-unfolding cells_refused
-of_none j = refl
-
-cells_cons : (j : ℕ) (cell : Cell) (cells : List Cell) →
-    cells_refused j (cell ∷ cells) ≡ cond (eqb cell.output j) 1 0 + cells_refused j cells
-unfolding cells_refused
-cells_cons j cell cells = grind (arith, common_steps)
-
 pub each_once : (j : ℕ) (marks : List Bool) (cells : List (Option Cell)) →
     count_for j cells ≡ count_for j (admitted marks cells) + cells_refused j (refused marks cells)
-each_once j (mark ∷ marks) (cell ∷ cells) = grind (arith, common_steps, cells_cons, each_once j marks cells)
-each_once j marks cells = let none = of_none j in omega arith
+unfolding cells_refused
+each_once j (mark ∷ marks) (cell ∷ cells) = grind (arith, common_steps, each_once j marks cells)
+each_once j marks cells = omega arith
 
 pub counts_once : EachCountsOnce
 unfolding admission

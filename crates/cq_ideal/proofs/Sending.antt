@@ -1,7 +1,7 @@
 -- The walk over the outputs. Behind this output all is as the slot leaves it, and from it on as the slot found it:
 -- that is so for the lists and for the states of the machines. What is sent so far, and then the departures of the
 -- outputs from this one on, are all departures of the slot. Each output that sends a cell holds it no longer.
-use Rattle.cq_ideal.proofs.Terms.{rules, ◌≡◌, ℕ, ◌+◌, ◌<◌, ◌≤◌, List, [], ◌∷◌, ◌++◌, length, map, get_or, set, drop, Option, Some, None, arith, append-nil, append_assoc, length-append, length-set, common_steps, slice_get, get_or-map, length-map, get_or-map-range_with_len, length-map-range_with_len, Departure, Queued, RoomView, Machine, machine_at, told, HaveLeft, all_told, fronts, rests, departures_from, departures_in, AreTold, FirstsHaveLeft, FitTogether, RanksView, QueuesView, list_at, HoldsLists, JudgesAsBefore, LimiterView}
+use Rattle.cq_ideal.proofs.Terms.{rules, ◌≡◌, ℕ, ◌+◌, ◌<◌, ◌≤◌, List, [], ◌∷◌, ◌++◌, length, map, get_or, set, drop, Option, Some, None, arith, append_assoc, length-append, length-set, common_steps, slice_get, get_or-map, length-map, get_or-map-range_with_len, length-map-range_with_len, Departure, Queued, RoomView, Machine, machine_at, told, HaveLeft, all_told, fronts, rests, departures_from, departures_in, AreTold, FirstsHaveLeft, FitTogether, RanksView, QueuesView, list_at, HoldsLists, JudgesAsBefore, LimiterView}
 use Rattle.cq_ideal.proofs.Changed.{at_place, changed_to, put_next}
 
 -- ## The machines
@@ -37,15 +37,6 @@ one_sent slot output (Some q) = record { slot = slot; output = output; queued = 
 pub record HasSent (slot output : ℕ) (gone : Option Queued) (before after : RoomView Departure) : Type 0 where
   pub items : after.items ≡ before.items ++ one_sent slot output gone
   pub spare : after.spare + length (one_sent slot output gone) ≡ before.spare
-
-pub sent_some : (slot output : ℕ) (left : Option Queued) (q : Queued) (before now after : RoomView Departure) →
-    left ≡ Some q → now.items ≡ before.items ++ record { slot = slot; output = output; queued = q } ∷ [] →
-    now.spare + 1 ≡ before.spare → after ≡ now → HasSent slot output left before after
-sent_some slot output left q before now after is items spare same = grind (arith, common_steps)
-
-pub sent_none : (slot output : ℕ) (left : Option Queued) (before after : RoomView Departure) → left ≡ None →
-    after ≡ before → HasSent slot output left before after
-sent_none slot output left before after is same = grind (arith, common_steps, append-nil)
 
 pub record Sending (M : List ℕ → Machine) (slot : ℕ) (first_ranks : RanksView) (first_queues : QueuesView)
     (first_limiter : LimiterView) (first_sent : RoomView Departure) (output : ℕ) (ranks : RanksView)

@@ -18,9 +18,6 @@ sent_from ms s =
       after = record { lists = rests s.lists; ranks = all_told ms (fronts s.lists) s.ranks };
     }
 
-pub same_state : (s t : IdealState) → s.lists ≡ t.lists → s.ranks ≡ t.ranks → s ≡ t
-same_state s t lists ranks = λ k. record { lists = lists k; ranks = ranks k }
-
 -- ## Slots with limits
 
 -- what becomes of these arrivals, where these marks are up after the slot
@@ -59,12 +56,6 @@ pub record Begun (M : List ℕ → Machine) (slot : ℕ) (cells : List (Option C
   pub refused : old.refused ≡ v.refused
   pub parts : AreParts (map M ranks.fixed) ranks queues old slot false
   pub can : CanHaveSlot (map M v.fixed) slot cells v room
-
-pub begun : (M : List ℕ → Machine) (slot : ℕ) (cells : List (Option Cell)) (v : IdealSwitch) (ranks : RanksView)
-    (queues : QueuesView) (old : LimiterView) (room : RoomView Departure) (next : ℕ) (stopped : Bool) →
-    seen ranks queues old next stopped ≡ v → AreParts (map M ranks.fixed) ranks queues old next stopped →
-    CanHaveSlot (map M v.fixed) slot cells v room → Begun M slot cells v ranks queues old room
-begun M slot cells v ranks queues old room next stopped is parts can = grind (arith, common_steps, parts.holds)
 
 -- what is known once what was admitted of them is in the lists
 pub record Placed (M : List ℕ → Machine) (slot : ℕ) (cells : List (Option Cell)) (v : IdealSwitch) (queues : QueuesView)

@@ -1,6 +1,6 @@
-use Rattle.cq_ideal.proofs.Terms.{rules, arith, length-map, departures_in}
+use Rattle.cq_ideal.proofs.Terms.{rules, arith, length-map, departures_in, append-nil}
 use Rattle.cq_ideal.proofs.Holding.{holds_some, holds_without}
-use Rattle.cq_ideal.proofs.Sending.{HasSent, sending_next, sending_last, sent_none, sent_some, length-told}
+use Rattle.cq_ideal.proofs.Sending.{HasSent, sending_next, sending_last, length-told}
 use Rattle.cq_ideal.proofs.Came.{fit_same}
 use Rattle.cq_ideal.proofs.send.send.Goals as goal
 use Rattle.cq_ideal.proofs.send.send.Goals.{in-Some, in-None}
@@ -18,9 +18,8 @@ outputs-preserved g c =
     let gone = c.pop-gone.result in
     let inv = c.outputs.invariant in
     let put : HasSent c.args.slot c.outputs.output gone c.outputs.sent c.match-gone.sent = elim c.match-gone.branch [
-      | in-Some w ↦ sent_some _ _ gone _ c.outputs.sent _ _ w.in-Some.is w.push.ensures.items w.push.ensures.spare
-          w.sent-is
-      | in-None w ↦ sent_none _ _ gone c.outputs.sent _ w.in-None.is w.sent-is
+      | in-Some w ↦ rw (w.sent-is, w.in-Some.is) (search (arith, rules))
+      | in-None w ↦ rw (w.sent-is, w.in-None.is) (search (arith, rules, append-nil))
     ] in
     let holds = holds_without c.outputs.queues.lists c.outputs.limiter c.outputs.output (omega arith) inv.holds gone
     c.pop-gone.new.self.lists c.sent.new.self c.pop-gone.ensures.first c.pop-gone.ensures.lists

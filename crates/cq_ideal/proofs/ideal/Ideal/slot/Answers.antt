@@ -1,5 +1,5 @@
 use Rattle.cq_ideal.proofs.Terms.{rules, ◌+◌, arith}
-use Rattle.cq_ideal.proofs.Slot.{Begun, begun, can_take_in, come_to_ports, have_keys, have_room, limited_fault, placed, same_state, seen}
+use Rattle.cq_ideal.proofs.Slot.{Begun, can_take_in, come_to_ports, have_keys, have_room, limited_fault, placed, seen}
 use Rattle.cq_ideal.proofs.ideal.Ideal.slot.Given as given
 use Rattle.cq_ideal.proofs.ideal.Ideal.slot.Goals as goal
 use Rattle.cq_ideal.proofs.ideal.Ideal.slot.Goals.{After-self}
@@ -8,7 +8,7 @@ use Rattle.cq_ideal.proofs.ideal.Ideal.slot.Goals.{After-self}
 known : (g : given.Over) (c : After-self g) →
     Begun g.R.Rank.machine c.args.slot c.args.arrivals.now c.args.self.now c.self.inside.ranks c.self.inside.queues
     c.self.inside.limiter c.args.sent.now
-known g c = search (arith, rules, begun)
+known g c = search (arith, rules)
 
 pub take_in-requires : goal.take_in-requires
 take_in-requires g c = search (arith, rules, can_take_in, known g (goal.at.take_in-requires g c).After-self)
@@ -47,4 +47,4 @@ returns g c =
     let p = placed begins c.take_in.ensures.judged c.in_default.ensures.taken c.arrive.new.self c.arrive.ensures.lists
     c.arrive.ensures.rooms c.take_in.ensures.fixed c.take_in.ensures.many in
     let new = seen c.send.new.ranks c.send.new.queues c.send.new.limiter (c.args.slot + 1) c.self.inside.stopped in
-    rw p.limited_ok (search (arith, rules, p.spare new, same_state, begins))
+    rw p.limited_ok (search (arith, rules, p.spare new, begins))

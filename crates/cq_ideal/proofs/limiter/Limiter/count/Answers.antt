@@ -1,10 +1,10 @@
-use Rattle.cq_ideal.proofs.Terms.{rules, List, sym, ap, ◌∙◌, arith, Bool, arrival_at, mark_at, refused, where_up}
-use Rattle.cq_ideal.proofs.Counting.{can_count_one, counting_last, counting_none, counting_some, fewer_left, nothing_to_count}
+use Rattle.cq_ideal.proofs.Terms.{rules, List, sym, ap, ◌∙◌, arith, Bool, arrival_at, mark_at, refused, where_up, nil_from_length}
+use Rattle.cq_ideal.proofs.Counting.{counting_last, counting_none, counting_some, fewer_left}
 use Rattle.cq_ideal.proofs.limiter.Limiter.count.Goals as goal
 use Rattle.cq_ideal.proofs.limiter.Limiter.count.Goals.{in-Some, in-None}
 
 pub returns-then-counts-eq0-clause-refused : goal.returns-then-counts-eq0-clause-refused
-returns-then-counts-eq0-clause-refused c = search (arith, rules, nothing_to_count)
+returns-then-counts-eq0-clause-refused c = search (arith, rules, nil_from_length)
 
 pub inputs-init : goal.inputs-init
 inputs-init c = search (arith, rules, fewer_left)
@@ -13,7 +13,7 @@ pub refused_at-requires : goal.refused_at-requires
 refused_at-requires c = search (arith, rules)
 
 pub tally-requires : goal.tally-requires
-tally-requires c = search (arith, rules, can_count_one)
+tally-requires c = search (arith, rules, fewer_left)
 
 pub inputs-preserved : goal.inputs-preserved
 inputs-preserved c =
