@@ -229,10 +229,6 @@ pub record Putting (came : List (Option Queued)) (first : QueuesView) (input : �
 
 module _ {came : List (Option Queued)} {first : QueuesView} {input : ℕ} {queues : QueuesView}
     (ports : CameToPorts (length first.lists) came) (so_far : Putting came first input queues) where
-  -- behind the last port no cell came
-  pub putting_last : length first.lists ≤ input → queues.lists ≡ filled came first.lists
-  putting_last past = search (rules, nobody_left, ports.inputs, get_or-drop)
-
   module _ (few : length first.lists ≤ most_ports) (inside : input < length first.lists) where
     next : drop input came ≡ get_or came input None ∷ drop (input + 1) came
     next = grind (arith, common_steps, drop_more)

@@ -1,7 +1,7 @@
 -- Lists that are made item by item, what is seen of one item, and lists that are new up to a place, and old from it on.
 -- So the list and the machine of one output among those of all: what stands at its place is read through the lists of
 -- all, and a call that changes it changes these at its place alone.
-use Rattle.cq_ideal.proofs.Terms.{common_steps, ◌≡◌, ℕ, zero, suc, refl, ◌+◌, ◌<◌, ◌≤◌, List, [], ◌∷◌, ◌++◌, length, map, get_or, replicate, set, take, drop, sym, ap, ◌∙◌, arith, length-append, append-nil, drop_all, drop_more, get_or_at, get_or-map, length-drop, length-map, length-take, length-take-le, map-set, map_push, replicate_more, set_at, take_all, take_more, map-set_same, Option, None, subst, length-set, get_or-set_other, length-replicate, Queued, ◌^◌, eqb, Bool, All, IsTrue, ◌↔◌, list_all, All-push, list_all-map, list_all-from_AllPass, IsWithin, QueueView, QueuesView, list_at, Machine, machine_at, first_come, RanksView, most_ports}
+use Rattle.cq_ideal.proofs.Terms.{common_steps, ◌≡◌, ℕ, zero, suc, refl, ◌+◌, ◌<◌, ◌≤◌, List, [], ◌∷◌, ◌++◌, length, map, get_or, replicate, set, take, drop, sym, ap, ◌∙◌, arith, append-nil, drop_all, drop_more, get_or_at, get_or-map, length-map, length-take-le, map-set, map_push, replicate_more, set_at, take_all, take_more, map-set_same, Option, None, subst, length-set, length-replicate, Queued, ◌^◌, eqb, Bool, All, IsTrue, ◌↔◌, list_all, All-push, list_all-map, list_all-from_AllPass, IsWithin, QueueView, QueuesView, list_at, Machine, machine_at, first_come, RanksView, most_ports}
 use Rattle.cq_ideal.specs.Newcomers.{AreUsed}
 
 -- ## One item more
@@ -57,15 +57,11 @@ pub put_next : {X : Type 0} (new old now next : List X) (j : ℕ) (y d : X) → 
     next ≡ changed_to new old (j + 1)
 put_next new old now next j y d so_far put is same inside = cc ((next_place new old j y d same inside is))
 
-pub length-changed : {X : Type 0} (new old : List X) (j : ℕ) → length new ≡ length old →
-    length (changed_to new old j) ≡ length old
-length-changed new old j same = grind (arith, common_steps, length-append, length-take, length-drop)
-
 pub at_end : {X : Type 0} (new old : List X) (j : ℕ) → length new ≡ length old → length old ≤ j →
     changed_to new old j ≡ new
 at_end new old j same end = cc (drop_all j old end, append-nil (take j new), take_all j new (omega arith))
 
--- ## Which places may have a cell: none where all were cleared, and one more at most where one was filled
+-- ## Which places may have a cell: none where all were cleared
 
 pub none_used : (used : ℕ) (places : List (Option Queued)) → places ≡ replicate most_ports None → AreUsed used places
 none_used used places nobody =
@@ -74,10 +70,6 @@ none_used used places nobody =
       long = length-replicate most_ports none;
       beyond = λ k _. same_at none most_ports k;
     })
-
-pub one_used : (used now input : ℕ) (places : List (Option Queued)) (q : Option Queued) → AreUsed used places →
-    used ≤ now → input < now → AreUsed now (set places input q)
-one_used used now input places q had le inside = grind (arith, common_steps, length-set, get_or-set_other)
 
 -- ## The lists of the outputs
 
@@ -151,11 +143,6 @@ none_wait cells_of items lists b e l =
     grind (arith, common_steps, list_all-map none_in cells_of items, list_all-from_AllPass none_in lists)
 
 -- ## Their machines
-
--- there are as many states as machines
-pub as_many : {R : Type 0} (F S : R → List ℕ) (items : List R) (v : RanksView) →
-    record { fixed = map F items; states = map S items } ≡ v → length v.states ≡ length v.fixed
-as_many F S items v view_is = cc (length-map items S, length-map items F)
 
 module _ {R : Type 0} (F S : R → List ℕ) (items : List R) (o : ℕ) {r : R} {v : RanksView}
     (inside : o < length v.fixed) (is : r ≡ get_or items o r)

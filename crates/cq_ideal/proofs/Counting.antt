@@ -96,10 +96,6 @@ pub record Counting (cells : List (Option Cell)) (first : LimiterView) (input : 
 
 module _ {cells : List (Option Cell)} {first : LimiterView} {input : ℕ} {now : LimiterView}
     (so_far : Counting cells first input now) (has : HasPorts first) where
-  -- no input is left
-  pub counting_last : length first.limits ≤ input → now.refused ≡ with_refused (refused first.marks cells) first.refused
-  counting_last past = grind (arith, common_steps, drop_all, none_counted)
-
   module _ (few : length first.limits ≤ most_ports) (inside : input < length first.limits)
       (places : length cells ≡ most_ports) where
     split : (cell : Option Cell) → cell ≡ where_up (mark_at first.marks input) (arrival_at cells input) →

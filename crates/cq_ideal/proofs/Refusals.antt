@@ -1,7 +1,7 @@
 -- Counts of what is refused. A count over two lists is the sum of the counts over each, so counts add up slot by
 -- slot, output by output. And an arriving cell is admitted or refused by the mark of its input, so it is counted
 -- once.
-use Rattle.cq_ideal.proofs.Terms.{common_steps, ◌≡◌, ℕ, ◌+◌, Bool, List, [], ◌∷◌, ◌++◌, length, filter, Option, Some, None, refl, ap, ◌∙◌, append_assoc, arith, enumerate_from, filter_map, option_map, append-nil, length-append, filter-append, Cell, Refused, Admission, admission, admitted, marks_after, refused, count_for, AreAllZero, EachCountsOnce, cells_refused, packets_refused, refused_at, refused_counts, refused_in, with_refused}
+use Rattle.cq_ideal.proofs.Terms.{common_steps, ◌≡◌, ℕ, ◌+◌, Bool, List, [], ◌∷◌, ◌++◌, length, filter, Option, Some, None, refl, ap, ◌∙◌, append_assoc, arith, enumerate_from, filter_map, option_map, append-nil, length-append, filter-append, Cell, Refused, Admission, admitted, refused, count_for, AreAllZero, cells_refused, packets_refused, refused_at, refused_counts, refused_in, with_refused}
 
 -- ## Two lists of refused cells
 
@@ -46,7 +46,3 @@ pub each_once : (j : ℕ) (marks : List Bool) (cells : List (Option Cell)) →
 unfolding cells_refused
 each_once j (mark ∷ marks) (cell ∷ cells) = grind (arith, common_steps, each_once j marks cells)
 each_once j marks cells = omega arith
-
-pub counts_once : EachCountsOnce
-unfolding admission
-counts_once limits held marks cells j = each_once j (marks_after limits held marks cells) cells

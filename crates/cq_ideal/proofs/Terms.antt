@@ -27,7 +27,7 @@ unfoldable pub use Rattle.cq_ideal.specs.LimitedIdeal.{admitted_traffic, limited
 pub use Rattle.cq_ideal.specs.Limiter.{CanCount, ComeToPorts, HasPorts, HoldsLists, JudgesAsBefore, LimiterView, held_without, where_up}
 pub use Rattle.cq_ideal.specs.Parts.{AllArrivedBefore, AreParts, AreTold, AreWithinRooms, CameToPorts, CanPut, FirstsHaveLeft, FitTogether, HaveOwnKeys, HaveRoomFor, IsWithin, QueueView, QueuesView, RanksView, after_inputs, count_to, given_at, level_at, list_at, rank_at, state_of, with_came, with_cell}
 pub use Rattle.cq_ideal.specs.Ranking.{AreForPorts, Ranking, after_input, keyed, ranking}
-pub use Rattle.cq_ideal.specs.Refused.{AreAllZero, EachCountsOnce, refused_at, refused_in, with_cells, with_refused}
+pub use Rattle.cq_ideal.specs.Refused.{AreAllZero, refused_at, refused_in, with_cells, with_refused}
 unfoldable pub use Rattle.cq_ideal.specs.Refused.{cells_refused, packets_refused, refused_counts}
 pub use Rattle.cq_ideal.specs.WholePackets.{AreJudged, AreOfPackets, AreWholePackets, came_at, cells_at}
 pub use Rattle.cq_ideal.specs.declared.refused.Refused.{Refused}

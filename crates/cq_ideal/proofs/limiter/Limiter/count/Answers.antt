@@ -1,5 +1,5 @@
-use Rattle.cq_ideal.proofs.Terms.{rules, List, sym, ap, ◌∙◌, arith, Bool, arrival_at, mark_at, refused, where_up, nil_from_length}
-use Rattle.cq_ideal.proofs.Counting.{counting_last, counting_none, counting_some, fewer_left}
+use Rattle.cq_ideal.proofs.Terms.{rules, List, sym, ap, ◌∙◌, arith, Bool, arrival_at, mark_at, refused, where_up, nil_from_length, drop_all}
+use Rattle.cq_ideal.proofs.Counting.{counting_none, counting_some, fewer_left, none_counted}
 use Rattle.cq_ideal.proofs.limiter.Limiter.count.Goals as goal
 use Rattle.cq_ideal.proofs.limiter.Limiter.count.Goals.{in-Some, in-None}
 
@@ -31,4 +31,4 @@ inputs-preserved c =
     ]
 
 pub returns-clause-refused : goal.returns-clause-refused
-returns-clause-refused c = search (arith, rules, counting_last)
+returns-clause-refused c = search (arith, rules, drop_all, none_counted)

@@ -1,5 +1,5 @@
-use Rattle.cq_ideal.proofs.Terms.{rules, refl, arith}
-use Rattle.cq_ideal.proofs.Came.{if_some, putting_last, putting_next, putting_room}
+use Rattle.cq_ideal.proofs.Terms.{rules, refl, arith, get_or-drop}
+use Rattle.cq_ideal.proofs.Came.{if_some, nobody_left, putting_next, putting_room}
 use Rattle.cq_ideal.proofs.queues.Queues.arrive.Goals as goal
 
 pub inputs-init : goal.inputs-init
@@ -15,4 +15,4 @@ inputs-preserved c =
     search (arith, rules, putting_next c.requires.ports c.inputs.invariant c.requires.few)
 
 pub returns-clause-lists : goal.returns-clause-lists
-returns-clause-lists c = search (arith, rules, putting_last)
+returns-clause-lists c = search (arith, rules, nobody_left, c.requires.ports.inputs, get_or-drop)
