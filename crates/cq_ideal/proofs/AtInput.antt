@@ -42,19 +42,14 @@ all_in_order i came inputs rise = ⊎_elim (λ inside. come_in_order i inside ca
 -- ## A flow comes at its input
 
 module _ (i c j : ℕ) where
-  other : (cell : Cell) (cells : List Cell) → (cell.id.input ≡ i → ⊥) →
-      of_flow i c j (cell ∷ cells) ≡ of_flow i c j cells
-  unfolding of_flow
-  other cell cells ne = grind (arith, common_steps)
-
   none_past : (a : ℕ) (cells : List (Option Cell)) → StandAt a cells → i < a → of_flow i c j (present cells) ≡ []
-  unfolding of_flow other
+  unfolding of_flow
   none_past a [] at lt = refl
-  none_past a (cell ∷ cells) at lt = grind (arith, common_steps, other, present, none_past (a + 1) cells)
+  none_past a (cell ∷ cells) at lt = grind (arith, common_steps, present, none_past (a + 1) cells)
 
   at_place : (a k : ℕ) (cells : List (Option Cell)) → StandAt a cells → i ≡ a + k →
       of_flow i c j (present cells) ≡ of_flow i c j (cell_listed (arrival_at cells k))
-  unfolding of_flow other none_past
+  unfolding of_flow
   at_place a k [] at e = refl
   at_place a zero cells at e = grind (arith, common_steps, none_past, is_of_flow)
   at_place a (suc k) cells at e = grind (arith, common_steps, at_place (a + 1) k)

@@ -4,7 +4,7 @@
 -- the slot that follows. Where cells are ranked one after another, what came so far stands in front of the ranking of
 -- the others. The definition puts them all into the lists; the code puts one after another: putting the first cell,
 -- and then the others, is putting them all, and where a list has room for all of them it has for each in turn.
-use Rattle.cq_ideal.proofs.Terms.{rules, ⊎_elim, ◌≡◌, ℕ, zero, suc, ◌+◌, List, [], ◌∷◌, length, get_or, Option, Some, None, Result, Ok, sym, ap, ◌∙◌, arith, length-set, common_steps, same_Some, Cell, Queued, TagFault, arrival_at, Machine, CameToPorts, Ranking, ranking, after_input, AreForPorts, ◌≤◌, cond, replicate, refl, ◌<◌, AllByRecursion, cond_both, cases_lt, put, is_for, other_key_newest, filled, put_all, rests, AllArrivedBefore, HaveOwnKeys, list_at, all_put, get_or_past, ◌++◌, map, set, take, drop, Err, get_or-set_other, ext_get_or, get_or-drop, length-drop, length-replicate, take-append-drop, take_more_set, unwrap_or-slice_get, RanksView, after_inputs, ◌≢◌, get_or-set_same, IfSome, cases_Bool, eqb-true, eq-eqb, length-map, drop_more, HasOtherKey, CanPut, QueuesView, FitTogether, HaveRoomFor, with_came, with_cell, length_put, all_weaker, most_ports}
+use Rattle.cq_ideal.proofs.Terms.{rules, ⊎_elim, ◌≡◌, ℕ, zero, suc, ◌+◌, List, [], ◌∷◌, length, get_or, Option, Some, None, Result, Ok, ap, arith, length-set, common_steps, same_Some, Cell, Queued, TagFault, arrival_at, Machine, CameToPorts, Ranking, ranking, after_input, AreForPorts, ◌≤◌, cond, replicate, refl, ◌<◌, AllByRecursion, cond_both, cases_lt, put, is_for, other_key_newest, filled, put_all, rests, AllArrivedBefore, HaveOwnKeys, list_at, all_put, get_or_past, ◌++◌, map, set, take, drop, Err, get_or-set_other, ext_get_or, get_or-drop, length-drop, length-replicate, take-append-drop, take_more_set, unwrap_or-slice_get, RanksView, after_inputs, ◌≢◌, get_or-set_same, IfSome, cases_Bool, eqb-true, eq-eqb, length-map, drop_more, HasOtherKey, CanPut, QueuesView, FitTogether, HaveRoomFor, with_came, with_cell, length_put, all_weaker, most_ports}
 use Rattle.cq_ideal.proofs.FlowRank.{after_input_ok, fits_ok}
 use Rattle.cq_ideal.proofs.Waiting.{filled_at, length-filled, filled_none}
 use Rattle.cq_ideal.proofs.Changed.{same_at}
@@ -23,8 +23,7 @@ came_from ms slot i cells ranks r h zero q e = search (arith, rules, after_input
 came_from ms slot i (None ∷ cells) ranks r h (suc k) q e =
     search (arith, rules, after_input_ok, came_from ms slot (i + 1) cells ranks)
 came_from ms slot i (Some cell ∷ cells) ranks r h (suc k) q e =
-    let w = after_input_ok _ _ r (fits_ok _ _ _ r h) in
-    let later = came_from ms slot (i + 1) cells _ w.0 w.1 k q (rw (← w.2) at e) in search (arith, rules)
+    search (arith, rules, after_input_ok, fits_ok, came_from ms slot (i + 1) cells)
 
 -- there are as many rank states as before
 pub ranks_kept : (ms : List Machine) (slot i : ℕ) (cells : List (Option Cell)) (ranks : List (List ℕ)) (r : Ranking) →
@@ -32,9 +31,7 @@ pub ranks_kept : (ms : List Machine) (slot i : ℕ) (cells : List (Option Cell))
 ranks_kept ms slot i [] ranks r h = grind (arith, common_steps)
 ranks_kept ms slot i (None ∷ cells) ranks r h = search (rules, after_input_ok, ranks_kept ms slot (i + 1) cells ranks)
 ranks_kept ms slot i (Some cell ∷ cells) ranks r h =
-    let w = after_input_ok _ _ r (fits_ok _ _ _ r h) in
-    ap (λ (x : Ranking). length x.ranks) (sym w.2) ∙ ranks_kept ms slot (i + 1) cells _ w.0 w.1
-    ∙ length-set ranks cell.output _
+    search (arith, rules, after_input_ok, fits_ok, ranks_kept ms slot (i + 1) cells, length-set)
 
 -- so they come to the ports that they arrive at, for the ports that they are for
 pub came_to_ports : (ms : List Machine) (slot ports class_count : ℕ) (cells : List (Option Cell))
@@ -183,9 +180,6 @@ filled_next : (o : Option Queued) (came : List (Option Queued)) (lists : List (L
 unfolding filled
 filled_next q came lists inside = grind (arith, common_steps, one_put, length-set)
 
-length-with_came : (o : Option Queued) (lists : List (List Queued)) → length (with_came o lists) ≡ length lists
-length-with_came q lists = grind (arith, common_steps, length-set, put, list_at)
-
 -- where no cell came nothing changes
 pub nobody_left : (came : List (Option Queued)) (lists : List (List Queued)) →
     ((k : ℕ) (q : Queued) → get_or came k None ≡ Some q → ⊥) → filled came lists ≡ lists
@@ -241,7 +235,7 @@ module _ {came : List (Option Queued)} {first : QueuesView} {input : ℕ} {queue
     pub putting_next : (new : QueuesView) → new.lists ≡ with_came (get_or came input None) queues.lists →
         new.rooms ≡ queues.rooms → Putting came first (input + 1) new
     putting_next new lists rooms =
-        search (arith, rules, next, length-with_came, own_keys_rest, filled_next, one_put, length_put)
+        search (arith, rules, next, length-set, own_keys_rest, filled_next, one_put, length_put)
 
 -- parts that have as many outputs as others fit as these do
 pub fit_same : (M : List ℕ → Machine) (ranks ranks_new : RanksView) (queues queues_new : QueuesView) →

@@ -3,7 +3,7 @@
 -- are judged one after another: the marks so far, and then those of judging what is left, are those of judging all; and
 -- what the outputs hold so far, with what is still to be admitted, is what they hold at the end.
 
-use Rattle.cq_ideal.proofs.Terms.{rules, ◌≡◌, ◌≢◌, ℕ, zero, suc, ◌+◌, ◌-◌, ◌<◌, ◌≤◌, ◌^◌, eqb, Bool, true, false, cond, List, [], ◌∷◌, ◌++◌, length, drop, get_or, set, Option, Some, None, refl, sym, ap, ◌∙◌, arith, common_steps, All-from_recursion, drop_all, drop_more, get_or-map, length-map, Cell, arrival_at, Refused, is_first, mark_at, refused, CanCount, HasPorts, LimiterView, where_up, cells_refused, packets_refused, refused_counts, with_cells, with_refused, take, get_or-set_same, get_or-set_other, cases_Bool, eqb-true, eq-eqb, ne_eqb, drop-set-lt, length-set, set-get_or, take_all, append-nil, admitted, mark_after, held_after, marks_after, count_for, ComeToPorts, all_weaker, most_ports, few_kept}
+use Rattle.cq_ideal.proofs.Terms.{rules, ◌≡◌, ◌≢◌, ℕ, zero, suc, ◌+◌, ◌-◌, ◌<◌, ◌≤◌, ◌^◌, eqb, Bool, true, false, cond, List, [], ◌∷◌, ◌++◌, length, drop, get_or, set, Option, Some, None, refl, ap, ◌∙◌, arith, common_steps, All-from_recursion, drop_all, drop_more, get_or-map, length-map, Cell, arrival_at, Refused, is_first, mark_at, refused, CanCount, HasPorts, LimiterView, where_up, cells_refused, packets_refused, refused_counts, with_cells, with_refused, take, get_or-set_same, get_or-set_other, cases_Bool, eqb-true, eq-eqb, ne_eqb, drop-set-lt, length-set, set-get_or, take_all, append-nil, admitted, mark_after, held_after, marks_after, count_for, ComeToPorts, all_weaker, most_ports, few_kept}
 use Rattle.cq_ideal.specs.Taking.{HasJudged}
 use Rattle.cq_ideal.proofs.Refusals.{all_zero, count_both}
 use Rattle.cq_ideal.proofs.Changed.{at_place, changed_to, next_place}
@@ -62,9 +62,7 @@ module _ (cell : Cell) (first : List Refused) (place : ℕ) (now : List Refused)
   pub untouched_next : (d : Refused) → (get_or now place d).output ≢ cell.output →
       now ≡ changed_to (with_refused (cell ∷ []) first) first (place + 1)
   untouched_next d other =
-      let same : get_or now place d
-      ≡ with_cells (cell ∷ []) (get_or now place d) = search (arith, rules, other_output, ne_eqb) in
-      sym (set-get_or now place d) ∙ tallied_next d (get_or now place d) same
+      search (arith, rules, set-get_or now place d, tallied_next d (get_or now place d), other_output, ne_eqb)
 
 -- ## Cells one after another
 
@@ -151,9 +149,6 @@ raised : (held : List ℕ) (o j : ℕ) → o < length held →
     get_or (set held o (get_or held o 0 + 1)) j 0 ≡ get_or held j 0 + one_if (eqb o j)
 raised held o j inside = grind (arith, common_steps, cases_Bool, eqb-true, get_or-set_same, get_or-set_other, eq-eqb)
 
-as_many : (up : Bool) (held : List ℕ) (cell : Option Cell) → length (held_after up held cell) ≡ length held
-as_many b held cell = grind (arith, common_steps, length-set)
-
 none_to_count : (j : ℕ) (cells : List (Option Cell)) → ((k : ℕ) (c : Cell) → get_or cells k None ≡ Some c → ⊥) →
     count_for j cells ≡ 0
 none_to_count j [] none = refl
@@ -168,7 +163,7 @@ module _ {cells : List (Option Cell)} {first : LimiterView} {input : ℕ} {now :
       after.held ≡ held_after up now.held cell → after.limits ≡ now.limits → after.refused ≡ now.refused →
       Judging cells first (input + 1) after
   judged_next after cell up lt here inside turned marks held limits refused =
-      search (arith, rules, drop-set-lt, drop_more, one_more, length-set, as_many, raised)
+      search (arith, rules, drop-set-lt, drop_more, one_more, length-set, raised)
 
   -- where no cell arrives nothing changes
   pub judged_none : input < length first.marks → drop input cells ≡ None ∷ drop (input + 1) cells →

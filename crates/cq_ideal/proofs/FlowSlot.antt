@@ -1,7 +1,7 @@
 -- One slot at one output. After its arrivals the output sends the first cell of its list, and a sending lowers no
 -- floor; where it sends nothing its list is empty. So what is known of the list stays known. And what the list showed
 -- of a flow, and then what arrived of it, is what the output sent of it, and then what the list shows afterwards.
-use Rattle.cq_ideal.proofs.Terms.{rules, ◌≡◌, ℕ, ◌+◌, ◌<◌, List, [], ◌∷◌, ◌++◌, length, drop, Option, Some, None, Ok, arith, common_steps, slice_get, slice_index_or, get_or-map, length-map, Cell, Queued, Machine, KeepsLaws, machine_at, told, Ranking, ranking, IdealState, Sent, put_all, ideal_slot, all_weaker}
+use Rattle.cq_ideal.proofs.Terms.{rules, ◌≡◌, ℕ, ◌+◌, ◌<◌, List, [], ◌∷◌, ◌++◌, length, Option, Some, None, Ok, arith, common_steps, slice_index_or, get_or-map, length-map, Cell, Queued, Machine, KeepsLaws, machine_at, Ranking, ranking, IdealState, Sent, put_all, ideal_slot, all_weaker}
 use Rattle.cq_ideal.proofs.FlowStands.{Stands, is_kind, shown, of_flow}
 use Rattle.cq_ideal.proofs.FlowRank.{present, AreOfClasses, Filled, filled_from}
 use Rattle.cq_ideal.proofs.Sending.{length-told, told_at}
@@ -13,13 +13,6 @@ listed None = []
 listed (Some q) = q ∷ []
 
 -- ## What is left of a list
-
-stands_sent : (m : Machine) (laws : KeepsLaws m) (state : List ℕ) (slot : ℕ) (ys : List Queued) →
-    Stands m state slot 0 ys → Stands m (told m state (slice_get ys 0)) slot 0 (drop 1 ys)
-stands_sent m laws state slot ys stands = grind (arith, common_steps, all_weaker)
-
-shown_sent : (i c : ℕ) (ys : List Queued) → shown i c ys ≡ shown i c (listed (slice_get ys 0)) ++ shown i c (drop 1 ys)
-shown_sent i c ys = grind (arith, common_steps, is_kind)
 
 -- ## What stands at one output after the slot
 
@@ -39,7 +32,7 @@ module _ (ms : List Machine) (j slot : ℕ) (laws : KeepsLaws (machine_at ms j))
   served_from come old r in_lists in_ranks f =
       let many = length-filled r.came old.lists in
       let here = filled_at r.came old.lists j in_lists in
-      search (arith, rules, get_or-map, told_at, stands_sent, Stands, length-told, length-map, shown_sent, shown)
+      search (arith, rules, get_or-map, told_at, Stands, all_weaker, length-told, length-map, is_kind, shown)
 
   pub served : (cells : List (Option Cell)) (old : IdealState) (sent : Sent) →
       ideal_slot ms slot cells old ≡ Ok sent → j < length old.lists → j < length old.ranks →

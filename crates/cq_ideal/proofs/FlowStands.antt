@@ -47,12 +47,6 @@ is_of_flow i c j cell = cell.output == j && (cell.id.input == i && cell.class ==
 unfoldable pub of_flow : ℕ → ℕ → ℕ → List Cell → List Cell
 of_flow i c j cells = filter (is_of_flow i c j) cells
 
--- the first cell's part of the flow, and then the rest's
-pub of_flow-cons : (i c j : ℕ) (cell : Cell) (cells : List Cell) →
-    of_flow i c j (cell ∷ []) ++ of_flow i c j cells ≡ of_flow i c j (cell ∷ cells)
-unfolding of_flow
-of_flow-cons i c j cell cells = grind (arith, common_steps, cond_both, cond-true, cond-false)
-
 -- ## One cell more
 
 module _ (m : Machine) (laws : KeepsLaws m) (state : List ℕ) (slot input : ℕ) (xs : List Queued)

@@ -145,8 +145,7 @@ module _ (limits : List (Option ℕ)) (ms : List Machine) (ports : ℕ) (ranks :
       search (arith, rules, y.first last f.first.after, at_ok (run_to last) f.first f.ran_first)
 
   fault_kept : (m n : ℕ) (fault : TagFault) → m ≤ n → run_to m ≡ Err fault → run_to n ≡ Err fault
-  fault_kept m n fault le is = goes_on m (n - m) n (omega arith)
-      ∙ ap (limited_going_on limits ms m (arriving_from came m (n - m))) is
+  fault_kept m n fault le is = search (arith, rules, goes_on m (n - m) n)
 
   -- a fault in some slots is one of the whole run
   faulty : (n : ℕ) (fault : TagFault) → run_to n ≡ Err fault → (x : Result LimitedRan TagFault) → run_to last ≡ x →
@@ -158,8 +157,7 @@ module _ (limits : List (Option ℕ)) (ms : List Machine) (ports : ℕ) (ranks :
   pub limited_whole_fault : (n : ℕ) (fault : TagFault) → run_to n ≡ Err fault →
       whole_limited_run limits ms came (empty_limited ports ranks) ≡ Err fault
   unfolding whole_limited_run
-  limited_whole_fault n fault is = ⊎_elim (λ (lt : n < last). fault_kept n last fault (omega arith) is)
-      (λ (le : last ≤ n). faulty n fault is (run_to last) refl le) (cases_lt n last)
+  limited_whole_fault n fault is = search (arith, rules, fault_kept n last, faulty n fault is (run_to last), cases_lt n last)
 
   -- the run over as many slots as are enough
   pub limited_over_all : (ran : LimitedRan) → run_to last ≡ Ok ran → SameSlots (enough came) ran

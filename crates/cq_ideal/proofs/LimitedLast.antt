@@ -67,8 +67,7 @@ module _ (limits : List (Option ℕ)) (ms : List Machine) (ports : ℕ) (ranks :
       let come = (limited_over_at_end limits ms ports ranks came ran it_is).0 in
       let long = gone_long limits ms ports ranks came slots ran it_is in
       let within = slots_within 0 ran.gone in
-      ⊎_elim (λ (soon : end_of came < slots). let l = late (slots - 1) (omega arith) (omega arith) in omega arith)
-      (λ (all : slots ≤ end_of came). omega arith) (cases_lt (end_of came) slots)
+      search (arith, rules, late (slots - 1), cases_lt)
 
 -- ## The switch without limits
 

@@ -1,6 +1,6 @@
 -- Runs with limits, in parts: the first slots of one, and the run that goes on where they end. Once no cell is to
 -- come and none waits, it sends nothing, and refuses nothing.
-use Rattle.cq_ideal.proofs.Terms.{◌≡◌, ℕ, ◌+◌, ◌≤◌, Bool, List, [], ◌∷◌, ◌++◌, length, replicate, Option, Result, Ok, Err, refl, ap, ◌∙◌, arith, zero, suc, None, no_arrivals, Arrival, end_of, Cell, Queued, TagFault, Machine, Admission, Marked, marked, nothing_refused, arriving_from, departures_of, ideal_run, empty_ideal, IdealState, departures_from, departures_in, LimitedRan, LimitedSent, limited_run, then_limited, nothing_came, refused_in, common_steps}
+use Rattle.cq_ideal.proofs.Terms.{◌≡◌, ℕ, ◌+◌, ◌≤◌, Bool, List, [], ◌∷◌, ◌++◌, length, replicate, Option, Result, Ok, Err, refl, ap, ◌∙◌, arith, zero, suc, None, no_arrivals, Arrival, end_of, Cell, Queued, TagFault, Machine, Admission, Marked, marked, nothing_refused, arriving_from, departures_of, ideal_run, empty_ideal, IdealState, departures_from, departures_in, LimitedRan, limited_run, nothing_came, refused_in, common_steps}
 use Rattle.cq_ideal.proofs.LimitedRuns.{goes_on, rest_refuses_none}
 use Rattle.cq_ideal.proofs.Resting.{all_empty, idle_run}
 use Rattle.cq_ideal.proofs.Ends.{nothing_left}
@@ -16,11 +16,6 @@ behind admissions gone (Err fault) = Err fault
 
 behind-none : (x : Result LimitedRan TagFault) → x ≡ behind [] [] x
 behind-none fault = grind (arith, common_steps)
-
-one_more : (sent : LimitedSent) (admissions : List Admission) (gone : List (List (Option Queued)))
-    (x : Result LimitedRan TagFault) →
-    then_limited sent (behind admissions gone x) ≡ behind (sent.admission ∷ admissions) (sent.gone ∷ gone) x
-one_more sent admissions gone fault = grind (arith, common_steps)
 
 pub no_departures : (n slot j : ℕ) → departures_from slot j (replicate n None) ≡ []
 no_departures zero slot j = refl
@@ -42,17 +37,13 @@ module _ (limits : List (Option ℕ)) (ms : List Machine) where
   limited_going_on slot traffic (Ok ran) = behind ran.admissions ran.gone (limited_run limits ms slot traffic ran.after)
   limited_going_on slot traffic (Err fault) = Err fault
 
-  then_on : (n : ℕ) (after : List (List (Option Cell))) (sent : LimitedSent) (y : Result LimitedRan TagFault) →
-      then_limited sent (limited_going_on n after y) ≡ limited_going_on n after (then_limited sent y)
-  then_on n after sent fault = grind (arith, common_steps, one_more, limited_run)
-
   pub limited_parts : (slot n : ℕ) (before after : List (List (Option Cell))) (s : Marked IdealState) →
       n ≡ slot + length before →
       limited_run limits ms slot (before ++ after) s ≡ limited_going_on n after (limited_run limits ms slot before s)
   unfolding limited_run goes_on
   limited_parts slot n [] after s e = grind (arith, common_steps, behind-none)
   limited_parts slot n (cells ∷ before) after s e =
-      grind (arith, common_steps, then_on, limited_parts (slot + 1) n before after)
+      grind (arith, common_steps, limited_parts (slot + 1) n before after)
 
   -- ## Nothing comes, and nothing waits
 

@@ -1,7 +1,7 @@
 -- A run with limits is the run without limits of the admitted arrivals: both step through the same slots, and end at
 -- the same fault. Where no output has a limit all arrivals are admitted, so it is the run without limits of all
 -- arrivals.
-use Rattle.cq_ideal.proofs.Terms.{common_steps, rules, arith, ◌≡◌, ℕ, ◌+◌, Bool, List, [], ◌∷◌, map, replicate, Option, Result, Ok, Err, refl, ap, ◌∙◌, AllByRecursion, Cell, no_arrivals, TagFault, Machine, Admission, Marked, NoLimits, RefusesNone, admitted_in, marked, marks_down, nothing_refused, IdealState, Sent, ideal_slot, Ran, ideal_run, nothing_sent, LimitedSent, LimitedRan, with_admission, limited_slot, then_limited, in_front, limited_run, nothing_came, admitted_traffic, unlimited, AreJudged, All-replicate, all_from_has, recursion_from_All}
+use Rattle.cq_ideal.proofs.Terms.{common_steps, rules, arith, ◌≡◌, ℕ, ◌+◌, Bool, List, [], ◌∷◌, map, replicate, Option, Result, Ok, Err, refl, ap, AllByRecursion, Cell, no_arrivals, TagFault, Machine, Marked, NoLimits, RefusesNone, admitted_in, marked, marks_down, nothing_refused, IdealState, Ran, ideal_run, nothing_sent, LimitedSent, LimitedRan, limited_slot, then_limited, in_front, limited_run, nothing_came, admitted_traffic, unlimited, AreJudged, All-replicate, all_from_has, recursion_from_All}
 use Rattle.cq_ideal.proofs.Changed.{map-replicate}
 use Rattle.cq_ideal.proofs.Admitted.{no_arrivals_refuse_none, no_limits_refuse_none}
 
@@ -35,11 +35,6 @@ module _ (limits : List (Option ℕ)) (ms : List Machine) where
 
   -- ## One slot of a run
 
-  -- it says which marks are up after it
-  its_admission : (a : Admission) (x : Result Sent TagFault) (sent : LimitedSent) → with_admission a x ≡ Ok sent →
-      (sent.admission ≡ a) × (sent.after.marks ≡ a.marks)
-  its_admission a fault sent h = grind (arith, common_steps)
-
   module _ (slot : ℕ) (cells : List (Option Cell)) (traffic : List (List (Option Cell))) (old : Marked IdealState) where
     pub run_step : (sent : LimitedSent) → limited_slot limits ms slot cells old ≡ Ok sent →
         limited_run limits ms slot (cells ∷ traffic) old ≡ then_limited sent
@@ -56,7 +51,7 @@ module _ (limits : List (Option ℕ)) (ms : List Machine) where
         admitted_traffic limits ms slot (cells ∷ traffic) old ≡ sent.admission.cells ∷ admitted_traffic limits ms
         (slot + 1) traffic sent.after
     unfolding admitted_traffic admitted_later limited_slot
-    admitted_step sent is = grind (arith, common_steps, its_admission)
+    admitted_step sent is = grind (arith, common_steps)
 
   -- ## A run that ends without a fault
 
@@ -74,7 +69,7 @@ module _ (limits : List (Option ℕ)) (ms : List Machine) where
   judged slot [] old ran h = grind (arith, common_steps)
   judged slot (cells ∷ traffic) old ran h = slot_ok (λ y. AreJudged limits old.marks (cells ∷ traffic) y.admissions)
       slot traffic (limited_slot limits ms slot cells old) ran h (λ sent rest is more.
-      search (arith, rules, its_admission, judged (slot + 1) traffic sent.after rest more))
+      search (arith, rules, judged (slot + 1) traffic sent.after rest more))
 
   -- what was admitted is what its admissions say
   pub admitted_are : (slot : ℕ) (traffic : List (List (Option Cell))) (old : Marked IdealState) (ran : LimitedRan) →
@@ -95,28 +90,18 @@ module _ (limits : List (Option ℕ)) (ms : List Machine) where
   -- ## Where nothing is refused
 
   module _ (marks : List Bool) where
-    pub slot_of_none : (slot : ℕ) (cells : List (Option Cell)) (s : IdealState) → RefusesNone limits marks cells →
-        limited_slot limits ms slot cells (marked marks s)
-        ≡ with_admission (nothing_refused marks cells) (ideal_slot ms slot cells s)
-    unfolding limited_slot
-    slot_of_none slot cells s none = grind (arith, common_steps)
-
     pub run_of_none : (slot : ℕ) (traffic : List (List (Option Cell))) (s : IdealState) →
         AllByRecursion (RefusesNone limits marks) traffic →
         limited_run limits ms slot traffic (marked marks s)
         ≡ none_refused_ran marks traffic (ideal_run ms slot traffic s)
-    unfolding limited_run ideal_run goes_on
+    unfolding limited_run ideal_run goes_on limited_slot
     run_of_none slot [] s none = refl
-    run_of_none slot (cells ∷ traffic) s none = search (arith, rules, slot_of_none, run_of_none (slot + 1) traffic)
-
-    none_refused : (traffic : List (List (Option Cell))) (x : Result Ran TagFault) →
-        unlimited (none_refused_ran marks traffic x) ≡ x
-    none_refused traffic fault = grind (arith, common_steps)
+    run_of_none slot (cells ∷ traffic) s none = search (arith, rules, run_of_none (slot + 1) traffic)
 
     pub run_of_all : (slot : ℕ) (traffic : List (List (Option Cell))) (s : IdealState) →
         AllByRecursion (RefusesNone limits marks) traffic →
         unlimited (limited_run limits ms slot traffic (marked marks s)) ≡ ideal_run ms slot traffic s
-    run_of_all slot traffic s none = ap unlimited (run_of_none slot traffic s none) ∙ none_refused traffic _
+    run_of_all slot traffic s none = grind (arith, common_steps, run_of_none slot traffic s none)
 
   pub none_refused_in : (ports : ℕ) (traffic : List (List (Option Cell))) → NoLimits limits →
       AllByRecursion (RefusesNone limits (marks_down ports)) traffic

@@ -45,10 +45,6 @@ beyond : (b : Bool) (f : ℕ → Bool) (n next : ℕ) (cells : List Cell) → n 
 beyond b f n next [] lt are = tt
 beyond b f n next (cell ∷ cells) lt are = grind (arith, common_steps, past, beyond b f n (cell.id.packet + 1) cells)
 
-kept : (up b : Bool) (cell : Cell) (taken : List Cell) → b ≡ not up →
-    cons_option (unless up (Some cell)) taken ≡ cond b (cell ∷ taken) taken
-kept b b' cell taken e = grind (arith, common_steps)
-
 step : (next : ℕ) (mark up : Bool) (x : Option Cell) (came taken refused : List Cell) → (GoesOn x → up ≡ mark) →
     AreOfPackets next (cons_option x came) → ((n : ℕ) → AreOfPackets n came → TakenOrRefused n up came taken refused) →
     TakenOrRefused next mark (cons_option x came) (cons_option (unless up x) taken)
@@ -59,7 +55,7 @@ step next mark up (Some cell) came taken refused same are rest =
     let r = rest (cell.id.packet + 1) are.1 in
     let f = r.is_taken in
     let all : cons_option (unless up (Some cell)) taken
-    ≡ filter (λ c. f c.id.packet) (cell ∷ came) = search (arith, rules, kept) in
+    ≡ filter (λ c. f c.id.packet) (cell ∷ came) = grind (arith, common_steps) in
     let none : cons_option (where_up up (Some cell)) refused
     ≡ filter (λ c. not (f c.id.packet)) (cell ∷ came) = search (arith, rules, common_steps) in
     ⊎_elim (λ on. search (arith, rules)) (λ new. let g : ℕ → Bool = λ n. cond (nat_lt n next) (not mark) (f n) in

@@ -55,9 +55,6 @@ pub record Sending (M : List ℕ → Machine) (slot : ℕ) (first_ranks : RanksV
   pub holds : HoldsLists queues.lists limiter
   pub judges : JudgesAsBefore first_limiter limiter
 
-length-one : (slot j : ℕ) (gone : Option Queued) → length (one_sent slot j gone) ≤ 1
-length-one slot j q = grind (arith, common_steps)
-
 module _ {M : List ℕ → Machine} {slot : ℕ} {first_ranks : RanksView} {first_queues : QueuesView}
     {first_limiter : LimiterView} {first_sent : RoomView Departure} {output : ℕ} {ranks : RanksView}
     {queues : QueuesView} {limiter : LimiterView} {sent : RoomView Departure}
@@ -87,7 +84,7 @@ module _ {M : List ℕ → Machine} {slot : ℕ} {first_ranks : RanksView} {firs
       let later = departures_from slot (output + 1) (drop (output + 1) (fronts old)) in
       let both : one_sent slot output gone ++ later ≡ departures_from slot output (drop output (fronts old)) =
       grind (arith, common_steps) in
-      search (arith, rules, length-append, length-one, length-set, told_next, put_next, append_assoc)
+      search (arith, rules, length-append, length-set, told_next, put_next, append_assoc)
 
   -- what the slot leaves
   pub record AreSent : Type 0 where

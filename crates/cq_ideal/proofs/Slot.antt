@@ -108,8 +108,7 @@ module _ {M : List ℕ → Machine} {slot : ℕ} {cells : List (Option Cell)} {v
     pub limited_fault : {fault : TagFault} →
         ranking (map M ranks.fixed) slot 0 (admitted judged.marks cells) ranks.states ≡ Err fault →
         limited_slot v.limits (map M v.fixed) slot cells (marked_state v) ≡ Err fault
-    limited_fault err = judged_slot ∙ ap (with_admission (by_marks judged.marks cells))
-        (ideal_is ∙ ap (ideal_sends (map M ranks.fixed) (state_of ranks queues)) err)
+    limited_fault err = search (arith, rules, judged_slot, ideal_is)
 
     module _ {ranks_new : RanksView} {came : List (Option Queued)}
         (taken : HasTakenIn (map M ranks.fixed) slot cells ranks ranks_new old judged came) where

@@ -1,7 +1,7 @@
 -- Each cell stands at the place of the input that its id names, in each slot of a run, and among the admitted ones
 -- too. So of the cells that are refused in a slot only the one at the place of an input is of that input, and it is
 -- refused where the mark is up.
-use Rattle.cq_ideal.proofs.Terms.{all_made, rules, ◌≡◌, ℕ, zero, suc, ◌+◌, ◌<◌, Bool, List, [], ◌∷◌, map, filter, Option, Some, None, refl, ap, ◌∙◌, arith, common_steps, ◌==◌, AllByRecursion, range_with_len, and_parts, eqb-true, cond-false, cond-true, eq-eqb, ne_eqb, filter-append, Cell, Arrival, arriving, arriving_at, enough, traffic_of, arrival_at, Admission, admitted, mark_at, refused, where_up, refused_in, AreJudged, most_ports}
+use Rattle.cq_ideal.proofs.Terms.{all_made, rules, ◌≡◌, ℕ, zero, suc, ◌+◌, ◌<◌, Bool, List, [], ◌∷◌, map, filter, Option, Some, None, refl, ap, ◌∙◌, arith, common_steps, ◌==◌, AllByRecursion, range_with_len, and_parts, eqb-true, cond-true, eq-eqb, filter-append, Cell, Arrival, arriving, arriving_at, enough, traffic_of, arrival_at, Admission, admitted, mark_at, refused, where_up, refused_in, AreJudged, most_ports}
 use Rattle.cq_ideal.proofs.Admitted.{its_marks}
 use Rattle.cq_ideal.proofs.FlowFound.{cell_listed, listed}
 use Rattle.cq_ideal.proofs.Packets.{refused_here}
@@ -43,20 +43,17 @@ module _ (i : ℕ) where
   abbrev pub of_input : List Cell → List Cell
   of_input cells = filter (λ cell. cell.id.input == i) cells
 
-  other_input : (cell : Cell) (cells : List Cell) → (cell.id.input ≡ i → ⊥) → of_input (cell ∷ cells) ≡ of_input cells
-  other_input cell cells ne = grind (arith, common_steps, cond-false, cell.id.input, ne_eqb)
-
   none_past : (a : ℕ) (marks : List Bool) (cells : List (Option Cell)) → StandAt a cells → i < a →
       of_input (refused marks cells) ≡ []
   none_past a [] cells at lt = refl
-  none_past a (mark ∷ marks) cells at lt = grind (arith, common_steps, other_input, refused, none_past (a + 1) marks)
+  none_past a (mark ∷ marks) cells at lt = grind (arith, common_steps, refused, none_past (a + 1) marks)
 
   refused_at_place : (a k : ℕ) (marks : List Bool) (cells : List (Option Cell)) → StandAt a cells → i ≡ a + k →
       of_input (refused marks cells) ≡ cell_listed (where_up (mark_at marks k) (arrival_at cells k))
   refused_at_place a k [] cells at e = refl
   refused_at_place a k (mark ∷ marks) [] at e = search (arith, rules, cell_listed)
   refused_at_place a zero marks cells at e = search (arith, rules, none_past, cond-true, of_input, refused, eq-eqb)
-  refused_at_place a (suc k) marks cells at e = grind (arith, common_steps, other_input, refused_at_place (a + 1) k)
+  refused_at_place a (suc k) marks cells at e = grind (arith, common_steps, refused_at_place (a + 1) k)
 
   pub refused_are : (limits : List (Option ℕ)) (marks : List Bool) (traffic : List (List (Option Cell)))
       (admissions : List Admission) → AreJudged limits marks traffic admissions → AllByRecursion (StandAt 0) traffic →

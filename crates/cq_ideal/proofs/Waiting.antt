@@ -2,7 +2,7 @@
 -- together get as many cells as arrive, and each list as many as arrive for its output. A list that is not empty
 -- sends one cell. So what waits and what is sent are together what waited and what arrived, and unless nothing waits
 -- after the slot fewer cells wait than waited and arrived.
-use Rattle.cq_ideal.proofs.Terms.{common_steps, rules, ◌≡◌, ◌≢◌, ℕ, zero, suc, ◌+◌, ◌-◌, ◌<◌, ◌≤◌, cond, List, [], ◌∷◌, length, map, Option, Some, None, Result, Ok, refl, ap, arith, is_some, slice_index_or, range_with_len, cases_eq, length-map, ext_get_or, get_or-map-range_with_len, length-map-range_with_len, Cell, Queued, TagFault, put, is_for, Machine, count_for, Ranking, ranking, count_to, IdealState, Sent, put_all, filled, fronts, rests, all_told, ideal_sends, ideal_slot, departures_from, departures_in, length_put}
+use Rattle.cq_ideal.proofs.Terms.{common_steps, rules, ◌≡◌, ◌≢◌, ℕ, zero, suc, ◌+◌, ◌-◌, ◌<◌, ◌≤◌, cond, List, [], ◌∷◌, length, map, Option, Some, None, Result, Ok, refl, arith, is_some, slice_index_or, range_with_len, cases_eq, length-map, ext_get_or, get_or-map-range_with_len, length-map-range_with_len, Cell, Queued, TagFault, put, is_for, Machine, count_for, Ranking, ranking, count_to, IdealState, Sent, put_all, filled, fronts, rests, all_told, ideal_sends, ideal_slot, departures_from, departures_in, length_put}
 use Rattle.cq_ideal.proofs.FlowRank.{after_input_ok, fits_ok, only_ok, present}
 
 -- ## Numbers that are added over a range
@@ -116,8 +116,7 @@ ranked_cells ms slot input [] ranks r h = grind (arith, common_steps, only_ok)
 ranked_cells ms slot input (None ∷ cells) ranks r h =
     search (arith, rules, after_input_ok, ranked_cells ms slot (input + 1) cells ranks)
 ranked_cells ms slot input (Some cell ∷ cells) ranks r h =
-    let w = after_input_ok _ _ r (fits_ok _ _ _ r h) in
-    rw (← w.2) (ap (λ (l : List (Option Cell)). Some cell ∷ l) (ranked_cells ms slot (input + 1) cells _ w.0 w.1))
+    search (arith, rules, after_input_ok, fits_ok, ranked_cells ms slot (input + 1) cells)
 
 -- ## One slot
 
