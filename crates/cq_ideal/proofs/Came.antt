@@ -4,7 +4,7 @@
 -- the slot that follows. Where cells are ranked one after another, what came so far stands in front of the ranking of
 -- the others. The definition puts them all into the lists; the code puts one after another: putting the first cell,
 -- and then the others, is putting them all, and where a list has room for all of them it has for each in turn.
-use Rattle.cq_ideal.proofs.Terms.{rules, ⊎_elim, ◌≡◌, ℕ, zero, suc, ◌+◌, List, [], ◌∷◌, length, get_or, Option, Some, None, Result, Ok, ap, arith, length-set, common_steps, same_Some, Cell, Queued, TagFault, arrival_at, Machine, CameToPorts, Ranking, ranking, after_input, AreForPorts, ◌≤◌, cond, replicate, refl, ◌<◌, AllByRecursion, cond_both, cases_lt, put, is_for, other_key_newest, filled, put_all, rests, AllArrivedBefore, HaveOwnKeys, list_at, all_put, get_or_past, ◌++◌, map, set, take, drop, Err, get_or-set_other, ext_get_or, get_or-drop, length-drop, length-replicate, take-append-drop, take_more_set, unwrap_or-slice_get, RanksView, after_inputs, ◌≢◌, get_or-set_same, IfSome, cases_Bool, eqb-true, eq-eqb, length-map, drop_more, HasOtherKey, CanPut, QueuesView, FitTogether, HaveRoomFor, with_came, with_cell, length_put, all_weaker, most_ports}
+use Rattle.cq_ideal.proofs.Terms.{rules, ◌≡◌, ℕ, zero, suc, ◌+◌, List, [], ◌∷◌, length, get_or, Option, Some, None, Result, Ok, ap, arith, length-set, common_steps, same_Some, Cell, Queued, TagFault, arrival_at, Machine, CameToPorts, Ranking, ranking, after_input, AreForPorts, ◌≤◌, cond, replicate, refl, ◌<◌, AllByRecursion, cond_both, cases_lt, put, is_for, other_key_newest, filled, put_all, rests, AllArrivedBefore, HaveOwnKeys, list_at, all_put, get_or_past, ◌++◌, map, set, take, drop, Err, get_or-set_other, ext_get_or, get_or-drop, length-drop, length-replicate, take-append-drop, take_more_set, unwrap_or-slice_get, RanksView, after_inputs, get_or-set_same, IfSome, cases_Bool, eqb-true, eq-eqb, length-map, drop_more, CanPut, QueuesView, FitTogether, HaveRoomFor, with_came, with_cell, length_put, all_weaker, most_ports}
 use Rattle.cq_ideal.proofs.FlowRank.{after_input_ok, fits_ok}
 use Rattle.cq_ideal.proofs.Waiting.{filled_at, length-filled, filled_none}
 use Rattle.cq_ideal.proofs.Changed.{same_at}
@@ -59,17 +59,15 @@ module _ (ms : List Machine) (slot : ℕ) (cells : List (Option Cell)) (ranks : 
       ((k : ℕ) (q : Queued) → get_or came k None ≡ Some q → P q) → AllByRecursion P xs →
       AllByRecursion P (put_all j came xs)
   all_put_all P j [] xs each all = all
-  all_put_all P j (None ∷ came) xs each all = all_put_all P j came xs (λ k q at. each (suc k) q at) all
-  all_put_all P j (Some q ∷ came) xs each all =
-      all_put_all P j came (cond (is_for j q) (put q xs) xs) (λ k p at. each (suc k) p at)
-      (cond_both (is_for j q) (put q xs) xs (AllByRecursion P) (λ _. all_put P q xs (each zero q refl) all) (λ _. all))
+  all_put_all P j (o ∷ came) xs each all =
+      let later = λ (ys : List Queued). all_put_all P j came ys (λ k p at. each (suc k) p at) in
+      grind (arith, common_steps, cond_both, all_put P, each zero, later)
 
   arrived_filled : AllArrivedBefore (slot + 1) (filled r.came lists)
-  arrived_filled j = ⊎_elim (λ (inside : j < length lists).
-      rw (filled_at r.came lists j inside) (all_put_all (λ x. x.key.slot < slot + 1) j r.came (list_at lists j)
-      (λ k q at. let is = (came_from ms slot 0 cells ranks r ok k q at).slot_is in omega arith)
-      (arrived_later slot (slot + 1) lists (omega arith) arrived j)))
-      (search (arith, rules, length-filled, get_or_past)) (cases_lt j (length lists))
+  arrived_filled j =
+      let each = came_from ms slot 0 cells ranks r ok in
+      let later = arrived_later slot (slot + 1) lists (omega arith) arrived j in
+      search (arith, rules, cases_lt j (length lists), filled_at, all_put_all, each, length-filled, get_or_past)
 
   pub arrived_next : AllArrivedBefore (slot + 1) (rests (filled r.came lists))
   arrived_next = left (filled r.came lists) arrived_filled
@@ -190,11 +188,6 @@ nobody_left (Some q ∷ came) lists h = absurd (h zero q refl)
 
 -- ## Keys
 
--- where two keys differ, the one cell can be put in and the other still has its own key
-own_stays : (p q : Queued) (lists : List (List Queued)) (j : ℕ) → p.cell.output < length lists → p.key ≢ q.key →
-    HasOtherKey q (list_at lists j) → HasOtherKey q (list_at (with_cell p lists) j)
-own_stays p q lists j inside apart own = grind (arith, common_steps, one_put, cond_both, all_put)
-
 -- once a cell is put in, if one came, the others still have their own keys
 own_keys_rest : (o : Option Queued) (came : List (Option Queued)) (lists : List (List Queued)) →
     HaveOwnKeys (o ∷ came) lists → ((q : Queued) → o ≡ Some q → q.cell.output < length lists) →
@@ -202,8 +195,8 @@ own_keys_rest : (o : Option Queued) (came : List (Option Queued)) (lists : List 
 own_keys_rest None came lists own inside =
     record { waiting = λ k. own.waiting (suc k); others = λ k n q r lt. own.others (suc k) (suc n) q r (omega arith) }
 own_keys_rest (Some p) came lists own inside = record {
-  waiting = λ k q at j. own_stays p q lists j (inside p refl) (own.others zero (suc k) p q (omega arith) refl at)
-      (own.waiting (suc k) q at j);
+  waiting = λ k q at j. let apart = own.others zero (suc k) p q (omega arith) refl at in
+      let had = own.waiting (suc k) q at j in grind (arith, common_steps, one_put, cond_both, all_put, inside);
   others = λ k n q r lt. own.others (suc k) (suc n) q r (omega arith);
 }
 

@@ -2,7 +2,7 @@
 -- comes weighs no more than the arrivals, whatever a cell weighs, and no more cells come than there are arrivals. From
 -- the end of the arrivals on none comes. So a run of as many slots as are enough has one slot for each cell after the
 -- last of them came.
-use Rattle.cq_ideal.proofs.Terms.{rules, ◌≡◌, ℕ, zero, suc, ◌+◌, ◌<◌, ◌≤◌, List, [], ◌∷◌, length, map, drop, refl, sym, ap, arith, common_steps, AllByRecursion, range_with_len, length-map-range_with_len, Arrival, arriving_at, arriving, end_of, enough, traffic_of, all_weaker, Cell, Option, Some, None, ◌∙◌, none_had, all_of_has, most_ports}
+use Rattle.cq_ideal.proofs.Terms.{rules, ◌≡◌, ℕ, zero, suc, ◌+◌, ◌<◌, ◌≤◌, List, [], ◌∷◌, length, map, drop, refl, sym, ap, arith, common_steps, AllByRecursion, range_with_len, length-map-range_with_len, Arrival, arriving_at, arriving, end_of, enough, traffic_of, all_weaker, Cell, Option, ◌∙◌, none_had, all_of_has, most_ports}
 use Rattle.cq_ideal.proofs.FlowRank.{present}
 use Rattle.cq_ideal.proofs.FlowRun.{come_count}
 use Rattle.cq_ideal.proofs.Waiting.{total, total_more, total_none, total_same}
@@ -82,8 +82,7 @@ quiet_at_end came = quiet_from came (end_of came) 0 (enough came) (omega arith)
 
 present_more : (o : Option Cell) (cells : List (Option Cell)) →
     length (present (o ∷ cells)) ≡ length (cell_listed o) + length (present cells)
-present_more None cells = omega arith
-present_more (Some cell) cells = omega arith
+present_more o cells = grind (arith, common_steps)
 
 count_from : (came : List Arrival) (a n : ℕ) →
     come_count (map (arriving came) (range_with_len a n)) ≡ total (λ t. length (present (arriving came t))) a n

@@ -3,7 +3,7 @@
 -- what is admitted of what comes, in its order. The cells of a flow come at its input, and of those that come there
 -- whole packets are admitted; those of the packet that goes on are admitted where the mark of its input is down. So
 -- what leaves of a flow is what came of it, but for the packets that were refused, with all their cells.
-use Rattle.cq_ideal.proofs.Terms.{arith, rules, ◌≡◌, ◌∙◌, ℕ, ◌<◌, Bool, List, [], ◌∷◌, ◌++◌, length, filter, Option, Ok, refl, sym, ap, common_steps, slice_index_or, AllByRecursion, append-nil, Cell, KeepsLaws, Machine, machine_at, Admission, Marked, admission, admitted, admitted_in, mark_at, left_in_flow, departures_of, IdealState, IsEmptyIdeal, LimitedRan, limited_run, AreJudged, AreOfPackets, cells_at, not, Arrival, traffic_of, IsRunnable, came_in_flow, empty_limited, refused_in}
+use Rattle.cq_ideal.proofs.Terms.{arith, rules, ◌≡◌, ◌∙◌, ℕ, ◌<◌, Bool, List, [], ◌∷◌, ◌++◌, length, filter, Option, Ok, refl, ap, common_steps, slice_index_or, AllByRecursion, append-nil, Cell, KeepsLaws, Machine, machine_at, Admission, Marked, admission, admitted, admitted_in, mark_at, left_in_flow, departures_of, IdealState, IsEmptyIdeal, LimitedRan, limited_run, AreJudged, AreOfPackets, cells_at, not, Arrival, traffic_of, IsRunnable, came_in_flow, empty_limited, refused_in}
 use Rattle.cq_ideal.proofs.FlowLaw.{empty_at, all_came, classes, left_as_came, none_came}
 use Rattle.cq_ideal.proofs.AtInput.{comes_at_input}
 use Rattle.cq_ideal.proofs.FlowRank.{AreOfClasses, present}
@@ -62,11 +62,8 @@ module _ (limits : List (Option ℕ)) (ms : List Machine) (slot : ℕ) (traffic 
         ≡ filter (λ cell. whole_on.is_taken cell.id.packet) (flow_came i c j traffic)
     unfolding of_flow
     admitted_of_flow c j =
-        let takes : Cell → Bool = λ cell. whole_on.is_taken cell.id.packet in
-        comes_at_input i c j (admitted_in ran.admissions)
-        (each_slot (StandAt 0) (still_stand 0) limits old.marks traffic ran.admissions each_judged stand)
-        ∙ ap (filter (is_of_flow i c j)) whole_on.are ∙ filter_both (is_of_flow i c j) takes (cells_at i traffic)
-        ∙ ap (filter takes) (sym (comes_at_input i c j traffic stand))
+        let all = each_slot (StandAt 0) (still_stand 0) limits old.marks traffic ran.admissions each_judged stand in
+        search (arith, rules, comes_at_input, filter_both, whole_on.are)
 
     -- what leaves of a flow
     pub flow_on : (c j : ℕ) → KeepsLaws (machine_at ms j) → j < length old.state.lists → j < length old.state.ranks →

@@ -75,8 +75,7 @@ module _ (m : Machine) (laws : KeepsLaws m) (state : List ℕ) (slot input : ℕ
     pub shown-put : (i c j : ℕ) → n.cell.output ≡ j → shown i c (put n xs) ≡ shown i c xs ++ of_flow i c j (n.cell ∷ [])
     unfolding of_flow class_no_later
     shown-put i c j here = ⊎_elim (λ k.
-        let mine = and_parts (n.cell.id.input == i) (n.cell.class == c) k in
         let behind = all_weaker (HasWaited m state slot input) (λ x. is_kind i c x ≡ true → NoLater x n)
-        (λ x w e. grind (arith, class_no_later x, eqb-true, and_parts, mine)) xs stands.waited in
+        (λ x w e. grind (arith, class_no_later x, eqb-true, and_parts)) xs stands.waited in
         search (arith, rules, filter-put, map-append, and_from, eq-eqb, cond-true))
         (search (arith, rules, filter-put_other, append-nil, and_right, cond-false)) (cases_Bool (is_kind i c n))

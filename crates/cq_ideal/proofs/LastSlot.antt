@@ -1,5 +1,5 @@
 -- The slots of departures: no departure of a run is behind its slots. And in the slot of the last arrival a cell comes.
-use Rattle.cq_ideal.proofs.Terms.{rules, ◌≡◌, ℕ, ◌+◌, ◌<◌, ◌≤◌, List, [], ◌∷◌, ◌++◌, length, Option, Some, None, ⊎_elim, arith, common_steps, max, AllByRecursion, cases_eq, cases_lt, eq-eqb, Arrival, arriving, end_of, Cell, Departure, Queued, Machine, slots_of, IsForSwitch, count_for, departures_of, departures_from, departures_in, arrival_at, most_ports}
+use Rattle.cq_ideal.proofs.Terms.{rules, ◌≡◌, ℕ, ◌+◌, ◌<◌, ◌≤◌, List, [], ◌∷◌, ◌++◌, length, Option, Some, ⊎_elim, arith, common_steps, max, AllByRecursion, cases_eq, cases_lt, eq-eqb, Arrival, arriving, end_of, Cell, Departure, Queued, Machine, slots_of, IsForSwitch, count_for, departures_of, departures_from, departures_in, arrival_at, most_ports}
 use Rattle.cq_ideal.proofs.RestAtInput.{is_shown}
 use Rattle.cq_ideal.proofs.FlowFound.{found, found_here, listed_same, other_slot}
 
@@ -13,8 +13,7 @@ slots_of-append (d ∷ a) b = let rest = slots_of-append a b in omega arith
 pub slots_in : (slot j : ℕ) (gone : List (Option Queued)) → let sent = departures_from slot j gone in
     (slots_of sent ≤ slot + 1) × (0 < length sent → slots_of sent ≡ slot + 1)
 slots_in slot j [] = (omega arith, λ some. absurd (omega arith))
-slots_in slot j (None ∷ gone) = slots_in slot (j + 1) gone
-slots_in slot j (Some q ∷ gone) = let rest = (slots_in slot (j + 1) gone).0 in (omega arith, λ _. omega arith)
+slots_in slot j (o ∷ gone) = grind (arith, common_steps, slots_in slot (j + 1) gone)
 
 pub slots_of-departures : (slot : ℕ) (gone : List (Option Queued)) → slots_of (departures_in slot gone) ≤ slot + 1
 unfolding departures_in

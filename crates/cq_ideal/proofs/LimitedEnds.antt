@@ -65,9 +65,8 @@ module _ (limits : List (Option ℕ)) (ms : List Machine) (ports : ℕ) (ranks :
 
   over_at_last : last < enough came → over last ≡ true
   over_at_last lt =
-      let is = last_is in
-      let long = length-range_with_len 0 (enough came) in
-      let passes = passes_at_first over (range_with_len 0 (enough came)) 0 (omega arith) in cc (range_at last lt)
+      let passes = passes_at_first over (range_with_len 0 (enough came)) 0 in
+      search (arith, rules, last_is, length-range_with_len, passes, range_at)
 
   pub run_all : run_to (enough came) ≡ limited_run limits ms 0 (traffic_of came) (empty_limited ports ranks)
   run_all = ap (λ l. limited_run limits ms 0 l (empty_limited ports ranks)) (all_slots came)
@@ -141,8 +140,7 @@ module _ (limits : List (Option ℕ)) (ms : List Machine) (ports : ℕ) (ranks :
       let le = least n (limited_test came n (run_to n) end y.after y.all_came y.empty) in
       let o = ran_from (run_to n) end y.after in
       let f = cut_at last n o.0 le o.1 in
-      let at = limited_over_at_end f.first f.ran_first in
-      search (arith, rules, y.first last f.first.after, at_ok (run_to last) f.first f.ran_first)
+      search (arith, rules, y.first last f.first.after, at_ok, limited_over_at_end f.first)
 
   fault_kept : (m n : ℕ) (fault : TagFault) → m ≤ n → run_to m ≡ Err fault → run_to n ≡ Err fault
   fault_kept m n fault le is = search (arith, rules, goes_on m (n - m) n)
@@ -157,7 +155,8 @@ module _ (limits : List (Option ℕ)) (ms : List Machine) (ports : ℕ) (ranks :
   pub limited_whole_fault : (n : ℕ) (fault : TagFault) → run_to n ≡ Err fault →
       whole_limited_run limits ms came (empty_limited ports ranks) ≡ Err fault
   unfolding whole_limited_run
-  limited_whole_fault n fault is = search (arith, rules, fault_kept n last, faulty n fault is (run_to last), cases_lt n last)
+  limited_whole_fault n fault is =
+      search (arith, rules, fault_kept n last, faulty n fault is (run_to last), cases_lt n last)
 
   -- the run over as many slots as are enough
   pub limited_over_all : (ran : LimitedRan) → run_to last ≡ Ok ran → SameSlots (enough came) ran

@@ -46,10 +46,9 @@ module _ (limits : List (Option ℕ)) (ms : List Machine) (ports : ℕ) (ranks :
   one_waits : (slot : ℕ) (first : LimitedRan) → slot < slots → end_of came ≤ slot →
       run_to limits ms ports ranks came slot ≡ Ok first → 0 < waiting first.after.state.lists
   one_waits slot first lt le is =
-      let over = λ (none : waiting first.after.state.lists ≡ 0). limited_test came slot
-      (run_to limits ms ports ranks came slot) first.after (search (arith, rules, at_ok, run_to)) le
-      (nothing_left first.after.state.lists none) in
-      let not_yet = not_before limits ms ports ranks came slot lt in grind (arith, common_steps, over)
+      let not_yet = not_before limits ms ports ranks came slot lt in
+      let over = limited_test came slot (run_to limits ms ports ranks came slot) first.after in
+      grind (arith, common_steps, over, at_ok, nothing_left first.after.state.lists)
 
   late : (slot : ℕ) → slots ≡ slot + 1 → end_of came ≤ slot → slot + 1 ≤ slots_of (departures_of 0 ran.gone)
   late slot e le =

@@ -2,7 +2,7 @@
 -- what became of it becomes of all its cells. Where the cells are those of packets of rising numbers, the admitted
 -- ones are by induction all cells of some of the packets, and the refused ones all cells of the others: the packet
 -- that goes on is admitted where the mark is down, and for the rest the first cell of the next one decides.
-use Rattle.cq_ideal.proofs.Terms.{rules, ◌≡◌, ℕ, zero, suc, ◌+◌, ◌<◌, ◌≤◌, Bool, true, false, cond, not, List, [], ◌∷◌, filter, Option, Some, None, refl, sym, ap, ◌∙◌, ⊎_elim, arith, common_steps, nat_lt, AllByRecursion, cons_option, cond-false, lt-ltb, le-ltb, Cell, arrival_at, Admission, admitted_in, is_first, mark_after, held_after, marks_after, mark_at, unless, where_up, AreJudged, AreOfPackets, AreWholePackets, cells_at}
+use Rattle.cq_ideal.proofs.Terms.{rules, ◌≡◌, ℕ, zero, suc, ◌+◌, ◌<◌, ◌≤◌, Bool, false, cond, not, List, [], ◌∷◌, filter, Option, Some, None, refl, sym, ap, ◌∙◌, ⊎_elim, arith, common_steps, nat_lt, AllByRecursion, cons_option, cond-false, lt-ltb, le-ltb, Cell, arrival_at, Admission, admitted_in, is_first, mark_after, held_after, marks_after, mark_at, unless, where_up, AreJudged, AreOfPackets, AreWholePackets, cells_at}
 use Rattle.cq_ideal.proofs.Admitted.{admitted_at, its_marks}
 
 -- ## The mark of one input
@@ -49,8 +49,7 @@ step : (next : ℕ) (mark up : Bool) (x : Option Cell) (came taken refused : Lis
     AreOfPackets next (cons_option x came) → ((n : ℕ) → AreOfPackets n came → TakenOrRefused n up came taken refused) →
     TakenOrRefused next mark (cons_option x came) (cons_option (unless up x) taken)
     (cons_option (where_up up x) refused)
-step next mark true None came taken refused same are rest = grind (arith, common_steps)
-step next mark false None came taken refused same are rest = grind (arith, common_steps)
+step next mark up None came taken refused same are rest = grind (arith, common_steps)
 step next mark up (Some cell) came taken refused same are rest =
     let r = rest (cell.id.packet + 1) are.1 in
     let f = r.is_taken in

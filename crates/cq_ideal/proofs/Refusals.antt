@@ -1,7 +1,7 @@
 -- Counts of what is refused. A count over two lists is the sum of the counts over each, so counts add up slot by
 -- slot, output by output. And an arriving cell is admitted or refused by the mark of its input, so it is counted
 -- once.
-use Rattle.cq_ideal.proofs.Terms.{common_steps, ◌≡◌, ℕ, ◌+◌, Bool, List, [], ◌∷◌, ◌++◌, length, filter, Option, Some, None, refl, ap, ◌∙◌, append_assoc, arith, enumerate_from, filter_map, option_map, append-nil, length-append, filter-append, Cell, Refused, Admission, admitted, refused, count_for, AreAllZero, cells_refused, packets_refused, refused_at, refused_counts, refused_in, with_refused}
+use Rattle.cq_ideal.proofs.Terms.{common_steps, ◌≡◌, ℕ, ◌+◌, Bool, List, [], ◌∷◌, ◌++◌, length, filter, Option, refl, ap, ◌∙◌, append_assoc, arith, enumerate_from, filter_map, option_map, append-nil, length-append, filter-append, Cell, Refused, Admission, admitted, refused, count_for, AreAllZero, cells_refused, packets_refused, refused_at, refused_counts, refused_in, with_refused}
 
 -- ## Two lists of refused cells
 
@@ -17,8 +17,7 @@ more_from : (j : ℕ) (limits : List (Option ℕ)) (before now : List Cell) →
     counts_from j limits (before ++ now) ≡ with_refused now (counts_from j limits before)
 unfolding cells_refused packets_refused
 more_from j [] before now = refl
-more_from j (None ∷ limits) before now = more_from (j + 1) limits before now
-more_from j (Some limit ∷ limits) before now = simp (count_both, more_from (j + 1) limits before now)
+more_from j (o ∷ limits) before now = grind (arith, common_steps, count_both, more_from (j + 1) limits before now)
 
 pub counts_more : (limits : List (Option ℕ)) (before now : List Cell) →
     refused_counts limits (before ++ now) ≡ with_refused now (refused_counts limits before)
@@ -28,8 +27,7 @@ counts_more limits before now = more_from 0 limits before now
 zero_from : (j : ℕ) (limits : List (Option ℕ)) → AreAllZero (counts_from j limits [])
 unfolding cells_refused packets_refused
 zero_from j [] = tt
-zero_from j (None ∷ limits) = zero_from (j + 1) limits
-zero_from j (Some limit ∷ limits) = ((refl, refl), zero_from (j + 1) limits)
+zero_from j (o ∷ limits) = grind (arith, common_steps, zero_from (j + 1) limits)
 
 pub all_zero : (limits : List (Option ℕ)) → AreAllZero (refused_counts limits [])
 unfolding refused_counts

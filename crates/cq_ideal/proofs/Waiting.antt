@@ -57,9 +57,8 @@ total_put (None ∷ came) f a n = total_put came f a n
 total_put (Some q ∷ came) f a n =
     let g = λ (j : ℕ). cond (is_for j q) (put q (f j)) (f j) in
     let rest = total_put came g a n in
-    let one = length_put q (f q.cell.output) in
     let more = total_more (λ j. length (g j)) (λ j. length (f j)) q.cell.output 1 a n
-    (λ t ne. grind (arith, common_steps)) (grind (arith, common_steps)) in
+    (λ t ne. grind (arith, common_steps)) (grind (arith, common_steps, length_put)) in
     omega arith
 
 pub filled_none : (lists : List (List Queued)) → filled [] lists ≡ lists
@@ -99,8 +98,7 @@ some_waits ((x ∷ xs) ∷ lists) some = (zero, omega arith, omega arith)
 pub count_to-cells : (j : ℕ) (came : List (Option Queued)) → count_to j came ≡ count_for j (map cell_here came)
 unfolding cell_here
 count_to-cells j [] = refl
-count_to-cells j (None ∷ came) = count_to-cells j came
-count_to-cells j (Some q ∷ came) = let rest = count_to-cells j came in omega arith
+count_to-cells j (o ∷ came) = grind (arith, common_steps, count_to-cells j came)
 
 pub length-put_all : (j : ℕ) (came : List (Option Queued)) (xs : List Queued) →
     length (put_all j came xs) ≡ length xs + count_to j came
