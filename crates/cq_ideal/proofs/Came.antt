@@ -20,17 +20,14 @@ pub came_from : (ms : List Machine) (slot i : ℕ) (cells : List (Option Cell)) 
     Came slot i cells k q
 came_from ms slot i [] ranks r h k q e = grind (arith, common_steps)
 came_from ms slot i cells ranks r h zero q e = search (arith, rules, after_input_ok, fits_ok, same_Some)
-came_from ms slot i (None ∷ cells) ranks r h (suc k) q e =
-    search (arith, rules, after_input_ok, came_from ms slot (i + 1) cells ranks)
-came_from ms slot i (Some cell ∷ cells) ranks r h (suc k) q e =
+came_from ms slot i (cell ∷ cells) ranks r h (suc k) q e =
     search (arith, rules, after_input_ok, fits_ok, came_from ms slot (i + 1) cells)
 
 -- there are as many rank states as before
 pub ranks_kept : (ms : List Machine) (slot i : ℕ) (cells : List (Option Cell)) (ranks : List (List ℕ)) (r : Ranking) →
     ranking ms slot i cells ranks ≡ Ok r → length r.ranks ≡ length ranks
 ranks_kept ms slot i [] ranks r h = grind (arith, common_steps)
-ranks_kept ms slot i (None ∷ cells) ranks r h = search (rules, after_input_ok, ranks_kept ms slot (i + 1) cells ranks)
-ranks_kept ms slot i (Some cell ∷ cells) ranks r h =
+ranks_kept ms slot i (cell ∷ cells) ranks r h =
     search (arith, rules, after_input_ok, fits_ok, ranks_kept ms slot (i + 1) cells, length-set)
 
 -- so they come to the ports that they arrive at, for the ports that they are for

@@ -180,13 +180,5 @@ module _ {cells : List (Option Cell)} {first : LimiterView} {input : ℕ} {now :
       HasJudged cells first now
   judged_last has come past =
       let limits = ap length so_far.limits in
-      let over = drop_all input now.marks (omega arith) in
-      let marks : now.marks ≡ marks_after first.limits first.held first.marks cells =
-      cc (take_all input now.marks (omega arith), append-nil (take input now.marks), so_far.judged) in
-      record {
-        marks = marks;
-        held = λ j _.
-            search (arith, rules, none_to_count j (drop input cells), none_beyond _ input cells come.inputs past);
-        limits = so_far.limits;
-        ports = record { held = omega arith; marks = omega arith };
-      }
+      let beyond = none_beyond _ input cells come.inputs past in
+      search (arith, rules, drop_all, take_all, append-nil, none_to_count, beyond, so_far.held)

@@ -1,5 +1,5 @@
 -- When a run of the ideal switch is over: no cell is to come, and none waits.
-use Rattle.cq_ideal.proofs.Terms.{◌≡◌, ℕ, zero, suc, ◌≤◌, true, List, [], ◌∷◌, length, Result, Ok, refl, ap, arith, common_steps, All, IsOkAnd, and_from, and_parts, eq-eqb, eqb-true, le-leb, leb-true, nil_from_length, list_all-from_AllPass, Arrival, end_of, enough, traffic_of, Queued, TagFault, arriving_from, first_slots, is_over, IsEmptyIdeal, Ran, IdealState}
+use Rattle.cq_ideal.proofs.Terms.{◌≡◌, ℕ, zero, suc, ◌≤◌, true, List, [], ◌∷◌, Result, Ok, refl, arith, common_steps, All, IsOkAnd, and_from, and_parts, eq-eqb, eqb-true, le-leb, leb-true, nil_from_length, list_all-from_AllPass, Arrival, end_of, enough, traffic_of, Queued, TagFault, arriving_from, first_slots, is_over, IsEmptyIdeal, Ran, IdealState}
 use Rattle.cq_ideal.proofs.Waiting.{waiting}
 
 -- ## Nothing waits
@@ -8,8 +8,7 @@ pub none_waits : (lists : List (List Queued)) → All (λ cells. cells ≡ []) l
 unfolding waiting
 none_waits [] all = refl
 none_waits (xs ∷ lists) all =
-    let here = ap length (all zero xs (omega arith)) in
-    let rest = none_waits lists (λ k d inside. all (suc k) d (omega arith)) in omega arith
+    grind (arith, common_steps, all zero xs, none_waits lists (λ k d inside. all (suc k) d (omega arith)))
 
 pub nothing_left : (lists : List (List Queued)) → waiting lists ≡ 0 → All (λ cells. cells ≡ []) lists
 unfolding waiting

@@ -42,9 +42,8 @@ module _ (of : List Cell → ℕ) (here : List (Option Cell) → ℕ) (bound : L
     unfolding in_slot
     slots_within [] n = search (arith, rules, total_none, found, found_none)
     slots_within (a ∷ came) n =
-        let now = total_more (in_slot (a ∷ came)) (in_slot came) a.slot (of (a.cell ∷ [])) 0 n
-        (search (arith, rules, total_same, found, other_slot)) (in_slot-cons a came) in
-        omega (arith, slots_within came n)
+        let now = total_more (in_slot (a ∷ came)) (in_slot came) a.slot (of (a.cell ∷ [])) 0 n in
+        search (arith, rules, now, total_same, found, other_slot, in_slot-cons a came, slots_within came n)
 
   -- in any number of slots
   pub weighed : (came : List Arrival) (n : ℕ) → total (λ t. here (arriving came t)) 0 n ≤ bound came

@@ -128,8 +128,7 @@ module _ (limits : List (Option ℕ)) (ms : List Machine) (ports : ℕ) (ranks :
           gone = ran.gone ++ quiet.ran.gone;
           after = quiet.ran.after;
         };
-        is = goes_on n k m e ∙ ap (limited_going_on limits ms n (arriving_from came n k)) is
-            ∙ ap (behind ran.admissions ran.gone) quiet.is;
+        is = search (arith, rules, goes_on n k m);
         sent = cc (departures_append 0 n ran.gone quiet.ran.gone (omega arith), append-nil (departures_of 0 ran.gone));
         refused = search (arith, rules, flat_map-append, append-nil);
       }
@@ -149,10 +148,11 @@ module _ (limits : List (Option ℕ)) (ms : List Machine) (ports : ℕ) (ranks :
   faulty : (n : ℕ) (fault : TagFault) → run_to n ≡ Err fault → (x : Result LimitedRan TagFault) → run_to last ≡ x →
       last ≤ n → run_to last ≡ Err fault
   faulty n fault is (Ok ran) e le =
-      let at = limited_over_at_end ran e in search (arith, rules, more last (n - last) n ran)
+      search (arith, rules, limited_over_at_end ran e, more last (n - last) n ran)
   faulty n fault is (Err other) e le = let kept = fault_kept last n other le e in cc
 
-  pub limited_whole_fault : (n : ℕ) (fault : TagFault) → run_to n ≡ Err fault →
+  pub limited_whole_fault : (n : ℕ) (fault : TagFault) →
+      limited_run limits ms 0 (first_slots came n) (empty_limited ports ranks) ≡ Err fault →
       whole_limited_run limits ms came (empty_limited ports ranks) ≡ Err fault
   unfolding whole_limited_run
   limited_whole_fault n fault is =

@@ -1,6 +1,6 @@
 -- Runs with limits, in parts: the first slots of one, and the run that goes on where they end. Once no cell is to
 -- come and none waits, it sends nothing, and refuses nothing.
-use Rattle.cq_ideal.proofs.Terms.{◌≡◌, ℕ, ◌+◌, ◌≤◌, Bool, List, [], ◌∷◌, ◌++◌, length, replicate, Option, Result, Ok, Err, refl, ap, ◌∙◌, arith, zero, suc, None, no_arrivals, Arrival, end_of, Cell, Queued, TagFault, Machine, Admission, Marked, marked, nothing_refused, arriving_from, departures_of, ideal_run, empty_ideal, IdealState, departures_from, departures_in, LimitedRan, limited_run, nothing_came, refused_in, common_steps}
+use Rattle.cq_ideal.proofs.Terms.{◌≡◌, ℕ, ◌+◌, ◌≤◌, Bool, List, [], ◌∷◌, ◌++◌, length, replicate, Option, Result, Ok, Err, refl, arith, zero, suc, None, no_arrivals, Arrival, end_of, Cell, Queued, TagFault, Machine, Admission, Marked, marked, nothing_refused, arriving_from, departures_of, empty_ideal, IdealState, departures_from, departures_in, LimitedRan, limited_run, nothing_came, refused_in, common_steps, rules}
 use Rattle.cq_ideal.proofs.LimitedRuns.{goes_on, rest_refuses_none}
 use Rattle.cq_ideal.proofs.Resting.{all_empty, idle_run}
 use Rattle.cq_ideal.proofs.Ends.{nothing_left}
@@ -61,11 +61,7 @@ module _ (limits : List (Option ℕ)) (ms : List Machine) where
       let state = all_empty s.state ports (nothing_left s.state.lists none) refl in
       record {
         ran = nothing_came n ports (marked s.marks (empty_ideal ports idle.0));
-        is = cc (
-          quiet_from came n slot le,
-          rest_refuses_none limits ms n slot ports s.marks s.state _
-              (ap (ideal_run ms slot (replicate n no_arrivals)) state ∙ idle.1),
-        );
+        is = search (arith, rules, quiet_from, rest_refuses_none limits ms n slot ports s.marks s.state, idle);
         none = none_departs ports n slot;
         refused = refuse_none s.marks n;
       }

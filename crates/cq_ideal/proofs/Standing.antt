@@ -51,7 +51,6 @@ module _ (i : ℕ) where
   refused_at_place : (a k : ℕ) (marks : List Bool) (cells : List (Option Cell)) → StandAt a cells → i ≡ a + k →
       of_input (refused marks cells) ≡ cell_listed (where_up (mark_at marks k) (arrival_at cells k))
   refused_at_place a k [] cells at e = refl
-  refused_at_place a k (mark ∷ marks) [] at e = search (arith, rules, cell_listed)
   refused_at_place a zero marks cells at e = search (arith, rules, none_past, cond-true, of_input, refused, eq-eqb)
   refused_at_place a (suc k) marks cells at e = grind (arith, common_steps, refused_at_place (a + 1) k)
 

@@ -111,9 +111,7 @@ pub ranked_cells : (ms : List Machine) (slot input : ℕ) (cells : List (Option 
     (r : Ranking) → ranking ms slot input cells ranks ≡ Ok r → map cell_here r.came ≡ cells
 unfolding cell_here
 ranked_cells ms slot input [] ranks r h = grind (arith, common_steps, only_ok)
-ranked_cells ms slot input (None ∷ cells) ranks r h =
-    search (arith, rules, after_input_ok, ranked_cells ms slot (input + 1) cells ranks)
-ranked_cells ms slot input (Some cell ∷ cells) ranks r h =
+ranked_cells ms slot input (cell ∷ cells) ranks r h =
     search (arith, rules, after_input_ok, fits_ok, ranked_cells ms slot (input + 1) cells)
 
 -- ## One slot
@@ -181,5 +179,4 @@ sends_ok P ms old fault sent h f = grind (arith, common_steps, only_ok)
 pub counted : (ms : List Machine) (slot : ℕ) (cells : List (Option Cell)) (old : IdealState) (sent : Sent) →
     ideal_slot ms slot cells old ≡ Ok sent → Counted slot cells old sent
 unfolding ideal_slot
-counted ms slot cells old sent h = sends_ok (Counted slot cells old) ms old (ranking ms slot 0 cells old.ranks) sent h
-    (λ r is. counted_sent ms slot cells old r (ranked_cells ms slot 0 cells old.ranks r is))
+counted ms slot cells old sent h = search (arith, rules, sends_ok (Counted slot cells old), counted_sent, ranked_cells)
