@@ -32,8 +32,7 @@ pub counts_fit : (cells : List Cell) (n m : ℕ) (counts : List Refused) → Can
     CanCount n (with_refused cells counts)
 unfolding cells_refused packets_refused
 counts_fit cells n m counts can few k d inside =
-    let long = length-map counts (with_cells cells) in
-    search (arith, rules, get_or-map (with_cells cells) counts k d d, few_kept)
+    search (arith, rules, length-map, get_or-map (with_cells cells) counts k d d, few_kept)
 
 pub counts_left : (n : ℕ) (cell : Cell) (counts : List Refused) → CanCount (n + 1) counts →
     CanCount n (with_refused (cell ∷ []) counts)

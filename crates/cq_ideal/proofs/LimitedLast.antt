@@ -95,7 +95,6 @@ pub last_departs : (ms : List Machine) (ports : ℕ) (ranks : List (List ℕ)) (
 unfolding whole_ideal_run
 last_departs ms ports ranks came all ran whole =
     let nil : List Queued = [] in
-    let is = whole_as ms ports ranks came ran whole in
     let same = slots_as_before [] ms ports ranks came no_limit in
-    let slots = limited_slots [] ms ports ranks came _ is in
+    let slots = limited_slots [] ms ports ranks came _ (whole_as ms ports ranks came ran whole) in
     search (arith, rules, length-replicate ports nil, departs_at_end ms ports)

@@ -58,8 +58,7 @@ module _ (ms : List Machine) (n : ℕ) where
   rested_run zero slot ranks rested some is again = absurd (omega arith)
   rested_run (suc zero) slot ranks rested some is again = search (arith, rules, next_slot, quiet_slot)
   rested_run (suc (suc count)) slot ranks rested some is again =
-      let rest = rested_run (suc count) (slot + 1) rested rested (omega arith) (sym again) again in
-      search (arith, rules, next_slot, quiet_slot)
+      search (arith, rules, next_slot, quiet_slot, rested_run (suc count) (slot + 1) rested rested)
 
 -- ## The machines
 
