@@ -8,7 +8,7 @@ mod soak;
 
 use cq_base::NoMemory;
 use cq_crew::OpenGate;
-use cq_run::{Command, command_of, switch_top};
+use cq_run::switch_top;
 use cq_space::{HostFiles, MemSink};
 use cq_trial_kit::{FORMS, HEADER};
 use cq_trials::{Call, Disk, MICROSECONDS, Packet, capture_with, leaves, words_of};
@@ -116,25 +116,6 @@ fn every_form_of_a_capture_passes_alike(rt: HostRuntime) {
     for input in &FORMS {
         assert!(rt; passes_to(&rt, rt.alloc(), "b", input, written));
     }
-}
-
-fn are_pass(alloc: Global, words: &[String], wanted: (&str, &str)) -> bool {
-    match command_of(alloc, words) {
-        Ok(Some(Command::Pass { from, to })) => (from.text(), to.text()) == wanted,
-        _other => false,
-    }
-}
-
-fn is_pass(alloc: Global, words: &[&str], wanted: (&str, &str)) -> bool {
-    match words_of(alloc, words) {
-        Ok(words) => are_pass(alloc, &words, wanted),
-        Err(_) => false,
-    }
-}
-
-#[test]
-fn pass_with_two_values_is_a_command(rt: HostRuntime) {
-    assert!(rt; is_pass(rt.alloc(), &["pass", "a", "b"], ("a", "b")));
 }
 
 /// Whether the words over the system's files end with the code and the line, which is told in three parts: what is wrong,
