@@ -12,8 +12,6 @@ abbrev pub listed : Option Queued → List Queued
 listed None = []
 listed (Some q) = q ∷ []
 
--- ## What is left of a list
-
 -- ## What stands at one output after the slot
 
 module _ (ms : List Machine) (j slot : ℕ) (laws : KeepsLaws (machine_at ms j)) (i c : ℕ) where
