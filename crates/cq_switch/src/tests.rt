@@ -118,8 +118,8 @@ fn every_form_of_a_capture_passes_alike(rt: HostRuntime) {
     }
 }
 
-/// Whether the words over the system's files end with the code and the line, which is told in three parts: what is wrong,
-/// the name that it is wrong with, and its end.
+/// Whether the words over the system's files end with the code and the line, which is told in three parts: what is
+/// wrong, the name that it is wrong with, and its end.
 fn ends<R: Threads + Sync + Files>(
     rt: &R,
     alloc: Global,
