@@ -34,7 +34,7 @@ pub use Rattle.cq_ideal.proofs.FlowRun.{flow_came, no_port}
 unfoldable pub use Rattle.cq_ideal.proofs.FlowRun.{come_count}
 pub use Rattle.cq_ideal.proofs.FlowStands.{HasWaited, Stands, is_kind, is_of_flow, shown}
 unfoldable pub use Rattle.cq_ideal.proofs.FlowStands.{of_flow}
-pub use Rattle.cq_ideal.proofs.LimitedEnds.{gone_long, limited_found_end, limited_same_sent, limited_whole_fault, run_as_before, slots_as_before}
+pub use Rattle.cq_ideal.proofs.LimitedEnds.{limited_found_end, limited_same_sent, limited_whole_fault, run_as_before, slots_as_before}
 pub use Rattle.cq_ideal.proofs.LimitedRuns.{is_run_of, judged, run_fault, run_step}
 pub use Rattle.cq_ideal.proofs.Parted.{arriving_here, arriving_length, arriving_parts, departures_append}
 pub use Rattle.cq_ideal.proofs.Refusals.{counts_more, each_once, one_slot_more}
@@ -131,3 +131,4 @@ pub use Rattle.cq_laws.specs.{Frozen.fabric_in, Frozen.marked_in, Frozen.IsSound
 pub use Rattle.cq_laws.proofs.{ActingAlike.best_act_alike_from_empty, ActingAlike.best_act_alike, AddingUp.figures_fold, Came.came_from, EndsTogether.slots_of_figures, Held.hold_as_many, Held.nothing_for, Joined.all_go_on, KeptParts.departures_one, KeptParts.transfers_both, KeptParts.transfers_one, KeptParts.departures_on, Members.first_at, Parted.run_of_whole}
 pub use Rattle.cq_resume.specs.Parts.{IsParted}
 pub use Rattle.cq_engine.proofs.{Kept.limited_lists_kept, Kept.limited_outputs_kept}
+pub use Rattle.cq_ideal.proofs.{EnoughSlots.no_more, LimitedEnds.state_ran, Parted.sends_long}
