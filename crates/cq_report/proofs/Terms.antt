@@ -3,5 +3,5 @@ pub use Rattle.cq_base.proofs.Library.{List, [], ap, append-nil, append_assoc, a
 pub use Rattle.cq_base.proofs.Decimals.{decimal_more, decimal_small, length-decimal-le, length-decimal_more}
 pub use Rattle.cq_base.specs.Texts.{log_line}
 unfoldable pub use Rattle.cq_base.specs.Texts.{log_of, trace_of}
-pub use Rattle.cq_report.specs.Report.{input_line, limit_line, numbered_lines, output_line}
-unfoldable pub use Rattle.cq_report.specs.Report.{report_of, report_with}
+pub use Rattle.cq_report.specs.Report.{numbered_lines, output_line}
+unfoldable pub use Rattle.cq_report.specs.Report.{input_line, limit_line, report_of, report_with}
