@@ -2,7 +2,8 @@
 -- below the cushion, since it is more urgent, ahead of the first one that is less urgent, and ahead of the end. So it
 -- stays the first, and the newcomer's output stands behind it in the list of all the cells' outputs, where a repeat
 -- is not seen.
-use Rattle.cq_prefs.proofs.Terms.{common_steps, rules, ◌≡◌, ◌≢◌, ℕ, zero, suc, ◌<◌, cond, Bool, true, List, [], ◌∷◌, length, map, Option, Some, refl, sym, ap, ◌∙◌, ⊎_elim, arith, ◌&&◌, insert, option_map, cases_eq, eq-eqb, ne_eqb, length-map, ext_get_or, find_at, slice_get_within, same_Some, Queued, IsBefore, MoreUrgentAhead, is_for, first_for, place_for, place_of_later, place_of_arrival, with_arrival, key_laws, first_here, first_later, list_of, output_order, orders_of, first_key, key_before, places_by_key, range_with_len}
+use Rattle.cq_prefs.proofs.Terms.{common_steps, rules, ◌≡◌, ℕ, suc, ◌<◌, cond, Bool, true, List, [], ◌∷◌, length, map, Option, Some, refl, ap, arith, ◌&&◌, insert, option_map, cases_eq, eq-eqb, ne_eqb, length-map, ext_get_or, find_at, slice_get_within, Queued, IsBefore, MoreUrgentAhead, is_for, first_for, place_for, place_of_later, place_of_arrival, with_arrival, key_laws, first_later, list_of, output_order, orders_of, first_key, key_before, slice_get-get_or, and_parts, passes_at_first}
+use Rattle.cq_base.proofs.Lists.{first_le}
 use Rattle.cq_base.specs.Key.{is_before}
 use Rattle.cq_prefs.proofs.ByKey.{first_is_for}
 use Rattle.cq_prefs.proofs.Changes.{same_but_arrival}
@@ -14,21 +15,15 @@ use Rattle.cq_prefs.proofs.OneOrder.{same_orders}
 shown_here : (x : Queued) (xs : List Queued) (k : ℕ) → x.cell.output ≡ k → first_for k (x ∷ xs) ≡ Some x
 shown_here x xs k is = ap (λ b. cond b (Some x) (first_for k xs)) (eq-eqb x.cell.output k is)
 
-shown_later : (x : Queued) (xs : List Queued) (k : ℕ) → x.cell.output ≢ k → first_for k (x ∷ xs) ≡ first_for k xs
-shown_later x xs k other = ap (λ b. cond b (Some x) (first_for k xs)) (ne_eqb x.cell.output k other)
-
 -- it stands ahead of the first less urgent one for its output
 first_ahead : (c f : Queued) (xs : List Queued) → first_for c.cell.output xs ≡ Some f → IsBefore f c →
     place_for c.cell.output xs < place_of_later c xs
-first_ahead c f [] h before = absurd (let P : ⊥ = cc in P)
-first_ahead c f (x ∷ xs) h before =
+first_ahead c f xs h before =
     let later : Queued → Bool = λ y. is_for c.cell.output y && is_before c.key y.key in
-    let past = first_later later x xs in
-    ⊎_elim (λ is.
-    let here = first_here (is_for c.cell.output) x xs in
-    search (arith, rules, key_laws.one_way, same_Some, shown_here, here, eq-eqb)) (λ other.
-    search (arith, rules, first_later, shown_later, ne_eqb, first_ahead c f xs))
-    (cases_eq x.cell.output c.cell.output)
+    let passes = passes_at_first later xs f in
+    let there = slice_get-get_or xs (place_of_later c xs) f in
+    let none = first_le (is_for c.cell.output) xs (place_of_later c xs) in
+    grind (arith, common_steps, find_at, slice_get_within, passes, there, none, and_parts, key_laws.one_way)
 
 -- so the newcomer goes in behind it
 goes_behind : (cushion : ℕ) (c f : Queued) (xs : List Queued) → first_for c.cell.output xs ≡ Some f → IsBefore f c →
@@ -47,11 +42,10 @@ module _ (c : Queued) where
   -- a cell that goes in behind the first one for its output
   behind_first : (xs : List Queued) (place : ℕ) → place_for c.cell.output xs < place →
       place_for c.cell.output xs < length xs → OfferAlike xs (insert xs place c)
-  behind_first [] place ahead inside = absurd (omega arith)
-  behind_first (x ∷ xs) zero ahead inside = absurd (omega arith)
   behind_first (x ∷ xs) (suc place) ahead inside =
       let apart = same_but_arrival (Some c.cell.output) xs (insert xs place c) place c refl refl in
       search (arith, rules, shown_here, first_later, ne_eqb, cases_eq, x.cell.output, behind_first xs place)
+  behind_first xs place ahead inside = absurd (omega arith)
 
 more_urgent_first : (c : Queued) (first : Option Queued) →
     key_before (option_map (λ (q : Queued). q.key) first) (Some c.key) ≡ true →
@@ -72,16 +66,12 @@ comes_behind cushion c xs before ahead =
 -- what is the same of each list is the same of all
 map_alike : {Y : Type 0} (f : List Queued → Y) (old new : List (List Queued)) → length new ≡ length old →
     ((i : ℕ) → f (list_of new i) ≡ f (list_of old i)) → map f new ≡ map f old
-map_alike f old new long each = ext_get_or (f []) (map f new) (map f old)
-    (length-map new f ∙ long ∙ sym (length-map old f))
-    (λ i _. get_or-map f new i [] ∙ each i ∙ sym (get_or-map f old i []))
+map_alike f old new long each = search (arith, rules, ext_get_or (f []), length-map, get_or-map f, each)
 
 -- lists that make the same offers one by one make the same ones together
 pub same_offers : (old new : List (List Queued)) → length new ≡ length old →
     ((i : ℕ) → OfferAlike (list_of old i) (list_of new i)) → orders_of new ≡ orders_of old
 same_offers old new long each =
-    let rows = map_alike output_order old new long (λ i. (each i).order) in
-    let keys = λ (k : ℕ). map_alike (first_key k) old new long
-    (λ i. ap (option_map (λ (q : Queued). q.key)) ((each i).firsts k)) in
-    same_orders (orders_of new) (orders_of old) rows
-    (λ t. map (λ k. places_by_key (keys k t)) (range_with_len 0 (long t)))
+    let rows = map_alike output_order old new long in
+    let keys = λ (k : ℕ). map_alike (first_key k) old new long in
+    search (rules, same_orders, rows, keys)

@@ -1,7 +1,7 @@
 -- What an arrival and a transfer change in the offers. A cell that goes into a list, or the first cell for an output
 -- that leaves it, changes neither the first cells for the other outputs nor the order in which these stand. So with the
 -- pair of the input and of this output taken out, the orders are as before.
-use Rattle.cq_prefs.proofs.Terms.{common_steps, rules, ◌≡◌, ◌≢◌, ℕ, zero, suc, eqb, not, cond, Bool, true, false, List, [], ◌∷◌, length, map, Option, Some, None, refl, sym, ap, arith, filter, insert, cond_both, cond-false, cases_eq, cases_lt, eq-eqb, ne_eqb, eqb-true, not-true, length-map, Queued, is_for, first_for, without_first, list_of, FirstKeysDiffer, without_repeats, output_order, input_order, orders_of, first_key, key_at, Partners, partner_of, without, is_partner, is_pair, AreSameWithout, kept_has, has_kept, pairs_kept, pairs_kept_with, same_pairs, eqb-false}
+use Rattle.cq_prefs.proofs.Terms.{common_steps, rules, ◌≡◌, ◌≢◌, ℕ, zero, suc, eqb, not, cond, Bool, true, false, List, [], ◌∷◌, length, map, Option, Some, refl, sym, ap, arith, filter, insert, cond_both, cond-false, cases_eq, cases_lt, eq-eqb, ne_eqb, eqb-true, not-true, length-map, Queued, is_for, first_for, without_first, list_of, FirstKeysDiffer, without_repeats, output_order, input_order, orders_of, first_key, key_at, Partners, partner_of, without, is_partner, is_pair, AreSameWithout, kept_has, has_kept, pairs_kept, pairs_kept_with, same_pairs, eqb-false}
 use Rattle.cq_prefs.proofs.InputOrder.{key_at-first, is_input_order, outputs_at, inputs_at, no_inputs_past}
 use Rattle.cq_prefs.proofs.Members.{among, listed}
 use Rattle.cq_prefs.proofs.OneOrder.{more_urgent, urgent_one_way, inputs_rise}
@@ -17,9 +17,8 @@ without_swap j k (x ∷ xs) = grind (arith, common_steps, without_here, without_
 left_out : (j : ℕ) (xs : List ℕ) → without j (without_repeats xs) ≡ without_repeats (without j xs)
 left_out j [] = refl
 left_out j (x ∷ xs) =
-    let left_out-here = left_out j xs in
-    let swap = without_swap j x in
-    search (arith, rules, without_here, without_there, swap, cases_eq, without_none, not-true, kept_has, eq-eqb)
+    let swap = without_swap j x in let rest = left_out j xs in
+    search (arith, rules, without_here, without_there, swap, cases_eq, without_none, not-true, kept_has, eq-eqb, rest)
 
 abbrev outputs : List Queued → List ℕ
 outputs cells = map (λ c. c.cell.output) cells
@@ -41,9 +40,8 @@ gone_outputs j (x ∷ cells) = search (rules, cond_both, without_here, eqb-true,
 
 come_first : (cells : List Queued) (place : ℕ) (c : Queued) (k : ℕ) → c.cell.output ≢ k →
     first_for k (insert cells place c) ≡ first_for k cells
-come_first cells zero c k other = cond-false (is_for k c) (Some c) (first_for k cells) (ne_eqb c.cell.output k other)
-come_first [] (suc place) c k other = cond-false (is_for k c) (Some c) None (ne_eqb c.cell.output k other)
 come_first (x ∷ cells) (suc place) c k other = ap (cond (is_for k x) (Some x)) (come_first cells place c k other)
+come_first cells place c k other = grind (arith, common_steps, ne_eqb)
 
 gone_first : (j : ℕ) (cells : List Queued) (k : ℕ) → k ≢ j → first_for k (without_first j cells) ≡ first_for k cells
 gone_first j [] k other = refl

@@ -39,9 +39,8 @@ places-quiet : (o : Orders) → AreOffers o → (s : State) → IsSound o s → 
     s.places ≡ map (λ i. spent (outputs_of o i) (partner_of (matching_of o s) i)) (range_with_len 0 (ports o))
 places-quiet o v s w q =
     let f : ℕ → ℕ = λ i. spent (outputs_of o i) (partner_of (matching_of o s) i) in
-    let long = length-map-range_with_len f 0 (ports o) in
-    ext_get_or 0 s.places (map f (range_with_len 0 (ports o))) (omega arith)
-    (search (arith, rules, spent-is, kept, get_or-map-range_with_len))
+    let at = get_or-map-range_with_len f in
+    search (arith, rules, ext_get_or 0 s.places, length-map-range_with_len f, spent-is, kept, at)
 
 pub events-quiet : (o : Orders) → AreOffers o → (events : List ℕ) → AreEvents o events →
     IsQuiescent o (state_after o events) → length events ≡ proposals o (matching_of o (state_after o events))

@@ -38,10 +38,9 @@ pub keeper-from : (o : Orders) → AreOffers o → (s : State) → IsSound o s �
     keeper o s i ≡ Some j
 unfolding keeper
 keeper-from o v s w i j h =
-    let r : j < ports o = output_in_range o v i j (v.shown_back i j h.1) in
-    found_only (holds o s i) (range_with_len 0 (ports o)) j (has_number 0 (ports o) j (omega arith) (omega arith))
-    (and_from _ _ (eq-eqb _ _ h.0) (lt-ltb _ _ h.1))
-    (λ k also. held_once o v s w i k j (holds-yes o s i k also) h)
+    let known = output_in_range o v i j (v.shown_back i j h.1) in
+    let only = found_only (holds o s i) (range_with_len 0 (ports o)) j in
+    search (arith, rules, only, has_number, and_from, eq-eqb, lt-ltb, held_once, holds-yes)
 
 pub none_unless : {X : Type 0} (p : Option X) → ((x : X) → p ≡ Some x → ⊥) → p ≡ None
 none_unless p h = grind (arith, common_steps, h)

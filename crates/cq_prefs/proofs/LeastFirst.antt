@@ -1,7 +1,7 @@
 -- Where the least free input proposes, each turn is an event or finds nobody free. There are no more events than the
 -- number of ports squared, so after as many turns nobody is free, and those who are held form the matching that is best
 -- for the inputs.
-use Rattle.cq_prefs.proofs.Terms.{common_steps, rules, ℕ, zero, suc, ◌≡◌, ◌⊎◌, inl, ◌*◌, Bool, true, ⊎_elim, List, [], ◌∷◌, length, Option, Some, None, refl, ap, arith, ◌<◌, find, range_with_len, cond_both, true≢false, Orders, AreOffers, ports, IsInputBest, State, IsFree, IsQuiescent, is_free, next_output, propose, state_after, AreEvents, Has, has_number}
+use Rattle.cq_prefs.proofs.Terms.{common_steps, rules, ℕ, zero, suc, ◌≡◌, ◌⊎◌, inl, ◌*◌, Bool, true, List, [], ◌∷◌, length, Option, Some, None, refl, arith, find, range_with_len, cond_both, true≢false, Orders, AreOffers, ports, IsInputBest, State, IsFree, IsQuiescent, is_free, next_output, state_after, AreEvents, Has, has_number}
 use Rattle.cq_prefs.specs.LeastFirst.{least_free, propose_if, state_at, best}
 use Rattle.cq_prefs.proofs.Counts.{events_at_most}
 use Rattle.cq_prefs.proofs.Holding.{found_passes, free_if, free_only_if}
@@ -17,9 +17,8 @@ found_none p (x ∷ xs) y e m h = grind (arith, common_steps, cond_both, true≢
 quiet_if_none : (o : Orders) → AreOffers o → (s : State) → least_free o s ≡ None → IsQuiescent o s
 unfolding least_free
 quiet_if_none o v s e i f =
-    let r : i < ports o = input_in_range o i (next_output o s i) (next_output-offered o v s i f.left) in
-    found_none (is_free o s) (range_with_len 0 (ports o)) i e (has_number 0 (ports o) i (omega arith) (omega arith))
-    (free_only_if o v s i f)
+    let r = input_in_range o i (next_output o s i) (next_output-offered o v s i f.left) in
+    search (arith, rules, found_none (is_free o s) (range_with_len 0 (ports o)) i, has_number, free_only_if)
 
 free_if_found : (o : Orders) → AreOffers o → (events : List ℕ) → AreEvents o events → (i : ℕ) →
     least_free o (state_after o events) ≡ Some i → IsFree o (state_after o events) i
@@ -38,12 +37,8 @@ one_turn : (o : Orders) → AreOffers o → (n : ℕ) (s : State) → IsTurns o 
 one_turn o v n s t None e = grind (arith, common_steps, quiet_if_none)
 one_turn o v n s t (Some i) e =
     let free = free_if_found o v t.events t.are_events i (rw t.is at e) in
-    record {
-      events = i ∷ t.events;
-      are_events = (t.are_events, free);
-      is = ap (λ x. propose o x i) t.is;
-      ended = ⊎_elim (λ all. inl (ap suc all)) (λ (quiet : IsQuiescent o s). absurd (quiet i (rw t.is free))) t.ended;
-    }
+    let ends = t.ended in
+    record { events = i ∷ t.events; are_events = (t.are_events, free); is = cc; ended = search (arith, rules, ends) }
 
 turns : (o : Orders) → AreOffers o → (n : ℕ) → IsTurns o n (state_at o n)
 turns o v zero = record { events = []; are_events = tt; is = refl; ended = inl refl }
@@ -54,7 +49,6 @@ pub input_best-best : (o : Orders) → AreOffers o → IsInputBest o (best o)
 unfolding best
 input_best-best o v =
     let t = turns o v (ports o * ports o) in
-    let quiet : IsQuiescent o (state_after o t.events) = ⊎_elim (λ all i f.
-    let most = events_at_most o v (i ∷ t.events) (t.are_events, f) in absurd (omega arith))
-    (λ q. rw t.is at q) t.ended in
+    let most = λ (i : ℕ). events_at_most o v (i ∷ t.events) in
+    let quiet : IsQuiescent o (state_after o t.events) = search (arith, rules, most, t.ended) in
     rw t.is (input_best-quiet o v t.events t.are_events quiet)

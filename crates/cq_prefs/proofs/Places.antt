@@ -1,7 +1,7 @@
 -- Places in an order, and what offers say of them. A place that is found shows its port, and where no port is twice
 -- the port at a place is found there. So an offered pair has its ports in range, and no order is longer than there
 -- are ports.
-use Rattle.cq_prefs.proofs.Terms.{common_steps, rules, ℕ, ◌≡◌, ◌<◌, ◌≤◌, List, [], length, get_or, eqb, replicate, refl, arith, IsDistinct, cases_lt, eqb-true, eq-eqb, ne_eqb, get_or_past, get_or_default, get_or-replicate, length-replicate, position_or_len_is, passes_at_first, prefix_len-le-length, apart_from_distinct, Any-from_list_any, length-le_from_distinct_below, Orders, AreOffers, ports, outputs_of, inputs_of, place_in, place_of, position_of, IsOffered, no_offers, most_ports}
+use Rattle.cq_prefs.proofs.Terms.{common_steps, rules, ℕ, ◌≡◌, ◌<◌, ◌≤◌, List, length, get_or, eqb, refl, arith, IsDistinct, cases_lt, eqb-true, eq-eqb, ne_eqb, get_or_past, get_or_default, get_or-replicate, length-replicate, position_or_len_is, passes_at_first, prefix_len-le-length, apart_from_distinct, Any-from_list_any, length-le_from_distinct_below, Orders, AreOffers, ports, outputs_of, inputs_of, place_in, place_of, position_of, IsOffered, no_offers}
 
 pub get_or-place_in : (xs : List ℕ) (y : ℕ) → place_in xs y < length xs → get_or xs (place_in xs y) 0 ≡ y
 unfolding place_in
@@ -32,10 +32,6 @@ pub place_of-at : (o : Orders) → AreOffers o → (i p : ℕ) → p < length (o
     place_of o i (get_or (outputs_of o i) p 0) ≡ p
 place_of-at o v i p h = place_in-get_or (outputs_of o i) p (v.outputs_differ i) h
 
-pub offered-at : (o : Orders) → AreOffers o → (i p : ℕ) (order : List ℕ) → order ≡ outputs_of o i →
-    p < length (outputs_of o i) → IsOffered o i (get_or order p 0)
-offered-at o v i p order e h = rw e (let a = place_of-at o v i p h in omega arith)
-
 pub position_of-at : (o : Orders) → AreOffers o → (j p : ℕ) → p < length (inputs_of o j) →
     position_of o j (get_or (inputs_of o j) p 0) ≡ p
 position_of-at o v j p h = place_in-get_or (inputs_of o j) p (v.inputs_differ j) h
@@ -62,15 +58,6 @@ place_in_is xs y i short before here =
 
 -- ## Nothing is offered
 
-abbrev nothing : ℕ → List (List ℕ)
-nothing n = replicate n []
-
 pub no_offers_are : (n : ℕ) → AreOffers (no_offers n)
 unfolding IsDistinct
 no_offers_are n = search (arith, rules, get_or-replicate, get_or_past, length-replicate, cases_lt)
-
--- offers of which both sides show nothing
-pub made_none : (n : ℕ) (outputs inputs : List (List ℕ)) → outputs ≡ nothing n → inputs ≡ nothing n → n ≤ most_ports →
-    let o : Orders = record { outputs = outputs; inputs = inputs } in
-    AreOffers o × (ports o ≤ most_ports)
-made_none n outputs inputs e f l = grind (arith, common_steps, no_offers_are, length-replicate)

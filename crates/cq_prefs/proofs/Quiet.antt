@@ -1,7 +1,7 @@
 -- A state in which nobody is free. Each input is held by the output that it asked last, or has asked its whole order.
 -- Each output that it has asked holds it or a better one, and it likes the others less than the one that holds it: so
 -- the matching is stable. In another stable matching it has no better partner, or it would have passed that one.
-use Rattle.cq_prefs.proofs.Terms.{ℕ, ◌≡◌, ◌≢◌, ◌⊎◌, inl, ◌+◌, ◌<◌, ◌≤◌, List, length, get_or, Option, Some, None, arith, rules, ⊎_elim, cases_lt, Orders, AreOffers, outputs_of, inputs_of, place_of, IsOffered, Partners, partner_of, depth, IsMatching, IsStable, IsInputBest, HasBetterOutput, HasBetterInput, State, position_held, next_place, IsQuiescent, IsSound, matching_of, state_after, AreEvents, common_steps}
+use Rattle.cq_prefs.proofs.Terms.{ℕ, ◌≡◌, ◌≢◌, ◌⊎◌, ◌+◌, ◌≤◌, List, length, Option, Some, None, arith, rules, cases_lt, Orders, AreOffers, outputs_of, place_of, IsOffered, Partners, partner_of, depth, IsMatching, IsStable, IsInputBest, HasBetterOutput, HasBetterInput, State, position_held, next_place, IsQuiescent, IsSound, matching_of, state_after, AreEvents}
 use Rattle.cq_prefs.proofs.Places.{position_of-at, place_in-le-length}
 use Rattle.cq_prefs.proofs.Steps.{sound-after}
 use Rattle.cq_prefs.proofs.Holding.{matching-of, partner-holds, partner-from}
@@ -20,13 +20,10 @@ kept o v s w q i = search (arith, rules, w.last, w.within, partner-holds, partne
 settled : (o : Orders) → AreOffers o → (s : State) → IsSound o s → IsQuiescent o s → (i j : ℕ) → IsOffered o i j →
     partner_of (matching_of o s) i ≢ Some j →
     HasBetterOutput o (matching_of o s) i j ⊎ HasBetterInput o (matching_of o s) i j
-settled o v s w q i j offered apart = ⊎_elim (λ (l : place_of o i j < next_place s i).
-    let holder = get_or (inputs_of o j) (position_held s j) 0 in
+settled o v s w q i j offered apart =
     let at = position_of-at o v j (position_held s j) in
-    search (arith, rules, w.asked_before, v.shown, partner-from o v s w i j, at, partner-from o v s w holder j))
-    (λ (l : next_place s i ≤ place_of o i j).
-    let is = kept o v s w q i in inl (grind (arith, common_steps, is.matched)))
-    (cases_lt (place_of o i j) (next_place s i))
+    let is = kept o v s w q i in
+    search (arith, rules, w.asked_before, v.shown, partner-from, at, is.matched, is.unmatched, cases_lt)
 
 pub stable-quiet : (o : Orders) → AreOffers o → (s : State) → IsSound o s → IsQuiescent o s →
     IsStable o (matching_of o s)

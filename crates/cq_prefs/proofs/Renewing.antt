@@ -8,7 +8,7 @@
 -- is renewed.
 -- One order that is known but for one port, which left it. Where there is no cell, what is left is the whole order.
 -- Where there is one, the port goes back in at the place that its first cell tells.
-use Rattle.cq_prefs.proofs.Terms.{common_steps, rules, ◌≡◌, ◌≢◌, ℕ, ◌+◌, ◌<◌, ◌≤◌, eqb, Bool, true, false, List, [], ◌∷◌, length, get_or, set, Option, Some, None, refl, sym, ap, ◌∙◌, subst, ⊎_elim, arith, not, replicate, ◌⊎◌, map, filter, All, IsDistinct, range_with_len, cond-true, cases_Bool, cases_eq, cases_lt, eq-eqb, ne_eqb, eqb-true, length-map-range_with_len, get_or-map-range_with_len, length-map, length-set, get_or_past, get_or_default, get_or-set_same, get_or-set_other, ext_get_or, length-replicate, Queued, Waiting, cells_of, AreWaiting, list_of, output_order, input_order, orders_of, HasCellFor, FirstKeysDiffer, Orders, AreOffers, ports, outputs_of, inputs_of, Partners, partner_of, ArePairs, with_pair, without, is_partner, is_pair, AreSameWithout, first_for, kept_has, Has, has_kept, most_ports}
+use Rattle.cq_prefs.proofs.Terms.{common_steps, rules, ◌≡◌, ◌≢◌, ℕ, ◌+◌, ◌<◌, ◌≤◌, eqb, Bool, true, false, List, [], ◌∷◌, length, get_or, set, Option, Some, None, refl, sym, ◌∙◌, arith, not, replicate, map, filter, All, IsDistinct, cond-true, cases_Bool, cases_eq, cases_lt, eq-eqb, ne_eqb, eqb-true, length-map-range_with_len, get_or-map-range_with_len, length-map, length-set, get_or_past, get_or_default, get_or-set_same, get_or-set_other, ext_get_or, length-replicate, Queued, Waiting, cells_of, AreWaiting, list_of, output_order, input_order, orders_of, HasCellFor, FirstKeysDiffer, Orders, AreOffers, ports, outputs_of, inputs_of, Partners, partner_of, ArePairs, with_pair, without, is_partner, is_pair, AreSameWithout, first_for, kept_has, Has, has_kept, most_ports}
 use Rattle.std.proofs.lemmas.List.{get_or-map}
 use Rattle.std.proofs.lemmas.Simd.{map-map}
 use Rattle.cq_prefs.proofs.InputOrder.{OutputsInRange, outputs_at, inputs_at, are_offers, is_input_order}
@@ -30,10 +30,8 @@ pub in_range_of : (lists : List Waiting) (n : ℕ) → All (λ w. AreWaiting w.o
     All (λ w. w.outputs ≡ n) lists → length lists ≡ n → OutputsInRange (cells_of lists)
 in_range_of lists n waiting same size i j c found =
     let d : Waiting = record { cells = []; outputs = 0; spare = 0 } in
-    let here = cells_at lists i d in
-    let below = waiting i d in
-    let inside = cases_lt i (length lists) in
-    search (arith, rules, outputs_below, has_output, here, below, same i d, length-map, get_or_past, inside)
+    let here = cells_at lists i d in let its = waiting i d in
+    search (arith, rules, outputs_below, has_output, here, its, same i d, length-map, get_or_past, cases_lt)
 
 -- ## The orders
 
@@ -46,25 +44,14 @@ pub made_more : (lists : List Waiting) (n : ℕ) (rows : List (List ℕ)) (row :
     n < length lists → row ≡ input_order (cells_of lists) n → Made lists (n + 1) (set rows n row)
 made_more lists n rows row m l e = search (rules, length-set, get_or-set_same, get_or-set_other, m.row, cases_eq)
 
-pub orders_made : (lists : List Waiting) (outputs inputs : List (List ℕ)) →
-    outputs ≡ map (λ w. output_order w.cells) lists → Made lists (length lists) inputs →
+pub orders_made : (lists : List Waiting) (n : ℕ) (outputs inputs : List (List ℕ)) →
+    outputs ≡ map (λ w. output_order w.cells) lists → Made lists n inputs → length lists ≤ n →
     let o : Orders = record { outputs = outputs; inputs = inputs } in o ≡ orders_of (cells_of lists)
-orders_made lists outputs inputs e m =
-    let n = length-map lists (λ (w : Waiting). w.cells) in
+orders_made lists n outputs inputs e m end =
+    let size = length-map lists (λ (w : Waiting). w.cells) in
     let order = map-map output_order (λ (w : Waiting). w.cells) lists in
     let long = length-map-range_with_len (input_order (cells_of lists)) 0 (length (cells_of lists)) in
-    let rows = ext_get_or [] inputs (map (input_order (cells_of lists)) (range_with_len 0 (length (cells_of lists))))
-    (omega arith) (search (arith, rules, m.row, get_or-map-range_with_len)) in
-    cc
-
-pub offers_made : (lists : List Waiting) (outputs inputs : List (List ℕ)) →
-    outputs ≡ map (λ w. output_order w.cells) lists → Made lists (length lists) inputs →
-    (n : ℕ) → All (λ w. AreWaiting w.outputs w.cells) lists → All (λ w. w.outputs ≡ n) lists → length lists ≡ n →
-    n ≤ most_ports →
-    let o : Orders = record { outputs = outputs; inputs = inputs } in AreOffers o × (ports o ≤ most_ports)
-offers_made lists outputs inputs e m n waiting same size few =
-    let o : Orders = record { outputs = outputs; inputs = inputs } in
-    search (arith, rules, orders_made lists outputs inputs e m, are_offers, in_range_of, length-map)
+    let rows = ext_get_or [] inputs in search (arith, rules, same_orders, order, rows, m.row, get_or-map-range_with_len)
 
 -- ## Filters
 
@@ -125,11 +112,6 @@ pub none_between : (m : Partners) (a b : ℕ) (o t : Orders) → Renewing m a o 
 none_between m a b o t r le none =
     grind (arith, common_steps, r.outputs_done, cases_lt, r.outputs_wait, r.inputs_done, r.inputs_wait)
 
--- as where the next input has none
-pub none_more : (m : Partners) (n : ℕ) (o t : Orders) → Renewing m n o t → partner_of m n ≡ None →
-    Renewing m (n + 1) o t
-none_more m n o t r none = search (rules, none_between)
-
 -- ## Ports in range
 
 -- each cell of the lists is for an output: one that the offers before showed, or one of a pair
@@ -137,14 +119,9 @@ pub in_range_still :
     (m : Partners) (o : Orders) (lists : List (List Queued)) → ArePairs m → AreOffers o → length m ≡ ports o →
     length lists ≡ ports o → AreSameWithout m o (orders_of lists) → OutputsInRange lists
 in_range_still m o lists pairs v size long same i j c found =
-    let t = orders_of lists in
     let order = is_output_order (list_of lists i) in
-    let member : Has (outputs_of t i) j = subst (λ (l : List ℕ). Has l j) (sym (outputs_at lists i))
-    (among (output_order (list_of lists i)) j ((order.offered j).1 (c, found))) in
-    ⊎_elim (search (arith, rules, pairs.ports, partner_if)) (λ no_pair.
-    let left = has_kept (λ k. not (is_pair m i k)) (outputs_of t i) j member (ap not no_pair) in
-    search (arith, rules, kept_has, same.outputs, output_in_range, listed))
-    (cases_Bool (is_pair m i j))
+    let left = has_kept (λ k. not (is_pair m i k)) (outputs_of (orders_of lists) i) j in
+    search (arith, rules, partner_if, left, outputs_at, among, order, kept_has, output_in_range, listed, cases_Bool)
 
 -- so what they are to be are offers
 pub still_offers :
@@ -237,10 +214,8 @@ module _ (n j : ℕ) (lists : List Waiting) (inside : n < length lists) (within 
       record { outputs = set outputs n row; inputs = set inputs j column } ≡ orders_of (cells_of lists)
   pair_renewed outputs inputs row column list x at e f =
       let m = pair_of lists n j in
-      let t = orders_of (cells_of lists) in
       let size = pair_size in
-      let next = next_renewed x row list at column e f in
-      search (arith, rules, all_renewed m (length m), none_between m (n + 1) (length m), pair_else)
+      search (arith, rules, next_renewed x, all_renewed m (length m), none_between m (n + 1) (length m), pair_else)
 
 -- ## The order of an input, and that of an output
 

@@ -1,4 +1,4 @@
-use Rattle.cq_prefs.proofs.Terms.{arith, rules, ◌∙◌, sym, cells_of, map, first_key}
+use Rattle.cq_prefs.proofs.Terms.{arith, rules, ◌∙◌}
 use Rattle.cq_prefs.proofs.Halving.{left_parts}
 use Rattle.cq_prefs.proofs.InputOrder.{key_of_member, member_of_key}
 use Rattle.cq_prefs.proofs.PutBack.{none_back, put_back, room_back}
@@ -10,16 +10,10 @@ place_by_key-at-requires c = left_parts _ c.in-Some.key c.args.input _
     (c.as_slice.ensures.ports ∙ c.leave.ensures ∙ c.requires.others)
 
 pub insert-requires-clause-room : goal.insert-requires-clause-room
-insert-requires-clause-room c =
-    let there = member_of_key (map (first_key c.args.output) (cells_of c.args.lists.now)) c.args.input c.in-Some.key in
-    room_back (input_put _ _ c.requires.keys) c.args.input (c.leave.ensures ∙ c.requires.others)
-    (there (sym c.key_of.ensures ∙ c.in-Some.is)) c.requires.few
+insert-requires-clause-room c = search (arith, rules, room_back, input_put, member_of_key)
 
 pub returns-in-Some : goal.returns-in-Some
-returns-in-Some c =
-    let back = put_back (input_put (cells_of c.args.lists.now) c.args.output c.requires.keys) c.args.input
-    (c.leave.ensures ∙ c.requires.others) in
-    search (arith, rules, back, member_of_key)
+returns-in-Some c = search (arith, rules, put_back, input_put, member_of_key)
 
 pub returns-in_default : goal.returns-in_default
 returns-in_default c =

@@ -10,11 +10,7 @@ place_by_place-at-requires c = output_parts c.args.list.now.cells c.in-Some.plac
     (c.as_slice.ensures.ports ∙ c.leave.ensures ∙ c.requires.others)
 
 pub insert-requires-clause-room : goal.insert-requires-clause-room
-insert-requires-clause-room c =
-    let found = found_place c.args.output c.args.list.now.cells c.in-Some.place
-    (sym c.place_for.ensures ∙ c.in-Some.is) in
-    room_back (output_put _) c.args.output (c.leave.ensures ∙ c.requires.others) (output_there _ _ found.1)
-    c.requires.few
+insert-requires-clause-room c = search (arith, rules, room_back, output_put, output_there, found_place)
 
 pub returns-in-Some : goal.returns-in-Some
 returns-in-Some c =

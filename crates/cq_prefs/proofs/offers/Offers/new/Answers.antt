@@ -1,5 +1,6 @@
-use Rattle.cq_prefs.proofs.Places.{made_none}
+use Rattle.cq_prefs.proofs.Terms.{arith, rules, length-replicate}
+use Rattle.cq_prefs.proofs.Places.{no_offers_are}
 use Rattle.cq_prefs.proofs.offers.Offers.new.Goals as goal
 
 pub invariant_of-result : goal.invariant_of-result
-invariant_of-result c = made_none c.args.ports _ _ c.in_ok-no_orders.ensures c.in_ok-no_orders-2.ensures c.requires
+invariant_of-result c = search (arith, rules, no_offers_are, length-replicate)

@@ -1,7 +1,7 @@
-use Rattle.cq_prefs.proofs.Terms.{rules, ◌≡◌, ◌+◌, ℕ, Some, sym, ◌∙◌, subst, arith, cells_of, orders_of, Orders, AreSameWithout}
+use Rattle.cq_prefs.proofs.Terms.{rules, ◌≡◌, ℕ, Some, sym, subst, arith, cells_of, orders_of, Orders, AreSameWithout}
 use Rattle.cq_prefs.specs.declared.offers.Offers.TheInside.{Inside}
 use Rattle.cq_prefs.proofs.InputOrder.{are_orders}
-use Rattle.cq_prefs.proofs.Renewing.{Renewing, Next, none_renewed, none_more, all_renewed, still_offers, row_asks, column_asks, next_renewed}
+use Rattle.cq_prefs.proofs.Renewing.{Next, none_renewed, none_between, all_renewed, still_offers, row_asks, column_asks, next_renewed}
 use Rattle.cq_prefs.proofs.offers.Offers.renew.Goals as goal
 use Rattle.cq_prefs.proofs.offers.Offers.renew.Goals.{After-partner_of, After-inputs, in-Some, in_default}
 
@@ -22,29 +22,20 @@ next c j is = search (arith, rules, still_offers)
 
 pub renew_outputs-requires : goal.renew_outputs-requires
 renew_outputs-requires c =
-    let asks = row_asks (next (goal.at.renew_outputs-requires c).After-partner_of c.in-Some.output c.in-Some.is)
-    c.index_mut.result.now c.index-lists-at.result c.index-lists-at.is c.index_mut.ensures.value in
-    record { differ = asks.0; others = asks.1; few = asks.2 }
+    let x = next (goal.at.renew_outputs-requires c).After-partner_of c.in-Some.output c.in-Some.is in
+    search (arith, rules, row_asks x c.index_mut.result.now c.index-lists-at.result)
 
 pub renew_inputs-requires : goal.renew_inputs-requires
 renew_inputs-requires c =
-    let asks = column_asks (next (goal.at.renew_inputs-requires c).After-partner_of c.in-Some.output c.in-Some.is)
-    c.index_mut-in-Some.result.now c.index_mut-in-Some.ensures.value in
-    record { differ = asks.0; others = asks.1; few = asks.2; keys = c.requires.keys }
+    let x = next (goal.at.renew_inputs-requires c).After-partner_of c.in-Some.output c.in-Some.is in
+    search (arith, rules, column_asks x)
 
 pub inputs-preserved : goal.inputs-preserved
 inputs-preserved c =
-    let m = c.args.changed.now in
-    let n = c.inputs.input in
-    let t = orders_of (cells_of c.args.lists.now) in
+    let x = next (goal.at.inputs-preserved c).After-partner_of in
     elim c.match-partner_of.branch [
-      | in-Some w ↦
-          let x = next (goal.at.inputs-preserved c).After-partner_of w.in-Some.output w.in-Some.is in
-          subst (λ (s : Inside). Renewing m (n + 1) (shown s) t) (sym w.self-inside-is)
-          (next_renewed x w.renew_outputs.new.order w.index-lists-at.result w.index-lists-at.is
-          w.renew_inputs.new.order w.renew_outputs.ensures w.renew_inputs.ensures)
-      | in_default w ↦ subst (λ (s : Inside). Renewing m (n + 1) (shown s) t) (sym w.self-inside-is)
-          (none_more m n _ t c.inputs.invariant (sym c.partner_of.ensures.partner ∙ w.in_default.is))
+      | in-Some w ↦ search (arith, rules, x w.in-Some.output w.in-Some.is, next_renewed)
+      | in_default w ↦ search (arith, rules, none_between)
     ]
 
 -- the orders in the end

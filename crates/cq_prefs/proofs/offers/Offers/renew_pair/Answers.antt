@@ -12,15 +12,12 @@ next c = search (arith, rules, pair_next)
 
 pub renew_outputs-requires : goal.renew_outputs-requires
 renew_outputs-requires c =
-    let asks = row_asks (next (goal.at.renew_outputs-requires c).After-index-lists-at)
-    c.index_mut.result.now c.index-lists-at.result c.index-lists-at.is c.index_mut.ensures.value in
-    record { differ = asks.0; others = asks.1; few = asks.2 }
+    let x = next (goal.at.renew_outputs-requires c).After-index-lists-at in
+    search (arith, rules, row_asks x c.index_mut.result.now c.index-lists-at.result)
 
 pub renew_inputs-requires : goal.renew_inputs-requires
 renew_inputs-requires c =
-    let asks = column_asks (next (goal.at.renew_inputs-requires c).After-index-lists-at)
-    c.index_mut-2.result.now c.index_mut-2.ensures.value in
-    record { differ = asks.0; others = asks.1; few = asks.2; keys = c.requires.keys }
+    let x = next (goal.at.renew_inputs-requires c).After-index-lists-at in search (arith, rules, column_asks x)
 
 -- the orders in the end
 renewed : (c : After-self-2-1) → Next (pair_of c.args.lists.now c.args.input c.args.output) c.args.input c.args.output
