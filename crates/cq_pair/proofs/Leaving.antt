@@ -18,8 +18,7 @@ last_apart (y ∷ ys) (suc k) x e a h = grind (arith, common_steps, Has, has_the
 
 pub last_left : (xs : List ℕ) (x : ℕ) → IsDistinct eqb xs → slice_get xs (length xs - 1) ≡ Some x →
     take (length xs - 1) xs ≡ without x xs
-last_left [] x differ h = absurd (let P : ⊥ = cc in P)
-last_left (y ∷ ys) x differ h = last_apart (y ∷ ys) (length (y ∷ ys) - 1) x (omega arith) (apart (y ∷ ys) differ) h
+last_left xs x differ h = grind (arith, common_steps, last_apart xs (length xs - 1) x, apart)
 
 -- ## One after another
 

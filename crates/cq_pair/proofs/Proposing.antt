@@ -36,12 +36,10 @@ module _ (o : Orders) (v : AreOffers o) (s : State) (w : IsSound o s) where
     others : (k q : ℕ) → partner_of (set (matching_of o s) (holder o s j) None) k ≡ Some q → Holds o s q k × (q ≢ j)
     others k q e =
         let held = holder-holds o v s w j r n in
-        let known = input_in_range o (holder o s j) j (v.shown_back (holder o s j) j held.1) in
-        let size = (matching-of o v s).size in
-        let gone = get_or-set_same (matching_of o s) (holder o s j) None None (omega arith) in
+        let gone = get_or-set_same (matching_of o s) (holder o s j) None None in
         let stays = get_or-set_other (matching_of o s) (holder o s j) k None None in
         let only = same_at_place (inputs_of o j) k (holder o s j) in
-        grind (arith, common_steps, cases_eq k (holder o s j), partner-holds o v s k q, only, stays)
+        search (arith, rules, input_in_range, v.shown_back, matching-of, gone, partner-holds, only, stays, cases_eq)
 
     pub unheld-parted : (k : ℕ) → partner_of (set (matching_of o s) (holder o s j) None) k ≢ Some j
     unheld-parted k e = (others k j e).1 refl
@@ -77,8 +75,7 @@ module _ (o : Orders) (v : AreOffers o) (s : State) (w : IsSound o s) where
 
       pub matching-empty : position_held s (next_output o s i) ≡ ports o →
           set (matching_of o s) i (Some (next_output o s i)) ≡ matching_of o (propose o s i)
-      matching-empty e = matching-taken (matching_of o s) (matching-of o v s).size
-          (search (rules, partner-holds, unheld-empty)) (search (rules, partner-from))
+      matching-empty e = search (rules, matching-taken, matching-of, partner-holds, unheld-empty, partner-from)
 
       pub matching-displaced : position_held s (next_output o s i) ≢ ports o →
           set (set (matching_of o s) (holder o s (next_output o s i)) None) i (Some (next_output o s i))
@@ -86,11 +83,9 @@ module _ (o : Orders) (v : AreOffers o) (s : State) (w : IsSound o s) where
       matching-displaced n =
           let j : ℕ = next_output o s i in
           let r = output_in_range o v i j st.offered in
-          let k' : ℕ = holder o s j in
           let held = holder-holds o v s w j r n in
-          matching-taken (set (matching_of o s) k' None) (length-set (matching_of o s) _ _ ∙ (matching-of o v s).size)
-          (others j r n)
-          (search (arith, rules, held_once, get_or-set_other, partner-from))
+          let taken = matching-taken (set (matching_of o s) (holder o s j) None) in
+          search (arith, rules, taken, length-set, matching-of, others j r n, held_once, get_or-set_other, partner-from)
 
 -- ## The steps put together
 

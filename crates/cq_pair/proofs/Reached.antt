@@ -1,7 +1,7 @@
 -- What is reached by proposals. At the beginning the inputs that wait are those with an offer. Whoever stands in the
 -- list of free inputs is free, and where the list is empty nobody is, so what is held is the matching best for the
 -- inputs.
-use Rattle.cq_pair.proofs.Terms.{rules, ℕ, ◌≡◌, ◌+◌, ◌*◌, ◌<◌, ◌≤◌, List, [], ◌∷◌, Option, None, length, get_or, replicate, sym, ◌∙◌, ap, arith, subst, common_steps, range_with_len, length-replicate, filter_passes, Orders, AreOffers, ports, IsOffered, IsInputBest, proposals, State, start, IsFree, IsQuiescent, IsSound, is_free, free_inputs, next_output, propose, matching_of, input_in_range, output_in_range, inputs_at_most, sound-start, sound-after, held-start, next_output-offered, nobody, free_if, free_only_if, matching-of, matching_of-is, events_at_most, events-quiet, Progress, IsReached, ShowsWaiting, has_number, has_kept, Has}
+use Rattle.cq_pair.proofs.Terms.{rules, ℕ, ◌≡◌, ◌+◌, ◌*◌, ◌<◌, ◌≤◌, List, [], ◌∷◌, Option, None, length, get_or, replicate, ◌∙◌, ap, arith, common_steps, range_with_len, length-replicate, filter_passes, Orders, AreOffers, ports, IsOffered, IsInputBest, proposals, start, IsFree, IsQuiescent, IsSound, is_free, free_inputs, next_output, propose, matching_of, input_in_range, output_in_range, inputs_at_most, sound-start, sound-after, held-start, next_output-offered, nobody, free_if, free_only_if, matching-of, matching_of-is, events_at_most, events-quiet, Progress, IsReached, ShowsWaiting, has_number, has_kept}
 use Rattle.cq_prefs.proofs.Quiet.{input_best-quiet}
 use Rattle.cq_pair.proofs.Waiting.{waiting-free}
 
@@ -34,20 +34,16 @@ module _ (o : Orders) (v : AreOffers o) (c : Progress) (r : IsReached o c) where
   pub free-shown : (k : ℕ) → k < length c.free → IsFree o c.state (get_or c.free k 0)
   unfolding free_inputs
   free-shown k inside =
-      let passes = filter_passes (is_free o c.state) (range_with_len 0 (ports o)) k 0
-      (let e = ap length r.free in omega arith) in search (arith, rules, free_if o v c.state, sound-reached)
+      search (arith, rules, filter_passes (is_free o c.state) (range_with_len 0 (ports o)) k 0, free_if, sound-reached)
 
   quiet-reached : c.free ≡ [] → IsQuiescent o c.state
   unfolding free_inputs
   quiet-reached empty i f =
-      let known = free_known i f in
-      let there = has_number 0 (ports o) i (omega arith) (omega arith) in
-      subst (λ (l : List ℕ). Has l i) (sym r.free ∙ empty) (has_kept _ _ i there (free_only_if o v c.state i f))
+      let there = has_kept (is_free o c.state) (range_with_len 0 (ports o)) i in
+      search (arith, rules, free_known, has_number, there, free_only_if)
 
   pub best-reached : c.free ≡ [] → IsInputBest o c.matching × (c.made ≡ proposals o c.matching)
-  best-reached empty =
-      let Q : State → Type 0 = λ s. IsQuiescent o s in
-      search (arith, rules, quiet-reached empty, input_best-quiet, events-quiet)
+  best-reached empty = search (arith, rules, quiet-reached empty, input_best-quiet, events-quiet)
 
 -- ## The beginning
 

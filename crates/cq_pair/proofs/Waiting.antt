@@ -1,7 +1,7 @@
 -- The inputs that wait, as places and pairs change. An input that gets a partner, or has no output left, is taken out
 -- of the list, and one that is parted goes back in by its number if it has an output left. The others stay as they
 -- were, and all stand in order of number.
-use Rattle.cq_pair.proofs.Terms.{common_steps, rules, ℕ, zero, suc, ◌≡◌, ◌≢◌, ◌+◌, ◌<◌, ◌≤◌, Bool, true, false, is_none, eqb, List, [], ◌∷◌, length, set, get_or, replicate, Option, Some, None, refl, ap, arith, filter, IsDistinct, IsNonDecreasingBy, range_with_len, AllPairs, IsDistinct-from_apart, get_or-range_with_len, cases_lt, and-true, cases_eq, cond_both, cond-true, eq-eqb, ne_eqb, lt-ltb, le-ltb, and_left, and_right, get_or-set_same, get_or-set_other, filter_agree, length-range_with_len, Orders, AreOffers, ports, outputs_of, Partners, partner_of, State, start, is_free, matching_of, free_inputs, length-put, few_kept, next_place-start, nobody, partner-is, with_input, without, inputs_with_offers, is_waiting, waiting_inputs}
+use Rattle.cq_pair.proofs.Terms.{common_steps, rules, ℕ, ◌≡◌, ◌≢◌, ◌<◌, ◌≤◌, Bool, true, false, is_none, eqb, List, [], ◌∷◌, length, set, get_or, replicate, Option, Some, None, refl, ap, arith, filter, IsDistinct, IsNonDecreasingBy, range_with_len, AllPairs, IsDistinct-from_apart, get_or-range_with_len, cases_lt, and-true, cases_eq, cond_both, eq-eqb, ne_eqb, lt-ltb, le-ltb, and_left, and_right, get_or-set_same, get_or-set_other, filter_agree, length-range_with_len, Orders, AreOffers, ports, outputs_of, Partners, partner_of, State, start, is_free, matching_of, free_inputs, length-put, few_kept, next_place-start, nobody, partner-is, with_input, without, inputs_with_offers, is_waiting, waiting_inputs, ltb, put_is, has_kept, has_number, ltb-true, each_pair, apart_filter, apart_range, IsPut, put_back}
 use Rattle.std.proofs.lemmas.List.Kept.{AllPairs-from_increasing, IsStrictlyIncreasing-filter}
 
 -- ## A test that changes at one number
@@ -13,30 +13,21 @@ left_out p q i out same [] = refl
 left_out p q i out same (x ∷ xs) =
     grind (arith, common_steps, cond_both, eq-eqb, ne_eqb, cases_eq, left_out p q i out same xs)
 
-agree_above : (p q : ℕ → Bool) (i : ℕ) → ((k : ℕ) → k ≢ i → q k ≡ p k) → (a n : ℕ) → i < a →
-    filter q (range_with_len a n) ≡ filter p (range_with_len a n)
-agree_above p q i same a zero l = refl
-agree_above p q i same a (suc n) l =
-    grind (arith, common_steps, cond_both, agree_above p q i same (a + 1) n)
-
-goes_first : (p : ℕ → Bool) (i a n : ℕ) → i < a →
-    with_input i (filter p (range_with_len a n)) ≡ i ∷ filter p (range_with_len a n)
-goes_first p i a zero l = refl
-goes_first p i a (suc n) l = grind (arith, common_steps, cond_both, cond-true, lt-ltb, goes_first p i (a + 1) n)
-
--- it holds at i now, and is as before elsewhere
-put_back : (p q : ℕ → Bool) (i : ℕ) → p i ≡ false → q i ≡ true → ((k : ℕ) → k ≢ i → q k ≡ p k) → (a n : ℕ) → a ≤ i →
-    i < a + n → filter q (range_with_len a n) ≡ with_input i (filter p (range_with_len a n))
-put_back p q i out back same a zero l u = absurd (omega arith)
-put_back p q i out back same a (suc n) l u =
-    grind (arith, common_steps, cases_eq a i, agree_above, goes_first, put_back p q i out back same (a + 1) n)
-
 -- ## In order of number
 
 -- the numbers of a range that pass a test rise
 kept_rise : (p : ℕ → Bool) (n : ℕ) → AllPairs (λ x y. x < y) (filter p (range_with_len 0 n))
 kept_rise p n = search
     (arith, rules, AllPairs-from_increasing, IsStrictlyIncreasing-filter, length-range_with_len, get_or-range_with_len)
+
+-- it holds at i now, and is as before elsewhere
+back_in : (p q : ℕ → Bool) (i n : ℕ) → p i ≡ false → q i ≡ true → ((k : ℕ) → k ≢ i → q k ≡ p k) → i < n →
+    filter q (range_with_len 0 n) ≡ with_input i (filter p (range_with_len 0 n))
+back_in p q i n out back same inside =
+    let rises = each_pair (λ x k. ltb x k ≡ true) (filter q (range_with_len 0 n)) in
+    let put : IsPut ltb (filter q (range_with_len 0 n)) =
+    search (arith, rules, apart_filter, apart_range, rises, kept_rise, lt-ltb, ltb-true) in
+    search (arith, rules, put_is, put_back put i, left_out q p i out, has_kept, has_number)
 
 -- ## Who waits
 
@@ -88,7 +79,7 @@ module _ (o : Orders) (places : List ℕ) (m : Partners) (i : ℕ) where
   module _ (known : i < ports o) (inside : i < length m) (had : partner_of m i ≢ None)
       (left : get_or places i 0 < length (outputs_of o i)) where
     pub parted_back : with_input i (waiting_inputs o places m) ≡ waiting_inputs o places (set m i None)
-    parted_back = search (arith, rules, put_back, waits-no, get_or-set_same, waits-partner, lt-ltb)
+    parted_back = search (arith, rules, back_in, waits-no, get_or-set_same, waits-partner, lt-ltb)
 
     pub room_back : length (waiting_inputs o places m) < ports o
     room_back = let a = ap length parted_back in omega (arith, length-put, few_waiting)

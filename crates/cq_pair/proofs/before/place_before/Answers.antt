@@ -16,6 +16,5 @@ last_seen order end port None differ inside found none =
 
 pub returns : goal.returns
 returns c =
-    let both = last_seen c.args.order.now c.args.end c.args.port c.rposition.result c.requires.differ c.requires.inside
-    (λ i is. (search rules, search rules)) (λ none. search rules) in
-    record { found = both.0; place = both.1 }
+    let both = last_seen c.args.order.now c.args.end c.args.port c.rposition.result in
+    search (arith, rules, both)

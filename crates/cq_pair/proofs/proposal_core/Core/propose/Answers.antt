@@ -1,4 +1,4 @@
-use Rattle.cq_pair.proofs.Terms.{rules, length, refl, sym, ◌∙◌, ap, arith, outputs_at_most}
+use Rattle.cq_pair.proofs.Terms.{rules, refl, arith, outputs_at_most}
 use Rattle.cq_pair.proofs.Reached.{places_known, waiting-reached}
 use Rattle.cq_pair.proofs.Proposing.{few_made, rejected, holding, displaced, input_known, output_known, can_take, can_part, can_take_then, held_inside}
 use Rattle.cq_pair.proofs.proposal_core.Core.propose.Goals as goal
@@ -14,13 +14,10 @@ returns-in_default c = let r = rejected c.asked_by-asked.ensures.ask c.move_on.e
 -- ## The output held nobody
 
 pub take-requires : goal.take-requires
-take-requires c =
-    can_take c.asked_by-asked.ensures.ask c.move_on.ensures (c.if-asked-ports.true ∙ c.ports.ensures.value)
+take-requires c = search (arith, rules, can_take c.asked_by-asked.ensures.ask)
 
 pub returns-then-asked-ports : goal.returns-then-asked-ports
-returns-then-asked-ports c =
-    let r = holding c.asked_by-asked.ensures.ask c.move_on.ensures c.in-Some.is
-    (c.if-asked-ports.true ∙ c.ports.ensures.value) c.take.ensures in search (rules)
+returns-then-asked-ports c = search (rules, holding c.asked_by-asked.ensures.ask c.move_on.ensures c.in-Some.is)
 
 -- ## The output held another input
 
@@ -28,10 +25,7 @@ pub inputs_of-requires : goal.inputs_of-requires
 inputs_of-requires c = output_known c.asked_by-asked.ensures.ask
 
 pub bounds-inputs_of-asked : goal.bounds-inputs_of-asked
-bounds-inputs_of-asked c =
-    let inside = held_inside c.asked_by-asked.ensures.ask
-    (λ e. c.if-asked-ports.false (e ∙ sym c.ports.ensures.value)) in
-    let e = ap length c.inputs_of.ensures in omega arith
+bounds-inputs_of-asked c = search (arith, rules, held_inside c.asked_by-asked.ensures.ask)
 
 pub part-requires : goal.part-requires
 part-requires c =
@@ -40,8 +34,7 @@ part-requires c =
     search (arith, rules)
 
 pub take-requires-2 : goal.take-requires-2
-take-requires-2 c = can_take_then c.asked_by-asked.ensures.ask c.move_on.ensures c.inputs_of.ensures refl
-    c.ports.ensures.value c.if-asked-ports.false c.part.ensures
+take-requires-2 c = search (arith, rules, can_take_then c.asked_by-asked.ensures.ask)
 
 pub returns : goal.returns
 returns c =
