@@ -1,7 +1,7 @@
 -- The places of a slot's arrivals are filled input by input. Those before the next input have what arrives there, and
 -- the others have what stood there before. No cell stood behind the last line, and none arrives there. So in the end
 -- each place has what arrives.
-use Rattle.cq_cells.proofs.Terms.{common_steps, rules, ◌≡◌, ℕ, ◌+◌, ◌<◌, ◌≤◌, List, length, get_or, set, Option, None, ◌∙◌, length-set, get_or-set_same, get_or-set_other, arith, cases_eq, cases_lt, fill_by_all, unwrap_or-slice_get, no_arrivals, Arrival, arriving_at, arriving, Cell, arrival_at-no_arrivals, StandBelow, AreOwn, all_of}
+use Rattle.cq_cells.proofs.Terms.{common_steps, rules, ◌≡◌, ℕ, ◌+◌, ◌<◌, ◌≤◌, List, length, get_or, set, Option, None, length-set, get_or-set_same, get_or-set_other, arith, cases_eq, cases_lt, fill_by_all, unwrap_or-slice_get, no_arrivals, Arrival, arriving_at, arriving, Cell, arrival_at-no_arrivals, StandBelow, AreOwn, all_of}
 use Rattle.cq_cells.proofs.Owned.{none_arrives_past}
 
 -- no cell stands anywhere
@@ -29,9 +29,7 @@ module _ (lines : List (List Arrival)) (slot n : ℕ) (old now : List (Option Ce
 
   pub all_filled : now ≡ arriving (all_of lines) slot
   unfolding arriving
-  all_filled =
-      let none = None in
-      fill_by_all (arriving_at (all_of lines) slot) now 64 none (f.places ∙ stand.places) (λ i _. each_place i)
+  all_filled = search (arith, rules, fill_by_all (arriving_at (all_of lines) slot) now 64 None, each_place)
 
   pub still_stand : StandBelow (length lines) now
   still_stand = grind (arith, common_steps, unwrap_or-slice_get, each_place, none_arrives_past)

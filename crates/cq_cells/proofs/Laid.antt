@@ -68,15 +68,11 @@ next_row t captures input k ps places ways row origin free all rows old counts t
     let to = way_to_port t captures input ways sent k row.output row.class tables within routed in
     let made : row ≡ row_of t captures input k =
     grind (arith, common_steps, start_by, row_is_of, way_is, its) in
-    let longer = longer_by t captures input k in
-    let ends = ends_by t captures input k in
-    let few = few_by t captures input (k + 1) tables.cell_bytes.0 read.recorded (omega arith) in
-    let early = early_by t captures input (k + 1) read.recorded (omega arith) in
-    let its_end = end_packet t captures input k in
-    let its_length = length_packet t captures input k in
+    let few = few_by t captures input (k + 1) tables.cell_bytes.0 read.recorded in
+    let early = early_by t captures input (k + 1) read.recorded in
     let each = s.each row.output in
     let of_output = few_kept (is_to row.output) in
-    search (arith, rules, made, to, longer, ends, few, early, its_end, its_length, each, of_output, came_by)
+    search (arith, rules, longer_by, ends_by, few, early, end_packet, length_packet, of_output, came_by)
 
 -- what stands at the end of a line
 pub record IsWhole (t : Tables) (captures : List (List Captured)) (input : ℕ) (rows : List Row) (free cells : ℕ)

@@ -120,9 +120,8 @@ module _ (t : Tables) (captures : List (List Captured)) (input : ℕ) where
   unfolding stamp_slot
   early_by zero r h = omega arith
   early_by (suc k) r h =
-      let longer = longer_by k in
       let stamp = All-from_recursion (λ (p : Captured). p.stamp < 2 ^ 63) (packets_of captures input) r.stamps in
-      search (arith, rules, ends_by, stamp, div-le_self, length_packet, end_packet, start_by, early_by k r)
+      search (arith, rules, longer_by k, ends_by, stamp, div-le_self, length_packet, end_packet, start_by, early_by k r)
 
   -- a packet has ended when a later one begins
   pub ends_before : (j k : ℕ) → j < k → start t captures input j + cells t captures input j ≤ start t captures input k

@@ -1,10 +1,9 @@
 -- Lists that are made number by number: what is found in them, and what holds of each two of their items.
-use Rattle.cq_cells.proofs.Terms.{rules, ◌≡◌, ◌≢◌, ℕ, zero, suc, ◌+◌, ◌<◌, ◌≤◌, Bool, List, [], ◌∷◌, ◌++◌, map, flat_map, None, refl, ap, sym, ◌∙◌, set, arith, common_steps, range_with_len, find, cases_eq, find-append, map-id, get_or-set_same, get_or-set_other, length-set, map-range_with_len_more, fill_by_all, length-map-range_with_len, get_or-map-range_with_len, EachPair, Has, all_flat, all_from_has, all_made, all_of_has, pairs_joined}
+use Rattle.cq_cells.proofs.Terms.{rules, ◌≡◌, ◌≢◌, ℕ, zero, suc, ◌+◌, ◌<◌, ◌≤◌, Bool, List, [], ◌∷◌, ◌++◌, map, flat_map, None, refl, ◌∙◌, set, arith, common_steps, range_with_len, find, cases_eq, find-append, map-id, get_or-set_same, get_or-set_other, length-set, map-range_with_len_more, fill_by_all, length-map-range_with_len, get_or-map-range_with_len, EachPair, Has, all_flat, all_from_has, all_made, all_of_has, pairs_joined}
 
 -- the numbers up to the next one
 pub range_more : (a n : ℕ) → range_with_len a (n + 1) ≡ range_with_len a n ++ (a + n) ∷ []
-range_more a n = sym (map-id (range_with_len a (n + 1))) ∙ map-range_with_len_more (λ j. j) a n (a + n) refl
-    ∙ ap (λ ns. ns ++ (a + n) ∷ []) (map-id (range_with_len a n))
+range_more a n = simp map-id at (map-range_with_len_more (λ (j : ℕ). j) a n (a + n) refl)
 
 -- two functions that agree on the numbers make the same list
 pub flat_same : {X : Type 0} (f g : ℕ → List X) (a n : ℕ) → ((j : ℕ) → a ≤ j → j < a + n → f j ≡ g j) →

@@ -1,7 +1,7 @@
 -- The cells of an input arrive one after another: those of a packet in consecutive slots, and those of the next
 -- packet after them. Cells of two inputs have nothing to do with each other. So each arrival of the list is later
 -- than those before it at its input.
-use Rattle.cq_cells.proofs.Terms.{common_steps, rules, ◌≡◌, ℕ, zero, suc, ◌+◌, ◌*◌, ◌^◌, ◌<◌, ◌≤◌, List, [], length, map, filter, flat_map, refl, arith, AllByRecursion, range_with_len, length-append, get_or-map-range_with_len, length-map-range_with_len, Arrival, end_of, enough, Captured, Tables, AreTables, classes_of, ports_of, route_output, route_class, packets_of, cells, start, cell_of, arrivals_of, arrivals_at, arrivals, AreOwn, all_of, flat_map-map, IsInRange, IsLater, IsTraffic, IsShort, IsRecorded, is_from, all_flat, all_made, all_of_has, all_pairs, EachPair}
+use Rattle.cq_cells.proofs.Terms.{common_steps, rules, ◌≡◌, ℕ, zero, suc, ◌+◌, ◌*◌, ◌^◌, ◌<◌, ◌≤◌, List, length, map, filter, flat_map, refl, arith, AllByRecursion, range_with_len, length-append, get_or-map-range_with_len, length-map-range_with_len, Arrival, end_of, enough, Captured, Tables, AreTables, classes_of, ports_of, route_output, route_class, packets_of, cells, start, cell_of, arrivals_of, arrivals_at, arrivals, AreOwn, all_of, flat_map-map, IsInRange, IsLater, IsTraffic, IsShort, IsRecorded, is_from, all_flat, all_made, all_of_has, all_pairs, EachPair}
 use Rattle.cq_cells.proofs.Looked.{piece}
 use Rattle.cq_cells.proofs.Owned.{AllFrom, counted, end_of-append}
 use Rattle.cq_cells.proofs.Packets.{few_by, early_by, ends_before}
@@ -37,9 +37,7 @@ module _ (t : Tables) (captures : List (List Captured)) where
 
   all_later : EachPair IsLater (arrivals t captures)
   unfolding arrivals
-  all_later = pairs_flat IsLater (arrivals_at t captures) 0 (length captures) line_later
-      (λ i j x y less one two same.
-      search (arith, rules, all_of_has, own_input))
+  all_later = search (arith, rules, pairs_flat IsLater (arrivals_at t captures), line_later, all_of_has, own_input)
 
   pub traffic_is : AreTables t → length captures ≡ ports_of t.setup →
       IsTraffic (ports_of t.setup) (classes_of t.setup) (arrivals t captures)
@@ -83,8 +81,6 @@ module _ (t : Tables) (captures : List (List Captured)) where
   pub at_input : (input : ℕ) → input < length captures →
       filter (is_from input) (arrivals t captures) ≡ arrivals_at t captures input
   at_input input inside =
-      let n = length captures in
-      let lines = map (arrivals_at t captures) (range_with_len 0 n) in
-      let many = length-map-range_with_len (arrivals_at t captures) 0 n in
-      let there = get_or-map-range_with_len (arrivals_at t captures) 0 n input input [] inside in
-      search (arith, rules, many, all_lines lines refl, counted input 0 input lines, own_lines 0 n, there)
+      let lines = map (arrivals_at t captures) (range_with_len 0 (length captures)) in
+      let its = counted input 0 input lines in
+      search (arith, rules, length-map-range_with_len, get_or-map-range_with_len, all_lines lines refl, its, own_lines)

@@ -1,5 +1,5 @@
 -- The least stamp, capture by capture.
-use Rattle.cq_cells.proofs.Terms.{common_steps, ◌≡◌, ℕ, zero, suc, ◌+◌, ◌<◌, min, List, [], ◌∷◌, length, map, take, slice_index_or, refl, ap, arith, append-nil, take_more, flat_map-append, fold-append, Captured, rows_from, PacketRow, reduce, fold, earlier, stamps_of}
+use Rattle.cq_cells.proofs.Terms.{common_steps, ◌≡◌, ℕ, suc, ◌+◌, ◌<◌, min, List, [], ◌∷◌, length, map, take, slice_index_or, refl, ap, arith, append-nil, take_more, flat_map-append, fold-append, Captured, rows_from, PacketRow, reduce, fold, earlier, stamps_of}
 
 fold_min : (a b : ℕ) (ns : List ℕ) → fold min (min a b) ns ≡ min a (fold min b ns)
 fold_min a b [] = refl
@@ -28,5 +28,4 @@ pub row_is_of : (place : ℕ) (ps : List Captured) (k : ℕ) (d : PacketRow) (e 
     ((slice_index_or (rows_from place ps) k d).stamp ≡ (slice_index_or ps k e).stamp)
     × ((slice_index_or (rows_from place ps) k d).len ≡ length (slice_index_or ps k e).body)
 row_is_of place [] k d e h = absurd (omega arith)
-row_is_of place (p ∷ ps) zero d e h = (refl, refl)
-row_is_of place (p ∷ ps) (suc k) d e h = row_is_of (place + 16 + length p.body) ps k d e (omega arith)
+row_is_of place (p ∷ ps) k d e h = grind (arith, common_steps, row_is_of (place + 16 + length p.body) ps)

@@ -1,7 +1,7 @@
 -- The next slot with an arrival. At one input the packets that have arrived whole before a slot stand first. Of the
 -- others the first one begins first, and its cells come one a slot. So the slot itself has a cell where that packet
 -- has begun, and else the slot in which it begins is the next one. Of several inputs the earliest counts.
-use Rattle.cq_cells.proofs.Terms.{common_steps, rules, ◌≡◌, ℕ, zero, suc, ◌+◌, ◌-◌, ◌<◌, ◌≤◌, max, List, [], ◌∷◌, ◌++◌, length, map, flat_map, Option, Some, None, inl, inr, arith, AllByRecursion, range_with_len, cases_eq, cases_lt, Arrival, Cell, Row, AreRows, IsEnded, line_arrivals, row_arrivals, row_at, row_cell, ArrivesIn, IsFirstFrom, IsNextArrival, earlier, all_both, all_weaker, all_made, all_flat}
+use Rattle.cq_cells.proofs.Terms.{common_steps, rules, ◌≡◌, ℕ, zero, suc, ◌+◌, ◌-◌, ◌<◌, ◌≤◌, max, List, [], ◌∷◌, ◌++◌, length, map, flat_map, Option, Some, None, inr, arith, AllByRecursion, range_with_len, cases_eq, cases_lt, Arrival, Cell, Row, AreRows, IsEnded, line_arrivals, row_arrivals, row_at, row_cell, ArrivesIn, IsFirstFrom, IsNextArrival, earlier, all_both, all_weaker, all_made, all_flat}
 use Rattle.cq_cells.proofs.Looked.{piece}
 use Rattle.cq_cells.proofs.Pieces.{cells_above}
 
@@ -9,8 +9,7 @@ use Rattle.cq_cells.proofs.Pieces.{cells_above}
 
 arrives_first : (slot : ℕ) (xs ys : List Arrival) → ArrivesIn slot xs → ArrivesIn slot (xs ++ ys)
 arrives_first slot [] ys at = absurd at
-arrives_first slot (x ∷ xs) ys (inl here) = inl here
-arrives_first slot (x ∷ xs) ys (inr later) = inr (arrives_first slot xs ys later)
+arrives_first slot (x ∷ xs) ys at = grind (arith, common_steps, arrives_first slot xs ys)
 
 arrives_second : (slot : ℕ) (xs ys : List Arrival) → ArrivesIn slot ys → ArrivesIn slot (xs ++ ys)
 arrives_second slot [] ys at = at

@@ -13,8 +13,7 @@ given c =
     c.cell_near-cell.ensures
 
 pub put-requires-clause-own : goal.put-requires-clause-own
-put-requires-clause-own c = rw (given (goal.at.put-requires-clause-own c).After-cell_near-cell)
-    (arrives_own (all_of c.args.lines.now) c.args.slot c.lines.input)
+put-requires-clause-own c = search (rules, given, arrives_own)
 
 pub lines-preserved : goal.lines-preserved
 lines-preserved c = search (arith, rules, filling_next, given)

@@ -1,4 +1,4 @@
-use Rattle.cq_cells.proofs.Terms.{rules, slice_index_or, arith, ℕ, ◌+◌, ap, ◌∙◌, ◌<◌, length, get_or_read}
+use Rattle.cq_cells.proofs.Terms.{rules, slice_index_or, arith, ◌+◌, ◌<◌, length, get_or_read}
 use Rattle.cq_cells.proofs.Laid.{many_ways, AreRead, IsMade, IsWhole, at_end, next_row}
 use Rattle.cq_cells.proofs.Packets.{so_far_more}
 use Rattle.cq_cells.proofs.Stamps.{length-rows_from}
@@ -60,8 +60,7 @@ pub overflow_add-to_output : goal.overflow_add-to_output
 overflow_add-to_output c =
     let each = (made (goal.at.overflow_add-to_output c).After-row_of-row).each in
     let inside = counted (goal.at.overflow_add-to_output c).After-row_of-row in
-    let ports = c.packets.invariant.so_far.ports in
-    let room = c.requires.room c.row_of-row.result.output (omega arith) in omega (arith, c.from-in-packets.ensures)
+    search (arith, rules, c.requires.room)
 
 pub push_reserved-requires : goal.push_reserved-requires
 push_reserved-requires c = search (arith, rules)
@@ -73,13 +72,8 @@ packets-preserved c =
     let output = c.row_of-row.result.output in
     let more = so_far_more c.args.tables.now c.args.captures.now c.args.input c.packets.k c.packets.rows.items
     c.packets.free c.packets.cells c.args.to_output.now counts c.row_of-row.result
-    (slice_index_or counts output 0 + c.from-in-packets.result) c.packets.invariant.so_far is
-    (ap (λ (n : ℕ). slice_index_or counts output 0 + n) c.from-in-packets.ensures) in
-    record {
-      so_far = rw (c.push_reserved.ensures.items, c.from.ensures, c.from-cells.ensures) more;
-      filled = c.push_reserved.ensures.len ∙ ap (λ (n : ℕ). n + 1) c.packets.invariant.filled;
-      room = c.push_reserved.ensures.capacity ∙ c.packets.invariant.room;
-    }
+    (slice_index_or counts output 0 + c.from-in-packets.result) c.packets.invariant.so_far is in
+    search (arith, rules, more)
 
 -- ## What the line is
 

@@ -1,4 +1,4 @@
-use Rattle.cq_cells.proofs.Terms.{rules, slice_index_or, arith, ◌≡◌, with_items_is, get_or-replicate, length-replicate, length-map-range_with_len, all_of, arrivals}
+use Rattle.cq_cells.proofs.Terms.{rules, slice_index_or, arith, with_items_is, get_or-replicate, length-replicate, length-map-range_with_len}
 use Rattle.cq_cells.proofs.Rising.{own_lines, all_lines, traffic_is, short_is}
 use Rattle.cq_cells.proofs.schedule.Schedule.of.Goals as goal
 
@@ -12,7 +12,5 @@ invariant_of-result g c = search (arith, rules, sizes, own_lines, c.in_ok-lines.
 
 pub returns : goal.returns
 returns g c =
-    let came : all_of c.in_ok-lines.lines.items ≡ arrivals c.args.tables.now c.args.captures.now =
-    all_lines c.args.tables.now c.args.captures.now c.in_ok-lines.lines.items c.in_ok-lines.ensures.lines in
-    let recorded = c.in_ok-lines.ensures.recorded in
-    search (arith, rules, length-map-range_with_len, came, c.t0_of-t0.ensures, traffic_is, short_is, recorded)
+    let came = all_lines c.args.tables.now c.args.captures.now c.in_ok-lines.lines.items c.in_ok-lines.ensures.lines in
+    search (arith, rules, length-map-range_with_len, came, traffic_is, short_is)
