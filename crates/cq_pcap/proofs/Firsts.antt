@@ -41,8 +41,4 @@ first_says form place xs answer e = grind (arith, common_steps, nat_tests)
 pub first_said : (form : Form) (place : ℕ) (xs : List ℕ) (answer : Result Captured PcapRefusal) →
     Says form place xs answer → first_packet form place xs ≡ answer
 unfolding first_packet
-first_said form place xs (Ok p) h = grind (arith, common_steps, nat_tests)
-first_said form place xs (Err (CutHeader offset)) h = grind (arith, common_steps, nat_tests)
-first_said form place xs (Err (LongRecord offset len)) h = grind (arith, common_steps, nat_tests)
-first_said form place xs (Err (CutBody offset)) h = grind (arith, common_steps, nat_tests)
-first_said form place xs _ h = absurd h
+first_said form place xs answer h = grind (arith, common_steps, nat_tests)

@@ -1,5 +1,5 @@
 -- The first bytes of a file tell its form, or the first fault of its header: the tests compare what the rule compares.
-use Rattle.cq_pcap.proofs.Terms.{rules, ◌≡◌, ℕ, ◌%◌, ◌^◌, ◌≤◌, Bool, true, false, List, ◌++◌, length, refl, subst, arith, length-append, common_steps, Option, None, Some, Result, Ok, Err, Decides, Decides-and, Decides-eqb, Decides-like, nat_tests, take-append-le, bytes_eq-Decides, Form, form_at, number_at, PcapRefusal, NoHeader, Magic, Version, LinkType, NoMemory, IsFaulty, has_link_type, has_version, header_form, offset_of, HasMagic, HasVersion, HasLinkType, IsHeader}
+use Rattle.cq_pcap.proofs.Terms.{rules, ◌≡◌, ℕ, ◌%◌, ◌^◌, ◌≤◌, Bool, false, List, ◌++◌, length, refl, subst, arith, length-append, common_steps, Option, None, Some, Result, Ok, Err, Decides, Decides-and, Decides-eqb, Decides-like, nat_tests, take-append-le, bytes_eq-Decides, Form, form_at, number_at, PcapRefusal, IsFaulty, has_link_type, has_version, header_form, offset_of, HasMagic, HasVersion, HasLinkType, IsHeader}
 use Rattle.cq_pcap.proofs.Numbers.{number_at-append}
 
 -- a form is found by its magic
@@ -20,8 +20,7 @@ link-Decides form bytes = Decides-eqb (number_at form.big 4 bytes 20 % 2 ^ 16) 1
 
 -- a test of what is not so
 is_false : {P : Type 0} (b : Bool) → Decides b P → ¬ P → b ≡ false
-is_false true d h = absurd (h (d.0 refl))
-is_false false d h = refl
+is_false b d h = grind (arith, common_steps)
 
 -- what an answer says of the header
 abbrev pub Says : List ℕ → Result Form PcapRefusal → Type 0
@@ -56,10 +55,4 @@ no_form bytes (Some form) e h = absurd (h form (found_magic form bytes e))
 pub header_faulty : (bytes : List ℕ) (fault : PcapRefusal) → offset_of fault ≡ None → IsFaulty bytes fault →
     header_form bytes ≡ Err fault
 unfolding header_form
-header_faulty bytes NoHeader o h = grind (arith, common_steps, nat_tests)
-header_faulty bytes Magic o h =
-    let none = no_form bytes (form_at bytes) refl h.1 in grind (arith, common_steps, nat_tests, none)
-header_faulty bytes Version o h = grind (arith, common_steps, nat_tests, form_found, is_false, version-Decides)
-header_faulty bytes LinkType o h = search (rules, nat_tests, form_found, is_false, version-Decides, link-Decides)
-header_faulty bytes NoMemory o h = absurd h
-header_faulty bytes _ o h = absurd (cc)
+header_faulty bytes fault o h = search (rules, nat_tests, form_found, is_false, version-Decides, link-Decides, no_form)

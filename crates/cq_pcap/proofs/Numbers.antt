@@ -12,13 +12,11 @@ AreBytes-drop xs n fits i = subst (λ k. k < 256) (sym (get_or-drop n xs i 0)) (
 
 pub number_in-reads_back : (big : Bool) (x : ℕ) (rest : List ℕ) → x < 2 ^ 32 →
     number_in big 4 (bytes_in big 4 x ++ rest) ≡ x
-number_in-reads_back false x rest h = little_number-reads_back 4 x rest h
-number_in-reads_back true x rest h = big_number-reads_back 4 x rest h
+number_in-reads_back big x rest h = grind (arith, common_steps, little_number-reads_back, big_number-reads_back)
 
 number_in-append : (big : Bool) (n : ℕ) (xs ys : List ℕ) → n ≤ length xs →
     number_in big n (xs ++ ys) ≡ number_in big n xs
-number_in-append false n xs ys h = little_from-append n xs ys h
-number_in-append true n xs ys h = big_from-append n xs ys h
+number_in-append big n xs ys h = grind (arith, common_steps, little_from-append, big_from-append)
 
 -- what stands in front does not depend on what follows
 pub number_at-append : (big : Bool) (n : ℕ) (xs ys : List ℕ) (at : ℕ) → at + n ≤ length xs →
@@ -34,8 +32,7 @@ number_at-drop big n xs place at = ap (number_in big n) (drop-drop at place xs)
 
 pub number_at-lt : (big : Bool) (xs : List ℕ) (at : ℕ) → AreBytes xs → number_at big 4 xs at < 2 ^ 32
 unfolding number_at
-number_at-lt false xs at fits = little_from-lt 0 4 (drop at xs) (AreBytes-drop xs at fits)
-number_at-lt true xs at fits = big_from-lt 0 4 (drop at xs) (AreBytes-drop xs at fits)
+number_at-lt big xs at fits = grind (arith, common_steps, little_from-lt, big_from-lt, AreBytes-drop)
 
 -- four bytes are those of the number in them
 four_spelt : (big : Bool) (a b c d : ℕ) (ys : List ℕ) → AreBytes (a ∷ b ∷ c ∷ d ∷ ys) →

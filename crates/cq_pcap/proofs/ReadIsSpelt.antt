@@ -2,7 +2,7 @@
 -- whole record stands behind a capture, the bytes up to its end are a capture too. This goes on from the header until
 -- no byte is left, or to a record with a fault, which is the file's then. And what is spelt or faulty is read as
 -- that.
-use Rattle.cq_pcap.proofs.Terms.{rules, ◌≡◌, ◌⊎◌, ℕ, zero, suc, ◌+◌, ◌<◌, ◌≤◌, List, [], ◌∷◌, ◌++◌, length, take, drop, inl, inr, refl, ap, ◌∙◌, arith, append_assoc, length-append, common_steps, drop-drop, length-drop, length-take-le, take-append-drop, take-append-le, take_at, Result, Ok, Err, Form, number_at, Captured, PcapRefusal, CutHeader, LongRecord, CutBody, IsFaulty, IsSpeltUpTo, packets_of, HasLinkType, HasMagic, HasVersion, IsHeader, Record, spelling, Fits, Spells, captured_of, subst, ⊎_elim, cases_lt, take_all, SpellsIn, append-nil, flat_map-append, map-append, all_both}
+use Rattle.cq_pcap.proofs.Terms.{rules, ◌≡◌, ◌⊎◌, ℕ, zero, suc, ◌+◌, ◌<◌, ◌≤◌, List, [], ◌∷◌, ◌++◌, length, take, drop, inl, inr, refl, ap, ◌∙◌, arith, append_assoc, length-append, common_steps, drop-drop, length-drop, length-take-le, take-append-drop, take-append-le, take_at, Result, Ok, Err, Form, number_at, Captured, PcapRefusal, IsFaulty, IsSpeltUpTo, packets_of, HasLinkType, HasMagic, HasVersion, IsHeader, Record, spelling, Fits, Spells, captured_of, subst, ⊎_elim, cases_lt, take_all, SpellsIn, append-nil, flat_map-append, map-append, all_both}
 use Rattle.cq_pcap.proofs.Numbers.{AreBytes, AreBytes-drop, number_at-append, number_at-drop, number_at-lt, number_at-spelt}
 use Rattle.cq_pcap.proofs.Headers.{header_says, Says as HeaderSays}
 use Rattle.cq_pcap.proofs.Firsts.{IsWhole, Says, first_says, front_packet, stated}
@@ -27,17 +27,14 @@ module _ (form : Form) (xs : List ℕ) (fits : AreBytes xs) (w : IsWhole form xs
 
   pub record_spelt : xs ≡ spelling form.big (front_record form xs) ++ drop (16 + stated form xs) xs
   record_spelt =
-      let h = w.figures in
-      let len = stated form xs in
       let word = number_at-spelt form.big xs in
-      simp (append_assoc, body_length) (rw (
-        ← drop-drop len 16 xs,
-        take-append-drop len (drop 16 xs),
-        ← number_at-spelt form.big xs 12 16 fits refl h,
-        ← number_at-spelt form.big xs 8 12 fits refl (omega arith),
-        ← number_at-spelt form.big xs 4 8 fits refl (omega arith),
-        ← number_at-spelt form.big xs 0 4 fits refl (omega arith),
-      ) refl)
+      let h = w.figures in
+      let last = word 12 16 fits refl h in
+      let third = word 8 12 fits refl (omega arith) in
+      let second = word 4 8 fits refl (omega arith) in
+      let first = word 0 4 fits refl (omega arith) in
+      let rest = take-append-drop (stated form xs) (drop 16 xs) in
+      simp (append_assoc, body_length) (cc (first, second, third, last, rest, drop-drop (stated form xs) 16 xs))
 
 -- a record at the front of what follows a capture goes on with it
 module _ (form : Form) (bytes : List ℕ) (at : ℕ) (packets : List Captured) (fits : AreBytes bytes)
@@ -58,12 +55,9 @@ module _ (form : Form) (bytes : List ℕ) (at : ℕ) (packets : List Captured) (
   front_is =
       let rest = drop (16 + stated form xs) xs in
       let front = take at bytes ++ spelling form.big next in
-      let whole : bytes ≡ front ++ rest =
-      rw append_assoc (cc (take-append-drop at bytes, spelt_next)) in
-      let len : length front ≡ at + (16 + stated form xs) =
-      let taken = length-take-le at bytes within in
-      omega (arith, length-append (take at bytes) (spelling form.big next), next_length) in
-      cc (take_at front rest (at + (16 + stated form xs)) len)
+      let whole : bytes ≡ front ++ rest = rw append_assoc (cc (take-append-drop at bytes, spelt_next)) in
+      let len = length-append (take at bytes) (spelling form.big next) in
+      search (arith, rules, take_at front rest, length-take-le, next_length)
 
   pub spelt_more : SpellsIn form (take (at + (16 + stated form xs)) bytes) (packets ++ front_packet form xs ∷ [])
   spelt_more = record {
@@ -95,10 +89,7 @@ module _ (form : Form) (bytes : List ℕ) (long : 24 ≤ length bytes) (m : HasM
 -- a fault at a place where the bytes before it are a capture
 pub faulty_at : (form : Form) (bytes : List ℕ) (offset : ℕ) (fault : PcapRefusal) → IsSpeltUpTo form bytes offset →
     Says form offset (drop offset bytes) (Err fault) → IsFaulty bytes fault
-faulty_at form bytes offset (CutHeader o) u h = grind (arith, common_steps, length-drop)
-faulty_at form bytes offset (LongRecord o len) u h = grind (arith, common_steps, length-drop, number_at-drop)
-faulty_at form bytes offset (CutBody o) u h = grind (arith, common_steps, number_at-drop, length-drop)
-faulty_at form bytes offset _ u h = absurd h
+faulty_at form bytes offset fault u h = grind (arith, common_steps, length-drop, number_at-drop)
 
 -- ## All bytes
 
@@ -114,8 +105,7 @@ module _ (form : Form) (bytes : List ℕ) (at : ℕ) (packets : List Captured)
 
   by_first : at < length bytes → (first : Result Captured PcapRefusal) → Says form at (drop at bytes) first →
       (IsWhole form (drop at bytes) → Known bytes) → Known bytes
-  by_first left (Ok p) says more = more says.0
-  by_first left (Err fault) says more = grind (arith, common_steps, faulty_at)
+  by_first left first says more = grind (arith, common_steps, faulty_at)
 
 walk : (form : Form) (bytes : List ℕ) (n at : ℕ) (packets : List Captured) → AreBytes bytes → at ≤ length bytes →
     length bytes ≤ at + n → SpellsIn form (take at bytes) packets → Known bytes
@@ -128,8 +118,7 @@ walk form bytes (suc n) at packets fits within few s = ⊎_elim
     (at_end form bytes at packets s) (cases_lt at (length bytes))
 
 by_header : (bytes : List ℕ) (header : Result Form PcapRefusal) → AreBytes bytes → HeaderSays bytes header → Known bytes
-by_header bytes (Ok form) fits h = walk form bytes (length bytes) 24 [] fits h.0 (omega arith)
-    (spelt_none form bytes h.0 h.1 h.2 h.3)
+by_header bytes (Ok form) fits h = grind (arith, common_steps, walk form bytes (length bytes) 24 [], spelt_none)
 by_header bytes (Err fault) fits h = inr (fault, h)
 
 pub spelt_or_faulty : (bytes : List ℕ) → AreBytes bytes →

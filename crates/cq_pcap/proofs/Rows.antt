@@ -5,7 +5,7 @@
 use Rattle.std.proofs.Common.{rules}
 use Rattle.cq_pcap.proofs.Terms.{◌≡◌, ℕ, ◌+◌, ◌-◌, ◌<◌, ◌≤◌, ◌^◌, List, [], ◌∷◌, ◌++◌, length, take, drop, ap, sym, arith, add-zero, common_steps, map-append, length-drop, length-take-le, drop-drop, take_all, take_rest, All-push, sum_by-cons, sum_by_push, Ok, Err, Some, None, sum_by, Form, PcapRefusal, Captured, rows_from, file_length, first_packet, header_form, AreRowsOf, AreRowsTo, AreSpelt, IsFaultAt, IsRowOf, offset_of, packet_at, packets_at, all_both}
 use Rattle.cq_pcap.specs.declared.capture.PacketRow.{PacketRow}
-use Rattle.cq_pcap.proofs.Firsts.{Says, first_says, stated}
+use Rattle.cq_pcap.proofs.Firsts.{Says, first_says}
 use Rattle.cq_pcap.proofs.Headers.{header_is, header_place}
 use Rattle.cq_pcap.proofs.Numbers.{AreBytes, AreBytes-drop}
 use Rattle.cq_pcap.proofs.ReadIsSpelt.{body_length, faulty_at, spelt_more, spelt_none}
@@ -60,16 +60,8 @@ rows_more form bytes rows at row fits small is_row so_far =
     let w = says.0 in
     let more = places_more form bytes rows at row small so_far.ends so_far.stand r in
     let body = body_length form (drop at bytes) (AreBytes-drop bytes at fits) w in
-    let same = ap (λ (q : Captured). length q.body) says.1 in
-    let len : row.len ≡ stated form (drop at bytes) = cc (length_is form bytes at row r, body, same) in
-    let place : at + (16 + stated form (drop at bytes)) ≡ row.at + row.len = omega (arith, len, r.at) in
     let spelt = spelt_more form bytes at (packets_at bytes rows) fits so_far.within so_far.spelt w in
-    record {
-      within = inside_is form bytes at row r;
-      ends = more.0;
-      stand = more.1;
-      spelt = rw (map-append (packet_at bytes) rows (row ∷ []), says.1, ← place) spelt;
-    }
+    search (arith, rules, inside_is, more, body, length_is form bytes at row r, map-append, spelt)
 
 -- a fault at the place is the file's, whatever refusal names it
 place_of : (form : Form) (at : ℕ) (ys : List ℕ) (fault : PcapRefusal) → Says form at ys (Err fault)
@@ -81,11 +73,7 @@ pub rows_fault : (form : Form) (bytes : List ℕ) (rows : List PacketRow) (at : 
     → AreRowsTo form bytes at rows → IsFaultAt bytes (Some at) refusal
 rows_fault form bytes rows at refusal left e so_far =
     let says = first_says form at (drop at bytes) (Err refusal) (rw take_rest at e) in
-    record {
-      faulty = faulty_at form bytes at refusal
-          (record { packets = packets_at bytes rows; spelt = so_far.spelt; left = left }) says;
-      there = place_of form at (drop at bytes) refusal says;
-    }
+    search (rules, faulty_at, place_of)
 
 -- and so is a fault of the header
 pub header_fault : (bytes : List ℕ) (refusal : PcapRefusal) → header_form bytes ≡ Err refusal

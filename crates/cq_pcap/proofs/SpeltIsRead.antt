@@ -1,6 +1,6 @@
 -- What is spelt is read: each number reads back from its four bytes, so the record at the front is the one that was
 -- put there, and the bytes after it are the rest.
-use Rattle.cq_pcap.proofs.Terms.{rules, ◌≡◌, ℕ, ◌+◌, List, [], ◌∷◌, ◌++◌, length, map, take, drop, refl, ap, sym, arith, append_assoc, length-append, Bool, ◌<◌, common_steps, append-nil, drop-drop, drop_at, length-drop, length-take-le, take-append-drop, take_at, Result, Ok, Err, flat_map, AllByRecursion, Form, number_at, Captured, PcapRefusal, CutHeader, LongRecord, CutBody, IsFaulty, IsSpeltUpTo, ◌>>=◌, first_packet, header_form, packets_from, packets_of, Record, spelling, Fits, Spells, SpellsIn, captured_of, zero, suc, ◌≤◌, packets_in}
+use Rattle.cq_pcap.proofs.Terms.{rules, ◌≡◌, ℕ, ◌+◌, List, [], ◌∷◌, ◌++◌, length, map, take, drop, refl, arith, append_assoc, length-append, Bool, ◌<◌, common_steps, append-nil, drop-drop, drop_at, length-drop, length-take-le, take-append-drop, take_at, Result, Ok, Err, flat_map, AllByRecursion, Form, number_at, Captured, PcapRefusal, CutHeader, LongRecord, CutBody, IsFaulty, IsSpeltUpTo, ◌>>=◌, first_packet, header_form, packets_from, packets_of, Record, spelling, Fits, Spells, SpellsIn, captured_of, zero, suc, ◌≤◌, packets_in}
 use Rattle.cq_pcap.proofs.Numbers.{number_at-drop, number_in-reads_back}
 use Rattle.cq_pcap.proofs.Headers.{header_read, header_faulty}
 use Rattle.cq_pcap.proofs.Firsts.{first_said}
@@ -37,27 +37,22 @@ joined front left = left >>= (λ ps. Ok (front ++ ps))
 
 joined-cons : (p : Captured) (ps : List Captured) (left : Result (List Captured) PcapRefusal) →
     (joined ps left >>= (λ qs. Ok (p ∷ qs))) ≡ joined (p ∷ ps) left
-joined-cons p ps (Ok qs) = refl
-joined-cons p ps (Err e) = refl
+joined-cons p ps left = grind (arith, common_steps)
 
 joined-nil : (left : Result (List Captured) PcapRefusal) → joined [] left ≡ left
-joined-nil (Ok ps) = refl
-joined-nil (Err e) = refl
+joined-nil left = grind (arith, common_steps)
 
 -- a packet at the front comes first
 packet_first : (form : Form) (n place : ℕ) (xs : List ℕ) (p : Captured) → 0 < length xs →
     first_packet form place xs ≡ Ok p →
     packets_in form (suc n) place xs
     ≡ (packets_in form n (place + (16 + length p.body)) (drop (16 + length p.body) xs) >>= (λ ps. Ok (p ∷ ps)))
-packet_first form n place [] p some e = absurd (omega arith)
-packet_first form n place (b ∷ bs) p some e = rw e refl
+packet_first form n place xs p some e = grind (arith, common_steps)
 
 -- and so does a fault
 fault_first : (form : Form) (place : ℕ) (xs : List ℕ) (fault : PcapRefusal) → 0 < length xs →
     first_packet form place xs ≡ Err fault → (m : ℕ) → length xs ≤ m → packets_in form m place xs ≡ Err fault
-fault_first form place [] fault some e m few = absurd (omega arith)
-fault_first form place (b ∷ bs) fault some e zero few = absurd (omega arith)
-fault_first form place (b ∷ bs) fault some e (suc m) few = rw e refl
+fault_first form place xs fault some e m few = grind (arith, common_steps)
 
 -- records that are spelt are read, and then what follows them, if so many records are enough
 records_read : (form : Form) (n place ends : ℕ) (rs : List Record) (rest : List ℕ)
@@ -66,8 +61,7 @@ records_read : (form : Form) (n place ends : ℕ) (rs : List Record) (rest : Lis
     length (flat_map (spelling form.big) rs ++ rest) ≤ n →
     packets_in form n place (flat_map (spelling form.big) rs ++ rest) ≡ joined (map (captured_of form) rs) left
 records_read form n place ends [] rest left then fits at few =
-    let here = then n few in
-    let same : ends ≡ place = omega arith in cc (here, joined-nil left)
+    let same : ends ≡ place = omega arith in cc (then n few, joined-nil left)
 records_read form zero place ends (r ∷ rs) rest left then fits at few = search (rules, length-append, length_is)
 records_read form (suc n) place ends (r ∷ rs) rest left then fits at few =
     let on = records_read form n (place + (16 + length r.body)) ends rs rest left then fits.1 in
@@ -80,17 +74,9 @@ capture_read : (form : Form) (front rest : List ℕ) (packets : List Captured) (
 unfolding packets_of packets_from
 capture_read form front rest packets left ends at then s =
     let spelt = flat_map (spelling form.big) s.records in
-    let len = s.begins.len in
-    let read = records_read form (length (spelt ++ rest)) 24 ends s.records rest left then s.fit
-    (omega (arith, ap length s.whole, length-append s.header spelt)) (omega arith) in
-    rw (
-      s.whole,
-      append_assoc s.header spelt rest,
-      header_read form s.header (spelt ++ rest) s.begins,
-      drop_at s.header (spelt ++ rest) 24 len,
-      read,
-      s.kept,
-    ) refl
+    let read = records_read form (length (spelt ++ rest)) 24 ends s.records rest left then s.fit in
+    let after = drop_at s.header (spelt ++ rest) 24 in
+    search (arith, rules, read, length-append, append_assoc, header_read form s.header, after)
 
 pub spelt_is_read : (bytes : List ℕ) (packets : List Captured) → Spells bytes packets → packets_of bytes ≡ Ok packets
 spelt_is_read bytes packets s =
@@ -101,10 +87,9 @@ record_fault_read : (form : Form) (bytes : List ℕ) (offset : ℕ) (fault : Pca
     first_packet form offset (drop offset bytes) ≡ Err fault → packets_of bytes ≡ Err fault
 record_fault_read form bytes offset fault u e =
     let left = u.left in
-    let some : 0 < length (drop offset bytes) = omega (arith, length-drop offset bytes) in
-    let read = capture_read form (take offset bytes) (drop offset bytes) u.packets (Err fault) offset
-    (sym (length-take-le offset bytes (omega arith))) (fault_first form offset _ fault some e) u.spelt in
-    cc (read, take-append-drop offset bytes)
+    let first = fault_first form offset (drop offset bytes) fault in
+    let read = capture_read form (take offset bytes) (drop offset bytes) u.packets (Err fault) offset in
+    search (arith, rules, read, length-take-le, first, length-drop, take-append-drop offset bytes)
 
 header_fault_read : (bytes : List ℕ) (fault : PcapRefusal) → header_form bytes ≡ Err fault →
     packets_of bytes ≡ Err fault
