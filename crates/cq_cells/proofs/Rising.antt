@@ -43,9 +43,7 @@ module _ (t : Tables) (captures : List (List Captured)) where
       IsTraffic (ports_of t.setup) (classes_of t.setup) (arrivals t captures)
   unfolding arrivals
   traffic_is a ports = record {
-    in_range =
-        all_flat (IsInRange (ports_of t.setup) (classes_of t.setup)) (arrivals_at t captures) 0 (length captures)
-        (λ k b h. input_in_range k a (omega arith));
+    in_range = all_flat _ (arrivals_at t captures) 0 (length captures) (search (arith, rules, input_in_range));
     one_by_one = all_pairs IsLater (arrivals t captures) all_later;
   }
 

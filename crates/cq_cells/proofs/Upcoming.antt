@@ -48,19 +48,9 @@ module _ (input cell_bytes : ℕ) (rows : List Row) (from n : ℕ) (ended : IsEn
       omega (arith, are.cut n inside, cells_above (row_at rows n).len cell_bytes) in
       let cells : ℕ → List Arrival = λ k. row_arrivals input cell_bytes k (row_at rows k) in
       let P : Arrival → Type 0 = λ a. from ≤ a.slot → slot ≤ a.slot in
-      record {
-        late = omega arith;
-        arrives = arrives_flat slot cells 0 (length rows) n (omega arith) (omega arith)
-            (search (arith, rules, piece_of_last));
-        none_before = all_flat P cells 0 (length rows) (λ k low high.
-            all_made P (piece (row_at rows k).start (row_cell input cell_bytes k (row_at rows k))) 0
-            (row_at rows k).cells (λ i b e. later k i inside is last are (omega arith) (omega arith)));
-      }
-    where
-      later : (k i : ℕ) → n < length rows → slot ≡ max (row_at rows n).start from →
-          from < (row_at rows n).start + (row_at rows n).cells → AreRows cell_bytes rows → k < length rows →
-          i < (row_at rows k).cells → from ≤ (row_at rows k).start + i → slot ≤ (row_at rows k).start + i
-      later k i inside is last are within some at = search (arith, rules, cases_lt, cases_eq, are.apart)
+      let flat = arrives_flat slot cells 0 (length rows) n in
+      let all = all_flat P cells 0 (length rows) in
+      search (arith, rules, flat, piece_of_last, all, all_made P, cases_lt, cases_eq, are.apart)
 
 -- ## Several lines
 

@@ -1,4 +1,4 @@
-use Rattle.cq_cells.proofs.Terms.{rules, ◌≡◌, Option, None, refl, sym, ◌∙◌, ⊎_elim, arith, cases_lt, true≢false, ext_get_or, length-replicate, unwrap_or-slice_get, Cell, arrival_at, no_arrivals, arrival_at-no_arrivals}
+use Rattle.cq_cells.proofs.Terms.{rules, ◌≡◌, Option, None, refl, sym, ◌∙◌, arith, cases_lt, true≢false, ext_get_or, length-replicate, unwrap_or-slice_get, Cell, arrival_at, no_arrivals, arrival_at-no_arrivals}
 use Rattle.cq_cells.proofs.coming.none_stand.Goals as goal
 
 pub inputs-init : goal.inputs-init
@@ -16,8 +16,7 @@ returns c = (
       let places = c.requires.places in
       let size = length-replicate 64 nobody in
       ext_get_or nobody cells no_arrivals (omega arith) (λ i inside.
-      let here : arrival_at cells i ≡ None = ⊎_elim (λ below. c.inputs.invariant i (omega arith))
-      (λ from. c.requires.beyond i from) (cases_lt i c.args.ports) in
+      let here : arrival_at cells i ≡ None = search (arith, rules, c.inputs.invariant, c.requires.beyond, cases_lt) in
       sym (unwrap_or-slice_get cells i nobody) ∙ here ∙ sym (arrival_at-no_arrivals i)
       ∙ unwrap_or-slice_get no_arrivals i nobody),
   λ _. refl,
