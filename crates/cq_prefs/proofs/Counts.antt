@@ -26,10 +26,9 @@ pub events_at_most : (o : Orders) → AreOffers o → (events : List ℕ) → Ar
 events_at_most o v events es =
     let w = sound-after o v events es in
     let s = state_after o events in
-    let a = sum-places o v events es in
-    let b : sum s.places ≤ length s.places * ports o = sum_by-le (λ x. x) (ports o) s.places (λ k d l.
-    let e = get_or_default s.places k d 0 l in let f = w.within k in let g = outputs_at_most o v k in omega arith) in
-    grind (arith, common_steps)
+    let b : sum s.places ≤ length s.places * ports o = sum_by-le (λ x. x) (ports o) s.places
+    (search (arith, rules, get_or_default, w.within, outputs_at_most)) in
+    grind (arith, common_steps, sum-places o v events es)
 
 spent-is : (o : Orders) (s : State) (i : ℕ) → IsKept o s i → (p : Option ℕ) → partner_of (matching_of o s) i ≡ p →
     next_place s i ≡ spent (outputs_of o i) p

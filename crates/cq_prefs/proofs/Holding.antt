@@ -1,7 +1,7 @@
 -- Who holds whom in a state that events reach. The test computes what is said, and an input is held by one output at
 -- most, the one that it asked last. So the matching of the state has exactly the pairs of an output and the input that
 -- it holds.
-use Rattle.cq_prefs.proofs.Terms.{rules, ℕ, ◌≡◌, ◌≢◌, ◌⊎◌, ◌<◌, Bool, true, List, [], ◌∷◌, length, Option, Some, None, refl, sym, ◌∙◌, ap, arith, ⊎_elim, common_steps, find, is_none, range_with_len, cases_lt, cond_both, ltb-true, lt-ltb, eqb-true, eq-eqb, and_parts, and_from, true≢false, get_or_past, ext_get_or, length-map-range_with_len, get_or-map-range_with_len, Orders, AreOffers, ports, inputs_of, Partners, partner_of, IsMatching, State, Holds, IsFree, IsSound, holder, holds, position_held, keeper, is_free, matching_of, Has, has_number}
+use Rattle.cq_prefs.proofs.Terms.{rules, ℕ, ◌≡◌, ◌≢◌, ◌<◌, Bool, true, List, [], ◌∷◌, length, Option, Some, None, refl, sym, ◌∙◌, ap, arith, common_steps, find, is_none, range_with_len, cases_lt, cond_both, ltb-true, lt-ltb, eqb-true, eq-eqb, and_parts, and_from, true≢false, get_or_past, ext_get_or, length-map-range_with_len, get_or-map-range_with_len, Orders, AreOffers, ports, inputs_of, Partners, partner_of, IsMatching, State, Holds, IsFree, IsSound, holder, holds, position_held, keeper, is_free, matching_of, Has, has_number}
 use Rattle.cq_prefs.proofs.Places.{same_at_place, input_in_range, output_in_range, position_of-at}
 
 -- ## The one that passes a test
@@ -50,10 +50,9 @@ pub partner-is : (o : Orders) → AreOffers o → (s : State) → (i : ℕ) → 
 unfolding matching_of
 partner-is o v s i =
     let long = length-map-range_with_len (keeper o s) 0 (ports o) in
-    ⊎_elim (λ l. get_or-map-range_with_len (keeper o s) 0 (ports o) i i None l (omega arith))
-    (λ past. get_or_past (matching_of o s) i None (omega arith) ∙ sym (none_unless (keeper o s i) (λ j e.
-    let r = input_in_range o i j (v.shown_back i j (keeper-holds o s i j e).1) in omega arith)))
-    (cases_lt i (ports o))
+    let past = λ (j : ℕ) (e : keeper o s i ≡ Some j).
+    input_in_range o i j (v.shown_back i j (keeper-holds o s i j e).1) in
+    search (arith, rules, get_or-map-range_with_len, get_or_past, none_unless (keeper o s i), past, cases_lt)
 
 -- who is matched is held, and who is held is matched
 pub partner-holds : (o : Orders) → AreOffers o → (s : State) → (i j : ℕ) → partner_of (matching_of o s) i ≡ Some j →
@@ -70,9 +69,8 @@ matching-of o v s =
     record {
       size = length-map-range_with_len (keeper o s) 0 (ports o);
       offered = λ i j e. v.shown_back i j (partner-holds o v s i j e).1;
-      once = λ i k j e f.
-          let a = partner-holds o v s i j e in
-          let b = partner-holds o v s k j f in same_at_place (inputs_of o j) i k (omega arith) a.1;
+      once = λ i k j e f. let a = partner-holds o v s i j e in
+          same_at_place (inputs_of o j) i k (omega (arith, a.0, (partner-holds o v s k j f).0)) a.1;
     }
 
 -- the matching is what shows exactly who is held
@@ -100,5 +98,4 @@ free_if o v s w i h = search (arith, rules, and_parts, ltb-true, keeper-from)
 pub free_only_if : (o : Orders) → AreOffers o → (s : State) → (i : ℕ) → IsFree o s i → is_free o s i ≡ true
 unfolding is_free
 free_only_if o v s i f =
-    let none = none_unless (keeper o s i) (λ j e. f.unheld j (keeper-holds o s i j e)) in
-    and_from _ _ (lt-ltb _ _ f.left) (ap is_none none)
+    and_from _ _ (lt-ltb _ _ f.left) (ap is_none (none_unless _ (λ j e. f.unheld j (keeper-holds o s i j e))))

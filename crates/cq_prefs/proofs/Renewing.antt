@@ -202,10 +202,9 @@ module _ (n j : ℕ) (lists : List Waiting) (inside : n < length lists) (within 
       length lists ≡ ports now → AreSameWithout (pair_of lists n j) now (orders_of (cells_of lists)) →
       Next (pair_of lists n j) n j outputs inputs lists
   pair_next outputs inputs o now shown v is many same =
-      let m = pair_of lists n j in
       let size = pair_size in
-      let first = none_renewed m o (orders_of (cells_of lists)) pair_apart v.0 (rw (← is) at same) in
-      search (arith, rules, none_between, pair_else, still_offers, pair_apart, pair_here)
+      let first = none_renewed (pair_of lists n j) o (orders_of (cells_of lists)) pair_apart v.0 in
+      search (arith, rules, first, none_between, pair_else, still_offers, pair_apart, pair_here)
 
   -- the two orders are all
   pub pair_renewed : (outputs inputs : List (List ℕ)) (row column : List ℕ) (list : Waiting) →
