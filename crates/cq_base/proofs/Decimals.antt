@@ -2,7 +2,7 @@
 -- digit, and then that digit, so it is one digit longer. A number below 2 ^ 128 is below 10 ^ 39, so it has at most 39
 -- digits. A digit that is written right behind those at the front leaves what comes after it as it was, and one that is
 -- written right before those that stand there leaves one less to write.
-use Rattle.cq_base.proofs.Terms.{rules, ◌≡◌, ℕ, ◌+◌, ◌*◌, ◌<◌, ◌≤◌, ◌/◌, ◌%◌, ◌^◌, List, [], ◌∷◌, ◌++◌, length, map, refl, ap, sym, ◌∙◌, arith, lit≤, zero, suc, set, get_or, drop, length-append, append_assoc, common_steps, digits_of, digits_of_step, length-digits_of-le, map-append, length-map}
+use Rattle.cq_base.proofs.Terms.{rules, ◌≡◌, ℕ, ◌+◌, ◌*◌, ◌<◌, ◌≤◌, ◌/◌, ◌%◌, ◌^◌, List, [], ◌∷◌, ◌++◌, length, map, refl, ap, sym, arith, lit≤, zero, suc, set, get_or, drop, length-append, append_assoc, common_steps, digits_of, digits_of_step, length-digits_of-le, map-append, length-map}
 use Rattle.cq_base.specs.Decimal.{decimal}
 use Rattle.std.proofs.Math.Nat.{one-le-pow}
 use Rattle.std.proofs.lemmas.Grind.{drop-set_at}
@@ -14,8 +14,7 @@ decimal_above n h = grind (arith, common_steps)
 
 pub decimal_small : (n : ℕ) → n < 10 → decimal n ≡ (48 + n % 10) ∷ []
 unfolding decimal
-decimal_small zero h = refl
-decimal_small (suc k) h = grind (arith, common_steps, decimal_above (suc k), digits_of_step 10 (suc k) (lit≤ tt))
+decimal_small n h = grind (arith, common_steps, decimal_above n, digits_of_step 10 n)
 
 pub decimal_more : (n : ℕ) → 10 ≤ n → decimal n ≡ decimal (n / 10) ++ (48 + n % 10) ∷ []
 decimal_more n h = grind (arith, common_steps, decimal_above, digits_of_step, map-append)
@@ -40,18 +39,14 @@ length-decimal_more n h = grind (arith, common_steps, decimal_more, length-appen
 pub length-decimal_from : (tens n : ℕ) → 10 ^ tens ≤ n → n < 10 * 10 ^ tens → length (decimal n) ≡ tens + 1
 length-decimal_from zero n from below = length-decimal_small n (omega arith)
 length-decimal_from (suc tens) n from below =
-    let more : 10 ≤ n = omega (arith, one-le-pow tens 10 (lit≤ tt)) in
-    omega (arith, length-decimal_more n more, length-decimal_from tens (n / 10) (omega arith) (omega arith))
+    grind (arith, common_steps, one-le-pow tens 10, length-decimal_more n, length-decimal_from tens)
 
 -- the number of which one digit is left gets its first one
 pub last_digit : (n end : ℕ) (to all : List ℕ) → n < 10 → 0 < length to → length (decimal n) ≡ end →
     decimal n ++ drop end to ≡ all → set to 0 (48 + n) ≡ all
 last_digit n end to all h room is had =
-    let small = decimal_small n h in
     let itself : n ≡ n % 10 = omega arith in
-    drop-set_at to 0 0 (48 + n) refl room ∙ ap (λ d. (48 + d) ∷ drop 1 to) itself
-    ∙ ap (λ ds. ds ++ drop 1 to) (sym small)
-    ∙ ap (λ k. decimal n ++ drop k to) (sym (ap length small) ∙ is) ∙ had
+    grind (arith, common_steps, drop-set_at to 0 0 (48 + n) refl room, decimal_small n h)
 
 -- a digit that is written right before those that stand there: one less is left
 pub one_digit_less : (n at end : ℕ) (to all : List ℕ) → 10 ≤ n → end ≡ at + 1 → at < length to →

@@ -1,6 +1,6 @@
 -- The order of keys is a strict total order. Their comparison is total (`keys_total`). Where it says equal, all four
 -- parts are equal, so the keys are the same. The laws then read this comparison through "is less", by its three cases.
-use Rattle.cq_base.proofs.Terms.{rules, arith, ◌≡◌, true, false, refl, ap, common_steps, Ordering, Less, Equal, Greater, is_lt, tied_itself, exact_pairs, exact_unsigned, Key, key_cmp, keys_total, is_before, KeyLaws}
+use Rattle.cq_base.proofs.Terms.{rules, arith, ◌≡◌, true, false, ap, common_steps, Ordering, Less, Equal, is_lt, tied_itself, exact_pairs, exact_unsigned, Key, key_cmp, keys_total, is_before, KeyLaws}
 
 -- keys that compare alike are one
 exact_keys : (a b : Key) → key_cmp a b ≡ Equal → a ≡ b
@@ -8,9 +8,7 @@ exact_keys a b h = grind (arith, common_steps, exact_pairs, exact_unsigned)
 
 -- what is less compares as less
 less_from : (o : Ordering) → is_lt o ≡ true → o ≡ Less
-less_from Less h = refl
-less_from Equal h = cc
-less_from Greater h = cc
+less_from o h = grind (arith, common_steps)
 
 on : (a b c : Key) → is_before a b ≡ true → is_before b c ≡ true → is_before a c ≡ true
 unfolding is_before

@@ -4,10 +4,11 @@
 -- of arrival: a cell that goes in at the least of the three places stands after every more urgent cell for its
 -- output, for these stand below its cushion, and before every less urgent one, for the first of these is one of the
 -- three places.
-use Rattle.cq_base.proofs.Terms.{common_steps, rules, ◌≡◌, ◌≢◌, ℕ, zero, suc, ◌+◌, ◌<◌, ◌≤◌, Bool, true, false, not, cond, List, [], ◌∷◌, length, get_or, Option, None, Some, refl, sym, ap, ◌∙◌, subst, ⊎_elim, arith, ◌&&◌, slice_get, position, unwrap_or, insert, AllByRecursion, position_or_len, cond_both, eqb-true, eq-eqb, and_parts, and_from, cases_Bool, cases_lt, ltb-false, slice_get_within, slice_get_past, slice_get-get_or, same_Some, find_at, passes_at_first, is_before}
+use Rattle.cq_base.proofs.Terms.{common_steps, rules, ◌≡◌, ◌≢◌, ℕ, zero, suc, ◌+◌, ◌<◌, ◌≤◌, Bool, true, false, not, cond, List, [], ◌∷◌, length, Option, None, Some, refl, sym, ap, ◌∙◌, arith, ◌&&◌, slice_get, position, unwrap_or, insert, AllByRecursion, position_or_len, cond_both, eqb-true, eq-eqb, and_from, cases_Bool, cases_lt, ltb-false, slice_get_within, slice_get_past, slice_get-get_or, same_Some, find_at, passes_at_first, is_before, prefix_len-le-length}
 use Rattle.cq_base.specs.declared.cell.Queued.{Queued}
 use Rattle.cq_base.specs.Items.{EachPair}
 use Rattle.cq_base.specs.Cells.{IsBefore, KeepsOrder, KeysDiffer, HasOtherKey, MoreUrgentAhead, ArrivedBefore, is_for, first_for, without_first, place_of_later, place_of_arrival, with_arrival}
+use Rattle.cq_base.proofs.Having.{all_from_has, all_of_has, has_there, stands_at}
 use Rattle.cq_base.proofs.Keys.{key_laws}
 use Rattle.cq_base.proofs.Putting.{after_other}
 
@@ -15,14 +16,11 @@ use Rattle.cq_base.proofs.Putting.{after_other}
 
 pub all_at : {X : Type 0} (P : X → Type 0) (xs : List X) (t : ℕ) (c : X) → AllByRecursion P xs →
     slice_get xs t ≡ Some c → P c
-all_at P [] t c a h = cc
-all_at P (x ∷ xs) zero c a h = let same : x ≡ c = cc in subst P same a.0
-all_at P (x ∷ xs) (suc t) c a h = all_at P xs t c a.1 h
+all_at P xs t c a h = all_of_has P xs c a (has_there xs t c h)
 
 pub all_by : {X : Type 0} (P : X → Type 0) (xs : List X) → ((t : ℕ) (c : X) → slice_get xs t ≡ Some c → P c) →
     AllByRecursion P xs
-all_by P [] f = tt
-all_by P (x ∷ xs) f = (f zero x refl, all_by P xs (λ t c h. f (suc t) c h))
+all_by P xs f = search (rules, all_from_has, stands_at, f)
 
 -- one place shows one cell
 same_shown : {X : Type 0} (xs : List X) (s t : ℕ) (a b : X) → s ≡ t → slice_get xs s ≡ Some a →
@@ -33,10 +31,7 @@ same_shown xs s t a b e at_s at_t = same_Some a b (sym at_s ∙ ap (slice_get xs
 pub each_pair_at : {X : Type 0} (R : X → X → Type 0) (xs : List X) (s t : ℕ) (a b : X) → EachPair R xs →
     slice_get xs s ≡ Some a → slice_get xs t ≡ Some b → s < t → R a b
 each_pair_at R [] s t a b e h k l = cc
-each_pair_at R (x ∷ xs) zero zero a b e h k l = absurd (omega arith)
-each_pair_at R (x ∷ xs) zero (suc t) a b e h k l = grind (arith, common_steps, all_at)
-each_pair_at R (x ∷ xs) (suc s) zero a b e h k l = absurd (omega arith)
-each_pair_at R (x ∷ xs) (suc s) (suc t) a b e h k l = each_pair_at R xs s t a b e.1 h k (omega arith)
+each_pair_at R (x ∷ xs) s t a b e h k l = grind (arith, common_steps, all_at, each_pair_at R xs)
 
 -- ## The first that passes a test
 
@@ -51,15 +46,13 @@ first_step : {X : Type 0} (p : X → Bool) (x : X) (xs : List X) → position_or
 first_step p x xs = grind (arith, common_steps, cond_both)
 
 pub first_inside : {X : Type 0} (p : X → Bool) (xs : List X) → position_or_len p xs ≤ length xs
-first_inside p [] = omega arith
-first_inside p (x ∷ xs) = let step = first_step p x xs in let rest = first_inside p xs in omega arith
+first_inside p xs = prefix_len-le-length _ xs
 
 -- what passes stands no earlier
 pub first_le : {X : Type 0} (p : X → Bool) (xs : List X) (t : ℕ) (c : X) → slice_get xs t ≡ Some c → p c ≡ true →
     position_or_len p xs ≤ t
 first_le p [] t c h e = cc
-first_le p (x ∷ xs) zero c h e = grind (arith, common_steps, first_here)
-first_le p (x ∷ xs) (suc t) c h e = grind (arith, common_steps, first_step, first_le p xs t c h e)
+first_le p (x ∷ xs) t c h e = grind (arith, common_steps, first_here, first_step, first_le p xs)
 
 -- the place that a search found, or the length
 pub place_found : {X : Type 0} (p : X → Bool) (xs : List X) (o : Option ℕ) (n : ℕ) → o ≡ position p xs →
@@ -123,21 +116,12 @@ module _ (cushion : ℕ) (n : Queued) (xs : List Queued) (order : KeepsOrder xs)
   after_arrival : (s : ℕ) (x : Queued) → slice_get xs s ≡ Some x → place_of_arrival cushion n xs ≤ s →
       n.cell.output ≡ x.cell.output → IsBefore n x
   unfolding is_later
-  after_arrival s x at l e = ⊎_elim (λ t. t) (λ f.
-      let back = after_other n.key x.key f (differs s x at) in
-      let below = ahead s x at (sym e) back in
+  after_arrival s x at l e =
+      let back = after_other n.key x.key in
+      let passes = passes_at_first is_later xs x in
+      let there = slice_get-get_or xs (place_of_later n xs) x in
       let inside = slice_get_within xs s x at in
-      let later_le : place_of_later n xs ≤ s = omega arith in
-      let first : Queued = get_or xs (place_of_later n xs) x in
-      let first_inside : place_of_later n xs < length xs = omega arith in
-      let at_first : slice_get xs (place_of_later n xs) ≡ Some first =
-      slice_get-get_or xs (place_of_later n xs) x first_inside in
-      let passes = and_parts _ _ (passes_at_first is_later xs x first_inside) in
-      let out = eqb-true first.cell.output n.cell.output passes.0 in
-      ⊎_elim (λ lt. key_laws.on n.key first.key x.key passes.1
-      (each_pair_at _ xs (place_of_later n xs) s first x order at_first at lt (out ∙ e)))
-      (λ ge. search (arith, rules, same_shown)) (cases_lt (place_of_later n xs) s))
-      (cases_Bool (is_before n.key x.key))
+      search (arith, rules, back, differs, passes, eqb-true, there, each_pair_at, key_laws.on, same_shown, cases_lt)
 
   pub keeps_order_arrival : KeepsOrder (with_arrival cushion n xs)
   keeps_order_arrival = search

@@ -24,8 +24,7 @@ no_arrivals_are =
 -- a cell that stands at a place has come to that input
 own_at : (input : ℕ) (cells : List (Option Cell)) (o : Option Cell) → AreArrivals cells → o ≡ arrival_at cells input →
     IfSome o (λ cell. cell.id.input ≡ input)
-own_at input cells None are is = tt
-own_at input cells (Some cell) are is = are.own_input input cell (sym is)
+own_at input cells o are is = grind (arith, common_steps, are.own_input)
 
 -- what was read at a place and then copied is a cell of that input
 pub own_read : (input : ℕ) (cells : List (Option Cell)) (found : Option (Bor (Option Cell))) (o : Option Cell) →
@@ -37,20 +36,15 @@ own_read input cells found o are read is = search (arith, rules, own_at, unwrap_
 
 own_of : (o : Option Cell) (cell : Cell) (input : ℕ) → o ≡ Some cell → IfSome o (λ c. c.id.input ≡ input) →
     cell.id.input ≡ input
-own_of None cell input is own = absurd (let clash : ⊥ = cc in clash)
-own_of (Some c) cell input is own = grind (arith, common_steps)
+own_of o cell input is own = grind (arith, common_steps)
 
 -- what is put to an input is its own, and the other places keep theirs
 pub put_are : (cells : List (Option Cell)) (input : ℕ) (o : Option Cell) → AreArrivals cells → input < 64 →
     IfSome o (λ cell. cell.id.input ≡ input) → AreArrivals (set cells input o)
 put_are cells input o are place own =
     let none : Option Cell = None in
-    record {
-      places = length-set cells input o ∙ are.places;
-      own_input = λ i cell at.
-          let read = unwrap_or-slice_get (set cells input o) i none in
-          let had = unwrap_or-slice_get cells i none in
-          let same = get_or-set_same cells input o none in
-          let other = get_or-set_other cells input i o none in
-          grind (arith, common_steps, cases_eq i input, read, had, same, other, are.own_input, are.places, own_of);
-    }
+    let read = λ (i : ℕ). unwrap_or-slice_get (set cells input o) i none in
+    let had = λ (i : ℕ). unwrap_or-slice_get cells i none in
+    let same = get_or-set_same cells input o none in
+    let other = λ (i : ℕ). get_or-set_other cells input i o none in
+    search (arith, rules, length-set, cases_eq, read, had, same, other, are.own_input, own_of)

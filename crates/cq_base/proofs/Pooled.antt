@@ -3,7 +3,7 @@
 -- the other and no later than its first, and the other way round: so their firsts are one, and then the others. And no
 -- more items than a pool has, where each item stands for one of the pool and no two stand for the same. So items with
 -- different numbers below a bound are no more than the bound.
-use Rattle.cq_base.proofs.Terms.{common_steps, arith, rules, Bool, List, Option, Some, [], ap, inl, inr, length, map, refl, suc, sym, true, zero, ℕ, ◌++◌, ◌+◌, ◌<◌, ◌∙◌, ◌∷◌, ◌≡◌, ◌≢◌, ◌≤◌, ◌⊎◌, cases_eq, All-from_recursion, recursion_from_All, length-range_with_len, AllPairs-cons, AllByRecursion, AllPairs, filter_map, range_with_len, filter, slice_get}
+use Rattle.cq_base.proofs.Terms.{common_steps, arith, rules, Bool, List, Option, Some, [], ap, inl, inr, length, map, refl, suc, true, zero, ℕ, ◌++◌, ◌+◌, ◌<◌, ◌∷◌, ◌≡◌, ◌≢◌, ◌≤◌, ◌⊎◌, cases_eq, All-from_recursion, recursion_from_All, length-range_with_len, AllPairs-cons, AllByRecursion, AllPairs, filter_map, range_with_len, filter, slice_get}
 use Rattle.cq_base.proofs.Each.{all_both, all_front, all_weaker, images_held, of_images}
 use Rattle.cq_base.proofs.Having.{all_from_has, all_of_has, has_right, kept_has}
 use Rattle.cq_base.specs.Items.{EachPair, Has}
@@ -43,8 +43,7 @@ module _ {A B : Type 0} (R : A → B → Type 0) where
   no_more [] pool pairs all = omega arith
   no_more (x ∷ xs) pool pairs all =
       let w = without pool all.0.one all.0.has in
-      let rest = no_more xs w.left pairs.1 (still pool x all.0.one w all.0.own xs pairs.0 all.1) in
-      omega arith
+      search (arith, rules, no_more xs w.left, still)
 
 -- ## Pairs
 
@@ -94,8 +93,7 @@ module _ {X : Type 0} (R : X → X → Type 0) where
   -- two that pass a test
   pub pairs_kept_with : (S : X → X → Type 0) (p : X → Bool) →
       ((x y : X) → p x ≡ true → p y ≡ true → R x y → S x y) → (xs : List X) → EachPair R xs → EachPair S (filter p xs)
-  pairs_kept_with S p gives xs pairs = pairs_with S (λ x. p x ≡ true) gives (filter p xs)
-      (all_from_has (λ x. p x ≡ true) (filter p xs) (λ y has. (kept_has p xs y has).1)) (pairs_kept p xs pairs)
+  pairs_kept_with S p gives xs = search (rules, pairs_with S (λ x. p x ≡ true), all_from_has, kept_has, pairs_kept)
 
 -- where the relation never holds both ways, two lists of which it holds and that have the same items are one
 pub same_pairs : {X : Type 0} (R : X → X → Type 0) → ((x y : X) → R x y → R y x → ⊥) → (xs ys : List X) →
@@ -104,8 +102,7 @@ same_pairs R never [] [] up rising to from = refl
 same_pairs R never [] (y ∷ ys) up rising to from = absurd (from y (inl refl))
 same_pairs R never (x ∷ xs) [] up rising to from = absurd (to x (inl refl))
 same_pairs R never (x ∷ xs) (y ∷ ys) up rising to from =
-    let first : x ≡ y = search (arith, rules, all_of_has, never, to x (inl refl), from y (inl refl)) in
-    search (arith, rules, all_of_has, never, same_pairs R never xs ys up.1 rising.1)
+    search (arith, rules, all_of_has, never, to x (inl refl), from y (inl refl), same_pairs R never xs ys up.1 rising.1)
 
 -- of images, and the other way
 pub pairs_mapped : {X Y : Type 0} (f : X → Y) (R : Y → Y → Type 0) (xs : List X) → EachPair (λ a b. R (f a) (f b)) xs →
@@ -173,9 +170,5 @@ pub numbers_few : {A : Type 0} (f : A → ℕ) (xs : List A) (n : ℕ) → EachP
     AllByRecursion (λ x. f x < n) xs → length xs ≤ n
 numbers_few {A} f xs n pairs below =
     let Own : A → ℕ → Type 0 = λ x k. f x ≡ k in
-    let long = length-range_with_len 0 n in
-    let apart = pairs_with (λ (x y : A). f x ≢ f y) (AreApart Own) (λ (x : A). f x < n)
-    (λ x y low high differ k first second. differ (first ∙ sym second)) xs below pairs in
-    let stand = all_weaker (λ (x : A). f x < n) (Stands Own (range_with_len 0 n))
-    (λ x low. record { one = f x; has = has_number 0 n (f x) (omega arith) (omega arith); own = refl }) xs below in
-    omega (arith, no_more Own xs (range_with_len 0 n) apart stand)
+    let row = range_with_len 0 n in
+    search (arith, rules, no_more Own xs row, length-range_with_len, pairs_with, all_weaker, has_number)
