@@ -1,5 +1,5 @@
 -- The rule allows each kind of step, and what each tells its seat is so.
-use Rattle.cq_ledger.proofs.Terms.{rules, ℕ, suc, ◌≡◌, ◌≢◌, ◌*◌, ◌<◌, ◌≤◌, ◌^◌, min, List, get_or, set, Some, None, sym, ◌∙◌, arith, bit_or, common_steps, none, cases_eq, get_or-le-sum_by, set_here, set_else, set_again, Orders, ports, position_of, IsOffered, state_after, events_at_most, output_in_range, sound-after, next_output-offered, View, Seated, Ruled, IsWord, proposal, IsClaim, claim, look, IsLedger, output_at, words_proposed, proposed, words_claimed, claim_taken, claim_refused, blank, joined, spent, Sits, bit, claim_word}
+use Rattle.cq_ledger.proofs.Terms.{rules, ℕ, suc, ◌≡◌, ◌≢◌, ◌*◌, ◌<◌, ◌≤◌, ◌^◌, min, List, get_or, set, Some, None, arith, bit_or, common_steps, none, cases_eq, get_or-le-sum_by, set_here, set_else, set_again, Orders, ports, position_of, IsOffered, state_after, events_at_most, output_in_range, sound-after, next_output-offered, View, Seated, Ruled, IsWord, proposal, IsClaim, claim, look, IsLedger, output_at, words_proposed, proposed, words_claimed, claim_taken, claim_refused, blank, joined, spent, Sits, bit, claim_word}
 use Rattle.atomic_table.specs.Table.{step, Allows, Splits, Joins}
 use Rattle.cq_ledger.proofs.Claiming.{claim-keeps}
 use Rattle.cq_ledger.proofs.Events.{refused-keeps}
@@ -38,8 +38,7 @@ proposal-allowed key o same slots id i p me h e n q j is_output is_position is_w
     let few = made-most o _ _ k' id (proposed me.0 i p found)
     (set_here s.views id _ (at_known s.views id me.0 me.0 at).0) in
     let word : IsWord o (output_at o i p) found = rw shown (w.held_in (output_at o i p) r) in
-    let apart : found ≢ position_of o (output_at o i p) i =
-    λ own. free.unheld (output_at o i p) (sym shown ∙ own, k.offers.shown i (output_at o i p) offered) in
+    let apart : found ≢ position_of o (output_at o i p) i = search (rules, free.unheld, k.offers.shown) in
     search (arith, rules))
 
 module _ (o : Orders) (slots id i : ℕ) (me : Seated) (r : i < ports o) (empty : me.0.hand ≡ None)

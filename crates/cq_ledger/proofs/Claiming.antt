@@ -1,7 +1,7 @@
 -- A claim that finds the input unclaimed keeps the rule, and is no event. The input has not proposed and nobody holds
 -- it, so it is free where its order is not empty, and the hand takes it at its first place.
 -- A claim that finds the input claimed keeps the rule: it changes only what its seat has seen.
-use Rattle.cq_ledger.proofs.Terms.{ℕ, suc, ◌≡◌, ◌≢◌, ◌⊎◌, inl, ◌<◌, ◌^◌, List, length, set, None, ◌∙◌, ap, arith, bit_or, rules, cases_eq, get_or-set_same, get_or-set_other, length-set, at_set, Orders, ports, outputs_of, sound-after, State, next_place, IsFree, state_after, IsSound, IsLedger, hand_at, claim_taken, Waits, Sits, IsClaimedByOne, bit, claim_word, View, common_steps, inr, ⊎_elim, refl, sym, claim_refused}
+use Rattle.cq_ledger.proofs.Terms.{ℕ, suc, ◌≡◌, ◌≢◌, ◌⊎◌, inl, ◌<◌, ◌^◌, List, length, set, None, ◌∙◌, ap, arith, bit_or, rules, cases_eq, get_or-set_same, get_or-set_other, length-set, at_set, Orders, ports, outputs_of, sound-after, State, next_place, IsFree, state_after, IsSound, IsLedger, hand_at, claim_taken, Waits, Sits, IsClaimedByOne, bit, claim_word, View, common_steps, refl, claim_refused}
 use Rattle.cq_ledger.proofs.Hands.{hand_at-left, hand_at-shows}
 use Rattle.cq_ledger.proofs.Dealt.{sits_now, by_one_still, in_hand_still, made_with, hands_with, offers_with, stood, claims_stay, hands_from, dealt}
 use Rattle.cq_ledger.proofs.Views.{bit-or_same, bit-or_other, bit-zero}
@@ -76,22 +76,13 @@ module _ (o : Orders) (words : List ℕ) (views : List View) (k : IsLedger o wor
         size = length-set words 0 _ ∙ k.size;
         same = offers_with o views id view_now k.same (inl same_offers);
         positions = λ j l. let n : suc j ≢ 0 = omega arith in get_or-set_other words 0 (suc j) _ 0 n ∙ k.positions j l;
-        claims = record {
-          claimed =
-              λ b q u a h. grind (arith, common_steps, claims_of b q u a h, now_set, still_set q, k.claims.claimed);
-          by_one = by_one_now;
-          apart = search (arith, rules, claims_of, not_i);
-          in_range = λ q h. grind (arith, common_steps, cases_eq q i, k.claims.in_range q, others q);
-          seen = search (arith, rules, at_set, still_set);
-        };
+        claims = search (rules, claims_of, now_set, still_set, by_one_now, not_i, k.claims.in_range, others, at_set);
         hands = hands_with views id v view_now at_id o s s words words_now k.hands
             (search (arith, rules, hand_at-shows, hand_is, free_i, fresh_i, now_set, not_i))
             (search (arith, rules, still_set)) undropped_now;
-        unclaimed = λ q h. grind (arith, common_steps, cases_eq q i, fresh_i, k.unclaimed q, others q);
+        unclaimed = search (arith, rules, cases_eq, fresh_i, k.unclaimed, others);
         made = let a = made_with views id v view_now at_id in let b = k.made in omega arith;
-        idle = λ b u a c.
-            let at = at_set views id b view_now u a in
-            grind (arith, common_steps, at, bit-or_same v.claims i, bit-zero i, k.idle b u);
+        idle = λ b u a. grind (arith, common_steps, at_set views id b view_now u a, bit-or_same, bit-zero i, k.idle b);
       }
 
 -- ## A claim that finds the input claimed
@@ -112,10 +103,9 @@ module _ (o : Orders) (words : List ℕ) (views : List View) (k : IsLedger o wor
 
   unfoldable pub refuse-keeps : IsLedger o words refused_views
   refuse-keeps =
+      let claims = claims_stay views id v refused_now at_id o words words refl refl in
+      let still = in_hand_still views id v refused_now at_id in
+      let made = made_with views id v refused_now at_id in
       dealt o words views refused_views k (offers_with o views id refused_now k.same (inl same_offers))
-      (claims_stay views id v refused_now at_id o words words refl refl (λ q h. ⊎_elim (λ e. rw e found)
-      (λ n. k.claims.seen id q v at_id (sym (bit-or_other v.seen i q n) ∙ h)) (cases_eq q i)) k.claims)
-      (hands_from k.hands (λ b q p u a h. let x = had b u a in (x.0, x.1, x.2.1 ∙ h))
-      (λ q. ⊎_elim (λ z. inl z) (λ x. inr (in_hand_still views id v refused_now at_id q (λ p h. h) x))))
-      (let a = made_with views id v refused_now at_id in omega arith)
-      (search (rules, had, k.idle))
+      (claims (search (arith, rules, k.claims.seen, bit-or_other, cases_eq)) k.claims)
+      (hands_from k.hands (search (rules, had)) (search (rules, still))) (omega arith) (search (rules, had, k.idle))

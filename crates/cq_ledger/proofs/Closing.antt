@@ -1,6 +1,6 @@
 -- A seat that has claimed every port and has nobody in its hand knows the whole phase: no other seat has a claim, so
 -- none has made a proposal or has an input in its hand. Nobody is dropped, so nobody is free.
-use Rattle.cq_ledger.proofs.Terms.{rules, ℕ, ◌≡◌, ◌≢◌, ◌<◌, List, [], ◌∷◌, None, refl, sym, ◌∙◌, arith, sum_by, cases_eq, sum_by-cons, Orders, ports, Partners, IsInputBest, proposals, next_output-offered, sound-after, State, IsQuiescent, state_after, matching_of, IsSound, IsLedger, Sits, bit, input_in_range, Shows, events-quiet, View, common_steps, set, spent, at_set, suc}
+use Rattle.cq_ledger.proofs.Terms.{rules, ℕ, ◌≡◌, ◌≢◌, ◌<◌, List, [], ◌∷◌, None, refl, arith, sum_by, cases_eq, sum_by-cons, Orders, ports, Partners, IsInputBest, proposals, next_output-offered, sound-after, State, IsQuiescent, state_after, matching_of, IsSound, IsLedger, Sits, bit, input_in_range, Shows, events-quiet, View, common_steps, spent, at_set, suc}
 use Rattle.cq_prefs.proofs.Quiet.{input_best-quiet}
 use Rattle.cq_ledger.proofs.Dealt.{made_with}
 use Rattle.cq_ledger.proofs.Views.{same_at, no_bits}
@@ -14,8 +14,7 @@ none_made (x ∷ xs) h = grind (arith, common_steps, sum_by-cons, none_made xs (
 one_made : (views : List View) (id : ℕ) (v : View) → Sits views id v →
     ((a : ℕ) (u : View) → a ≢ id → Sits views a u → u.made ≡ 0) → sum_by (λ (y : View). y.made) views ≡ v.made
 one_made views id v e h =
-    let none = none_made (set views id spent) (search (arith, rules, at_set, h)) in
-    let sum = made_with views id v spent e in omega arith
+    let sum = made_with views id v spent e in search (arith, rules, none_made, at_set, h)
 
 module _ (o : Orders) (words : List ℕ) (views : List View) (k : IsLedger o words views) (id : ℕ) (v : View)
     (at_id : Sits views id v)
@@ -34,8 +33,7 @@ module _ (o : Orders) (words : List ℕ) (views : List View) (k : IsLedger o wor
   pub closing-best : IsInputBest o (matching_of o (state_after o k.events))
       × (v.made ≡ proposals o (matching_of o (state_after o k.events)))
   closing-best =
-      let made = sym (one_made views id v at_id (λ a u n at. (others_idle a u n at).1)) ∙ k.made in
-      search (rules, input_best-quiet, closing-quiet, made, events-quiet)
+      search (rules, input_best-quiet, closing-quiet, one_made views id v at_id, others_idle, events-quiet)
 
 -- the last words show a state that proposals reach
 pub closing-shown : (key offers : Orders) → key ≡ offers → (words items : List ℕ) (views : List View) →

@@ -1,7 +1,7 @@
 -- The place that is found for an input in the hands is that of a hand that has it, and where none is found no hand
 -- does.
 -- The state of the proposal core that words and views show is the one that the proposals of the rule reach.
-use Rattle.cq_ledger.proofs.Terms.{rules, ℕ, ◌≡◌, List, [], length, drop, Option, Some, None, refl, sym, ◌∙◌, ap, arith, map, range_with_len, ext_get_or, length-drop, length-map-range_with_len, get_or-map-range_with_len, Orders, ports, outputs_of, State, next_place, IsSound, keeper, state_after, keeper-holds, keeper-from, sound-after, View, IsLedger, place_in_hands, output_of, next_by, next_shown, core_state, IsClaimed, bit, claim_word, common_steps, zero, suc, ◌∷◌, some-injective, some-ne-none, cond_both, eqb-true, eq-eqb, true≢false, place_in_hand, first_place, Sits, IsInAHand}
+use Rattle.cq_ledger.proofs.Terms.{rules, ℕ, ◌≡◌, List, [], length, drop, Option, Some, None, refl, sym, ◌∙◌, ap, arith, map, range_with_len, ext_get_or, length-drop, length-map-range_with_len, get_or-map-range_with_len, Orders, ports, outputs_of, State, next_place, IsSound, keeper, state_after, keeper-holds, keeper-from, sound-after, View, IsLedger, place_in_hands, output_of, next_shown, core_state, IsClaimed, claim_word, common_steps, zero, suc, ◌∷◌, some-injective, some-ne-none, cond_both, eqb-true, eq-eqb, true≢false, place_in_hand, first_place, Sits, IsInAHand}
 use Rattle.cq_ledger.proofs.Views.{bit-lt}
 
 -- ## One hand
@@ -25,18 +25,11 @@ in_hands-some (v ∷ views) i p e = go (in_hands-some views i p) (place_in_hand 
     go later None f r = let x = later r in (suc x.0, x.1, x.2, x.3)
     go later (Some q) f r = (zero, v, refl, in_hand-some v.hand i p (f ∙ r))
 
-not_first : (v : View) (views : List View) (i : ℕ) → place_in_hands (v ∷ views) i ≡ None → (p : ℕ) →
-    v.hand ≡ Some (i, p) → ⊥
-not_first v views i e p h = grind (arith, common_steps, in_hand-has)
-
-none_at : (views : List View) (i : ℕ) → place_in_hands views i ≡ None → (a : ℕ) (u : View) (p : ℕ) → Sits views a u →
-    u.hand ≡ Some (i, p) → ⊥
-none_at [] i e a u p at h = some-ne-none u (sym at)
-none_at (v ∷ views) i e zero u p at h = not_first v views i e p (ap (λ y. y.hand) (some-injective v u at) ∙ h)
-none_at (v ∷ views) i e (suc a) u p at h = none_at views i (grind (arith, common_steps)) a u p at h
-
 pub in_hands-none : (views : List View) (i : ℕ) → place_in_hands views i ≡ None → IsInAHand views i → ⊥
-in_hands-none views i e x = none_at views i e x.0 x.1 x.2 x.3 x.4
+in_hands-none [] i e (a, u, p, at, h) = some-ne-none u (sym at)
+in_hands-none (v ∷ views) i e (zero, u, p, at, h) = grind (arith, common_steps, in_hand-has, some-injective v u at)
+in_hands-none (v ∷ views) i e (suc a, u, p, at, h) =
+    in_hands-none views i (grind (arith, common_steps)) (a, u, p, at, h)
 
 -- ## The state
 
@@ -60,20 +53,15 @@ module _ (o : Orders) (words : List ℕ) (views : List View) (k : IsLedger o wor
   through : (i : ℕ) → place_in_hands views i ≡ None → keeper o s i ≡ None → IsClaimed words i →
       next_place s i ≡ length (outputs_of o i)
   through i no_hand no_output claimed =
-      let keeper = keeper-from o k.offers s w i in
-      grind (arith, w.within i, in_hands-none views i no_hand, k.hands.undropped i, keeper)
+      grind (arith, w.within i, in_hands-none views i, k.hands.undropped i, keeper-from o k.offers s w i)
 
   next-is : (i : ℕ) → next_shown o words views i ≡ next_place s i
   unfolding next_shown
   next-is i =
-      ap (λ q. next_by o i (place_in_hands views i) q (bit (claim_word words) i)) (output-is i)
-      ∙ go (place_in_hands views i) refl (keeper o s i) refl
-    where
-      go : (h : Option ℕ) → place_in_hands views i ≡ h → (q : Option ℕ) → keeper o s i ≡ q →
-          next_by o i h q (bit (claim_word words) i) ≡ next_place s i
-      go (Some p) e q f = let x = in_hands-some views i p e in sym (k.hands.place x.0 i p x.1 x.2 x.3)
-      go None e (Some j) f = sym (w.last i j (keeper-holds o s i j f))
-      go None e None f = grind (arith, common_steps, through i e f, k.unclaimed i, bit-lt (claim_word words) i)
+      let hand = in_hands-some views i in
+      let held = keeper-holds o s i in
+      let bits = bit-lt (claim_word words) i in
+      search (arith, rules, output-is i, hand, k.hands.place, held, w.last, through i, k.unclaimed i, bits)
 
   places-are : map (next_shown o words views) (range_with_len 0 (ports o)) ≡ s.places
   places-are = ext_get_or 0 (map (next_shown o words views) (range_with_len 0 (ports o))) s.places

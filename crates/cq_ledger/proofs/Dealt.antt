@@ -78,8 +78,7 @@ hands_from k had waits =
       place = λ b q p u a h. let x = had b q p u a h in k.place b q p x.0 x.1 x.2;
       claimed = λ b q p u a h. let x = had b q p u a h in k.claimed b q p x.0 x.1 x.2;
       apart = λ b c q p r x y ax ay hx hy.
-          let m = had b q p x ax hx in
-          let n = had c q r y ay hy in k.apart b c q p r m.0 n.0 m.1 n.1 m.2 n.2;
+          let m = had b q p x ax hx in let n = had c q r y ay hy in k.apart b c q p r m.0 n.0 m.1 n.1 m.2 n.2;
       undropped = λ q g. waits q (k.undropped q g);
     }
 

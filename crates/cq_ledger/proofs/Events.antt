@@ -34,11 +34,7 @@ module _ (o : Orders) (words : List ℕ) (views : List View) (k : IsLedger o wor
       let here : next_place s i ≡ p = k.hands.place id i p v at hand in
       let f = k.hands.free id i p v at hand in
       let k' = propose-keeps o words views k id i v at (rw here hand) same_offers in
-      record {
-        free = rw is f;
-        state = rw (is, ← here) (core_state-is o _ _ k');
-        outcome = search (arith, rules, output_in_range, next_output-offered, is, here);
-      }
+      search (arith, rules, is, here, core_state-is o _ _ k', output_in_range, next_output-offered)
 
   module _ (i : ℕ) where
     pub taken-shows : i < ports o → IsUnclaimed words i → v.hand ≡ None → v.offers ≡ o →

@@ -1,6 +1,6 @@
 -- What one proposal does to the hand that made it, and to the free inputs: who is free after it is in the new hand, or
 -- was free before.
-use Rattle.cq_ledger.proofs.Terms.{common_steps, rules, ℕ, ◌≡◌, ◌≢◌, ◌⊎◌, ◌+◌, ◌<◌, ◌≤◌, length, get_or, Option, Some, None, refl, ◌∙◌, ap, arith, ⊎_elim, cases_lt, cases_eq, ltb-true, lt-ltb, le-ltb, eq-eqb, ne_eqb, Orders, AreOffers, ports, outputs_of, inputs_of, place_of, position_of, IsStep, step, State, position_held, next_place, Holds, IsFree, next_output, propose, holder, IsSound, Outcome, hand_at, hand_after, output_at, answer_of, get_or-place_in, same_at_place, output_in_range, holder-holds, inputs_at_most}
+use Rattle.cq_ledger.proofs.Terms.{common_steps, rules, ℕ, ◌≡◌, ◌≢◌, ◌⊎◌, ◌+◌, ◌<◌, ◌≤◌, length, get_or, Option, Some, None, refl, ap, arith, ⊎_elim, cases_lt, cases_eq, ltb-true, lt-ltb, le-ltb, eq-eqb, ne_eqb, Orders, AreOffers, ports, outputs_of, inputs_of, place_of, position_of, IsStep, step, State, position_held, next_place, Holds, IsFree, next_output, propose, holder, IsSound, Outcome, hand_at, hand_after, output_at, answer_of, get_or-place_in, same_at_place, output_in_range, holder-holds, inputs_at_most}
 
 pub hand_at-shows : (o : Orders) (k p i q : ℕ) → hand_at o k p ≡ Some (i, q) →
     (k ≡ i) × (p ≡ q) × (p < length (outputs_of o k))
@@ -31,6 +31,8 @@ pub hand-rejected : (o : Orders) (i p found : ℕ) → found ≢ ports o → fou
 unfolding answer_of hand_after
 hand-rejected o i p found n h = rw (ne_eqb _ _ n, le-ltb _ _ h) refl
 
+ruleset hands = (hand_at-shows, hand_at-left, hand-held, hand-displaced, hand-rejected)
+
 module _ (o : Orders) (v : AreOffers o) (s : State) (w : IsSound o s) (i : ℕ) (f : IsFree o s i) where
   abbrev j : ℕ
   j = next_output o s i
@@ -52,17 +54,14 @@ module _ (o : Orders) (v : AreOffers o) (s : State) (w : IsSound o s) (i : ℕ) 
   -- another input that was free still is, at its place
   pub still_free : (k : ℕ) → k ≢ i → IsFree o s k → IsFree o t k
   still_free k n g =
-      let a = st.others_stay k n in
-      let b = st.held_asked in search (arith, rules, unheld_now, g.unheld, same_at_place)
+      search (arith, rules, st.others_stay, st.held_asked, unheld_now, g.unheld, same_at_place)
 
   -- the one that is displaced is free now, at the place after this output
   pub displaced_free : (k : ℕ) → Holds o s j k → position_of o j i < position_held s j →
       place_of o k j + 1 < length (outputs_of o k) → (IsFree o t k) × (next_place t k ≡ place_of o k j + 1) × (k ≢ i)
   displaced_free k h l left =
       let apart : k ≢ i = λ e. let x = ap (λ n. position_of o j n) e in absurd (omega arith) in
-      let a = st.held_asked in
-      let place_now = st.others_stay k apart ∙ w.last k j h in
-      search (arith, rules, unheld_now, same_at_place)
+      search (arith, rules, st.held_asked, st.others_stay, w.last, unheld_now, same_at_place)
 
   -- the one that is refused is free still
   pub refused_free : position_held s j ≤ position_of o j i → next_place s i + 1 < length (outputs_of o i) →
@@ -77,13 +76,9 @@ module _ (o : Orders) (v : AreOffers o) (s : State) (w : IsSound o s) (i : ℕ) 
 
   pub hand-shows : (k q : ℕ) → hand_found o i (next_place s i) (position_held s j) ≡ Some (k, q) → IsHand k q
   hand-shows k q h =
-      ⊎_elim (λ l. ⊎_elim
-      (λ e. absurd (let a = hand-held o i (next_place s i) (position_held s j) e in let P : ⊥ = cc in P))
-      (λ n. let hold = holder-holds o v s w j (output_in_range o v i j st.offered) n in
-      search (rules, hand-displaced, hand_at-shows, displaced_free (holder o s j) hold l))
-      (cases_eq (position_held s j) (ports o)))
-      (λ l. search (rules, hand-rejected, taken_if, hand_at-shows, refused_free))
-      (cases_lt (position_of o j i) (position_held s j))
+      let hold = holder-holds o v s w j (output_in_range o v i j st.offered) in
+      let of_holder = displaced_free (holder o s j) in
+      search (arith, rules, hands, hold, of_holder, taken_if, refused_free, cases_eq, cases_lt)
 
   -- who is free now is in the new hand, or was free before
   pub free-before : (k : ℕ) → IsFree o t k →
@@ -91,19 +86,12 @@ module _ (o : Orders) (v : AreOffers o) (s : State) (w : IsSound o s) (i : ℕ) 
   free-before k g =
       let moved = st.moved_on in
       let asked = st.held_asked in
-      ⊎_elim (λ e. ⊎_elim (λ l. absurd (g.unheld j (rw e (
-        let P : position_held t j ≡ position_of o j i = omega arith in P,
-        v.shown i j st.offered,
-      )))) (search (arith, rules, hand-rejected, taken_if, hand_at-left))
-      (cases_lt (position_of o j i) (position_held s j))) (λ n.
+      let shown = v.shown i j st.offered in
+      ⊎_elim (λ e. search (arith, rules, hands, g.unheld, taken_if, cases_lt)) (λ n.
       let stays = st.others_stay k n in
-      let unless : (Holds o s j k → ⊥) → (k ≢ i) × IsFree o s k = λ apart. (
-        n,
-        record {
-          left = let a = g.left in omega arith;
-          unheld = search (arith, rules, st.held_other, g.unheld, cases_eq);
-        },
-      ) in search (arith, rules, inputs_at_most, get_or-place_in, hand-displaced, hand_at-left, cases_lt, cases_eq))
+      let unless : (Holds o s j k → ⊥) → (k ≢ i) × IsFree o s k =
+      search (arith, rules, st.held_other, g.unheld, cases_eq) in
+      search (arith, rules, inputs_at_most, get_or-place_in, hand-displaced, hand_at-left, cases_lt, cases_eq))
       (cases_eq k i)
 
 -- a hand stands within its input's order

@@ -15,11 +15,8 @@ output_free o s m n r x e = let l = (r.there x n e).0 in absurd (omega arith)
 module _ (o : Orders) (v : AreOffers o) (s : State) (w : IsSound o s) (m : Partners) (n : ℕ) (r : IsRead o s m n) where
   reads_skip : position_held s n ≡ ports o → IsRead o s m (n + 1)
   reads_skip e =
-      record {
-        size = r.size;
-        there = λ k q h. search (arith, rules, r.there k q h);
-        back = λ k q l h. grind (arith, common_steps, r.back k q, inputs_at_most o v n, cases_eq q n);
-      }
+      let few = inputs_at_most o v n in
+      record { size = r.size; there = search (arith, rules, r.there); back = search (arith, rules, r.back, cases_eq) }
 
   module _ (range : n < ports o) (somebody : position_held s n ≢ ports o) where
     abbrev k : ℕ

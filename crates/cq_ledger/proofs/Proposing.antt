@@ -58,8 +58,7 @@ module _ (o : Orders) (words : List ℕ) (views : List View) (k : IsLedger o wor
   shown_now q r =
       let same = get_or-set_same words (suc j) in
       let other = get_or-set_other words (suc j) (suc q) in
-      let before = k.positions q in
-      grind (arith, cases_eq q j, same, other, before, st.held_other q, found_is, st.held_asked, j_in_range)
+      grind (arith, cases_eq q j, same, other, k.positions q, st.held_other q, found_is, st.held_asked, j_in_range)
 
   -- another view's hand has another input
   pub other_hand : (b q p : ℕ) (u : View) → b ≢ id → Sits views b u → u.hand ≡ Some (q, p) → q ≢ i
@@ -79,11 +78,9 @@ module _ (o : Orders) (words : List ℕ) (views : List View) (k : IsLedger o wor
 
   pub others : (b q p : ℕ) (u : View) → Sits views b u → b ≢ id → u.hand ≡ Some (q, p) → MayHold o t words_now q p
   others b q p u a n h =
-      let other = other_hand b q p u n a h in (
-        still_free o k.offers s w i f q other (k.hands.free b q p u a h),
-        st.others_stay q other ∙ k.hands.place b q p u a h,
-        still_set q (k.hands.claimed b q p u a h),
-      )
+      let other = other_hand b q p u n a h in
+      let free = still_free o k.offers s w i f in
+      search (rules, free, st.others_stay, still_set, k.hands.free, k.hands.place, k.hands.claimed)
 
   pub undropped_now : (q : ℕ) → IsFree o t q → Waits words_now views_now q
   undropped_now q g =
@@ -104,9 +101,7 @@ module _ (o : Orders) (words : List ℕ) (views : List View) (k : IsLedger o wor
         claims = same_claims views id v view_now at_id o words words_now claims_stay refl
             (λ q h. k.claims.seen id q v at_id h) k.claims;
         hands = hands_with views id v view_now at_id o s t words words_now k.hands mine others undropped_now;
-        unclaimed = λ q h. ⊎_elim (λ e. absurd (let a = k.hands.claimed id i (next_place s i) v at_id in_hand in
-            let b : bit (claim_word words) i ≡ 0 = rw e at (was_set q 0 h) in omega arith))
-            (λ n. st.others_stay q n ∙ k.unclaimed q (was_set q 0 h)) (cases_eq q i);
+        unclaimed = λ q h. search (arith, rules, cases_eq, k.hands.claimed, was_set, st.others_stay, k.unclaimed);
         made = let a = made_with views id v view_now at_id in let b = k.made in omega arith;
         idle = search (rules, k.idle, at_set);
       }

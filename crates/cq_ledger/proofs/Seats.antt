@@ -1,6 +1,6 @@
 -- Making the first seat, a split and a join keep the rule, and are no event: the words stay, and what the seats have
 -- claimed, seen, made and in their hands is only dealt out anew.
-use Rattle.cq_ledger.proofs.Terms.{ℕ, zero, suc, ◌≡◌, ◌≢◌, ◌⊎◌, inl, inr, subst, ◌+◌, ◌≤◌, List, [], ◌∷◌, ◌++◌, set, replicate, None, refl, sym, ◌∙◌, ap, arith, bit_or, ⊎_elim, rules, sum_by, cases_eq, length-replicate, get_or-replicate, sum_by_push, at_set, set_else, set_again, at_longer, at_snoc, Orders, AreOffers, ports, held-start, next_place-start, IsLedger, IsViewOf, blank, joined, spent, Sits, bit, View, common_steps, most_ports}
+use Rattle.cq_ledger.proofs.Terms.{ℕ, zero, suc, ◌≡◌, ◌≢◌, ◌⊎◌, inl, inr, ◌+◌, ◌≤◌, List, [], ◌∷◌, ◌++◌, set, replicate, None, refl, sym, ◌∙◌, ap, arith, bit_or, rules, sum_by, cases_eq, length-replicate, get_or-replicate, sum_by_push, at_set, set_else, set_again, at_longer, at_snoc, Orders, AreOffers, ports, held-start, next_place-start, IsLedger, IsViewOf, blank, joined, spent, Sits, bit, View, common_steps, most_ports, AreClaims}
 use Rattle.cq_ledger.proofs.Dealt.{sits_now, made_with, hands_from, offers_with, dealt}
 use Rattle.cq_ledger.proofs.Views.{same_at, bit-zero, no_bits, bit-either, bit-left, bit-right}
 
@@ -42,26 +42,17 @@ module _ (o : Orders) (words : List ℕ) (views : List View) (k : IsLedger o wor
 
   unfoldable pub longer-keeps : IsLedger o words longer
   longer-keeps =
-      dealt o words views longer k
-      (λ b u a. ⊎_elim (k.same b u) (λ e. subst (IsViewOf o) e known) (at_snoc views (blank other) u b a))
-      (record {
-        claimed = λ b q u a h. k.claims.claimed b q u (with_claim b q u a h) h;
-        by_one =
-            λ q h. let x = k.claims.by_one q h in (x.0, x.1, at_longer views (blank other ∷ []) x.0 x.1 x.2, x.3);
-        apart = search (rules, with_claim, k.claims.apart);
-        in_range = k.claims.in_range;
-        seen = λ b q u a h.
-            grind (arith, common_steps, at_snoc views (blank other) u b a, bit-zero q, k.claims.seen b q u);
-      })
-      (hands_from k.hands (λ b q p u a h. (u, grind (arith, common_steps, at_snoc views (blank other) u b a), h))
-      (λ q z. search (rules, at_longer)))
+      let at = at_snoc views (blank other) in
+      let claims : AreClaims o words longer =
+      search (arith, rules, with_claim, at_longer, k.claims.by_one, k.claims.apart, at, bit-zero, k.claims.seen) in
+      dealt o words views longer k (search (rules, at, k.same)) claims
+      (hands_from k.hands (search (arith, rules, at)) (search (rules, at_longer)))
       (let a = sum_by_push (λ (y : View). y.made) views (blank other) in omega arith)
-      (λ b u a h. grind (arith, common_steps, at_snoc views (blank other) u b a, k.idle b u))
+      (search (arith, rules, at, k.idle))
 
 -- a seat's half has the seat's offers
 pub half_of : (o : Orders) (v : View) → IsViewOf o v → IsViewOf o (blank v.offers)
-half_of o v (inl e) = inl e
-half_of o v (inr gone) = inr (ap (λ (y : View). blank y.offers) gone)
+half_of o v is = search (rules)
 
 -- a split: the old view stays
 pub split-keeps : (o : Orders) (words : List ℕ) (views : List View) (k : IsLedger o words views) (id : ℕ) (v : View) →
@@ -78,8 +69,7 @@ module _ (o : Orders) (words : List ℕ) (views : List View) (k : IsLedger o wor
   whole = set half gone spent
 
   pub here : Sits whole id (joined v w)
-  here =
-      let n : id ≢ gone = λ e. apart (sym e) in set_else half gone id spent n ∙ sits_now views id v (joined v w) at_id
+  here = search (arith, rules, set_else, sits_now)
 
   -- where a view stood before, and where it is now
   abbrev pub Home : ℕ → ℕ → Type 0
@@ -102,8 +92,7 @@ module _ (o : Orders) (words : List ℕ) (views : List View) (k : IsLedger o wor
     pub home : Home b at
 
   pub claimed_by : (b q : ℕ) (u : View) → Kind b u → bit u.claims q ≡ 1 → Claimed b q
-  claimed_by b q u m h = ⊎_elim (λ e. grind (arith, common_steps, bit-zero q)) (⊎_elim
-      (search (arith, rules, bit-either)) (search (arith, rules))) m
+  claimed_by b q u m h = search (arith, rules, bit-zero, bit-either)
 
   pub idle_now : (b : ℕ) (u : View) → Kind b u → u.claims ≡ 0 → (u.hand ≡ None) × (u.made ≡ 0)
   idle_now b u m h =
@@ -118,9 +107,7 @@ module _ (o : Orders) (words : List ℕ) (views : List View) (k : IsLedger o wor
       search (rules, cases_eq x.0 id, cases_eq x.0 gone, same_at, here, bit-left, bit-right, still_there)
 
   pub made_now : sum_by (λ (y : View). y.made) whole ≡ sum_by (λ (y : View). y.made) views
-  made_now =
-      let a = made_with views id v (joined v w) at_id in
-      let b = made_with half gone w spent (set_else views id gone (joined v w) apart ∙ at_gone) in omega arith
+  made_now = search (arith, rules, made_with, set_else)
 
   unfoldable pub join-keeps : IsLedger o words whole
   join-keeps =
@@ -128,18 +115,13 @@ module _ (o : Orders) (words : List ℕ) (views : List View) (k : IsLedger o wor
       (offers_with o half gone spent (offers_with o views id (joined v w) k.same (inl same_offers)) (inr refl))
       (record {
         claimed = λ b q u a h. let x = claimed_by b q u (kind b u a) h in k.claims.claimed x.at q x.by x.stood x.has;
-        by_one = λ q h. by_one_now q (k.claims.by_one q h);
+        by_one = search (rules, by_one_now, k.claims.by_one);
         apart = λ b c q x y ax ay hx hy.
             let m = claimed_by b q x (kind b x ax) hx in
-            let n = claimed_by c q y (kind c y ay) hy in
-            let e = k.claims.apart m.at n.at q m.by n.by m.stood n.stood m.has n.has in
-            same_home b c n.at (rw e at m.home) n.home;
+            let n = claimed_by c q y (kind c y ay) hy in search (rules, k.claims.apart, same_home);
         in_range = k.claims.in_range;
-        seen = λ b q u a h.
-            let m = kind b u a in
-            grind (arith, common_steps, m, bit-zero q, bit-either v.seen w.seen q, k.claims.seen);
+        seen = λ b q u a. grind (arith, common_steps, kind b u a, bit-zero, bit-either v.seen w.seen q, k.claims.seen);
       })
       (hands_from k.hands (λ b q p u a h. let m = kind b u a in (u, grind (arith, common_steps, m), h))
       (λ q z. grind (arith, common_steps, same_at views id v, same_at views gone w, still_there)))
-      made_now
-      (λ b u a h. idle_now b u (kind b u a) h)
+      made_now (λ b u a. idle_now b u (kind b u a))
