@@ -57,10 +57,9 @@ pub rows_more : (form : Form) (bytes : List â„•) (rows : List PacketRow) (at : â
 rows_more form bytes rows at row fits small is_row so_far =
     let r : IsRowOf form (drop at bytes) at row = rw take_rest at is_row in
     let says = first_says form at (drop at bytes) (Ok (packet_at bytes row)) (packet_is form bytes at row r) in
-    let w = says.0 in
     let more = places_more form bytes rows at row small so_far.ends so_far.stand r in
-    let body = body_length form (drop at bytes) (AreBytes-drop bytes at fits) w in
-    let spelt = spelt_more form bytes at (packets_at bytes rows) fits so_far.within so_far.spelt w in
+    let body = body_length form (drop at bytes) (AreBytes-drop bytes at fits) says.0 in
+    let spelt = spelt_more form bytes at (packets_at bytes rows) fits so_far.within so_far.spelt says.0 in
     search (arith, rules, inside_is, more, body, length_is form bytes at row r, map-append, spelt)
 
 -- a fault at the place is the file's, whatever refusal names it

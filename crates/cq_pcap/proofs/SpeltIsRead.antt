@@ -3,7 +3,7 @@
 use Rattle.cq_pcap.proofs.Terms.{rules, ◌≡◌, ℕ, ◌+◌, List, [], ◌∷◌, ◌++◌, length, map, take, drop, refl, arith, append_assoc, length-append, Bool, ◌<◌, common_steps, append-nil, drop-drop, drop_at, length-drop, length-take-le, take-append-drop, take_at, Result, Ok, Err, flat_map, AllByRecursion, Form, number_at, Captured, PcapRefusal, CutHeader, LongRecord, CutBody, IsFaulty, IsSpeltUpTo, ◌>>=◌, first_packet, header_form, packets_from, packets_of, Record, spelling, Fits, Spells, SpellsIn, captured_of, zero, suc, ◌≤◌, packets_in}
 use Rattle.cq_pcap.proofs.Numbers.{number_at-drop, number_in-reads_back}
 use Rattle.cq_pcap.proofs.Headers.{header_read, header_faulty}
-use Rattle.cq_pcap.proofs.Firsts.{first_said}
+use Rattle.cq_pcap.proofs.Firsts.{first_said, Says}
 
 -- what stands in the bytes of a record, whatever follows it
 record Stands (big : Bool) (r : Record) (xs rest : List ℕ) : Type 0 where
@@ -60,8 +60,7 @@ records_read : (form : Form) (n place ends : ℕ) (rs : List Record) (rest : Lis
     AllByRecursion Fits rs → ends ≡ place + length (flat_map (spelling form.big) rs) →
     length (flat_map (spelling form.big) rs ++ rest) ≤ n →
     packets_in form n place (flat_map (spelling form.big) rs ++ rest) ≡ joined (map (captured_of form) rs) left
-records_read form n place ends [] rest left then fits at few =
-    let same : ends ≡ place = omega arith in cc (then n few, joined-nil left)
+records_read form n place ends [] rest left then fits at few = grind (arith, common_steps, then n few, joined-nil left)
 records_read form zero place ends (r ∷ rs) rest left then fits at few = search (rules, length-append, length_is)
 records_read form (suc n) place ends (r ∷ rs) rest left then fits at few =
     let on = records_read form n (place + (16 + length r.body)) ends rs rest left then fits.1 in
@@ -84,10 +83,11 @@ spelt_is_read bytes packets s =
 
 -- a fault of the record after a capture is the file's
 record_fault_read : (form : Form) (bytes : List ℕ) (offset : ℕ) (fault : PcapRefusal) → IsSpeltUpTo form bytes offset →
-    first_packet form offset (drop offset bytes) ≡ Err fault → packets_of bytes ≡ Err fault
-record_fault_read form bytes offset fault u e =
+    Says form offset (drop offset bytes) (Err fault) → packets_of bytes ≡ Err fault
+record_fault_read form bytes offset fault u says =
     let left = u.left in
     let first = fault_first form offset (drop offset bytes) fault in
+    let said = first_said form offset (drop offset bytes) (Err fault) says in
     let read = capture_read form (take offset bytes) (drop offset bytes) u.packets (Err fault) offset in
     search (arith, rules, read, length-take-le, first, length-drop, take-append-drop offset bytes)
 
@@ -99,14 +99,11 @@ header_fault_read bytes fault e = grind (arith, common_steps)
 -- each fault is read
 pub fault_is_read : (bytes : List ℕ) (fault : PcapRefusal) → IsFaulty bytes fault → packets_of bytes ≡ Err fault
 fault_is_read bytes (CutHeader offset) h =
-    let read = first_said h.0 offset (drop offset bytes) (Err (CutHeader offset)) in
-    grind (arith, common_steps, record_fault_read h.0 bytes offset (CutHeader offset) h.1, read, length-drop)
+    grind (arith, common_steps, record_fault_read h.0 bytes offset (CutHeader offset) h.1, length-drop)
 fault_is_read bytes (LongRecord offset len) h =
-    let read = first_said h.0 offset (drop offset bytes) (Err (LongRecord offset len)) in
-    let all = record_fault_read h.0 bytes offset (LongRecord offset len) h.1 in
-    grind (arith, common_steps, all, read, length-drop, number_at-drop)
+    let read = record_fault_read h.0 bytes offset (LongRecord offset len) h.1 in
+    grind (arith, common_steps, read, length-drop, number_at-drop)
 fault_is_read bytes (CutBody offset) h =
-    let read = first_said h.0 offset (drop offset bytes) (Err (CutBody offset)) in
-    let all = record_fault_read h.0 bytes offset (CutBody offset) h.1 in
-    grind (arith, common_steps, all, read, length-drop, number_at-drop)
+    let read = record_fault_read h.0 bytes offset (CutBody offset) h.1 in
+    grind (arith, common_steps, read, length-drop, number_at-drop)
 fault_is_read bytes fault h = header_fault_read bytes fault (header_faulty bytes fault refl h)
