@@ -1,7 +1,7 @@
 -- A proposal keeps the rule, and is one event. The word of the output that is asked becomes the position that it
 -- holds after the event. The new hand has the input that was displaced or rejected, if that is free: no other seat
 -- has it, since it was held, or in this hand.
-use Rattle.cq_ledger.proofs.Terms.{rules, ℕ, suc, ◌≡◌, ◌≢◌, inl, ⊎_elim, ◌<◌, min, List, ◌∷◌, get_or, set, Some, refl, sym, ◌∙◌, ap, arith, common_steps, cases_eq, get_or-set_same, get_or-set_other, length-set, at_set, Orders, ports, position_of, IsStep, step, sound-after, State, position_held, next_place, IsFree, next_output, propose, state_after, IsSound, IsLedger, proposed, Waits, Sits, bit, claim_word, output_in_range, View}
+use Rattle.cq_ledger.proofs.Terms.{rules, ℕ, suc, ◌≡◌, ◌≢◌, inl, ⊎_elim, ◌<◌, min, List, ◌∷◌, get_or, set, Some, sym, ◌∙◌, ap, arith, common_steps, cases_eq, get_or-set_same, get_or-set_other, length-set, at_set, Orders, ports, position_of, IsStep, step, sound-after, State, position_held, next_place, IsFree, next_output, propose, state_after, IsSound, IsLedger, proposed, Waits, Sits, bit, claim_word, output_in_range, View}
 use Rattle.cq_ledger.proofs.Hands.{hand_found, still_free, hand-shows, free-before}
 use Rattle.cq_ledger.proofs.Dealt.{sits_now, in_hand_still, claims_stay as same_claims, made_with, hands_with, offers_with, MayHold}
 use Rattle.cq_ledger.proofs.Views.{bit-lt}
@@ -98,8 +98,7 @@ module _ (o : Orders) (words : List ℕ) (views : List View) (k : IsLedger o wor
         size = length-set words (suc j) _ ∙ k.size;
         same = offers_with o views id view_now k.same (inl same_offers);
         positions = shown_now;
-        claims = same_claims views id v view_now at_id o words words_now claims_stay refl
-            (λ q h. k.claims.seen id q v at_id h) k.claims;
+        claims = search (rules, same_claims views id v view_now at_id, claims_stay, k.claims.seen);
         hands = hands_with views id v view_now at_id o s t words words_now k.hands mine others undropped_now;
         unclaimed = λ q h. search (arith, rules, cases_eq, k.hands.claimed, was_set, st.others_stay, k.unclaimed);
         made = let a = made_with views id v view_now at_id in let b = k.made in omega arith;

@@ -1,4 +1,4 @@
-use Rattle.cq_ledger.proofs.Terms.{rules, ◌∙◌, arith, slots_items, State, IsSound, inputs_at_most, Shows}
+use Rattle.cq_ledger.proofs.Terms.{rules, arith, slots_items, State, IsSound, inputs_at_most, Shows}
 use Rattle.cq_ledger.proofs.Matched.{IsRead, IsWord, holder_inside, holder_free, word_joins, word_skips, output_free, reads_all}
 use Rattle.cq_ledger.proofs.reading.read_matching.Goals as goal
 use Rattle.cq_ledger.proofs.reading.read_matching.Goals.{After-word-word, then-word-ports, else-word-ports}
@@ -26,12 +26,7 @@ join-requires c =
     let read = c.loop-output.invariant s.0 s.1 s.2 in
     let free = holder_free _ _ _ _ _ (shown (goal.at.join-requires c).After-word-word)
     _ c.ports-ports.ensures.value c.if-word-ports.true _ c.inputs_of.ensures c.ports-ports.ensures.offers _ read in
-    record {
-      input = free.0;
-      output = omega arith;
-      free_input = free.1;
-      free_output = output_free c.args.offers.now s.0 c.loop-output.matching c.loop-output.output read;
-    }
+    search (arith, rules, output_free)
 
 pub loop-output-preserved : goal.loop-output-preserved
 loop-output-preserved c = λ s w shows.
@@ -39,10 +34,8 @@ loop-output-preserved c = λ s w shows.
     let r = c.loop-output.invariant s w shows in
     let v = c.ports-ports.ensures.offers in
     elim c.if-word-ports.branch [
-      | then-word-ports b ↦ rw (b.matching-is ∙ b.join.ensures)
-          (word_joins _ _ _ _ _ is _ c.ports-ports.ensures.value b.if-word-ports.true _ b.inputs_of.ensures v _ r)
-      | else-word-ports b ↦ rw b.matching-is
-          (word_skips _ _ _ _ _ is v _ r (b.if-word-ports.false ∙ c.ports-ports.ensures.value))
+      | then-word-ports b ↦ search (arith, rules, word_joins _ _ _ _ _ is)
+      | else-word-ports b ↦ search (arith, rules, word_skips _ _ _ _ _ is)
     ]
 
 pub returns : goal.returns
