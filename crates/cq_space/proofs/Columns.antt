@@ -2,7 +2,7 @@
 -- The map is made from the last entry to the first, so a name has the value of its first entry. Two maps
 -- that answer alike are equal, so lemmas on maps compare what they answer, by an induction on the
 -- entries: the first entry of a name is at the head, or the head has another name.
-use Rattle.cq_space.proofs.Terms.{common_steps, rules, ◌≡◌, ℕ, ◌+◌, ◌<◌, ◌≤◌, Bool, true, cond, List, [], ◌∷◌, ◌++◌, length, get_or, set, refl, sym, ◌∙◌, arith, Option, None, Some, position_or_len, is_eq-slice_cmp, bytes_eq-Decides, nat_cmp, eq_by_cmp_equiv, slice_cmp, nat_list_cmp_total, FinMap, get, get-empty, get-insert, get-remove, same_map, slice_cmp-IsAntisymmetric, nat_cmp-IsAntisymmetric, same_name, put, by_name, IsEntryOf, passes_at_first, length-set, get_or-set_same, get_or-set_other, string_bytes, length-append, unwrap_or, add-zero, length-map, map-append, map-set, get_or_append_left, get_or-map, set-get_or, get_or-append_seam, map-set_same, ltb-false, eq-eqb, ne_eqb, prefix_len-le-length, Global, position_or_len_push, position_or_len_is, Vec, position, option_map, Entry, State, Columns, columns_of, told_at, bytes_at, IsInPlace, with_bytes, SaysTheSame, position_or_len-map}
+use Rattle.cq_space.proofs.Terms.{common_steps, rules, ◌≡◌, ℕ, ◌+◌, ◌<◌, ◌≤◌, Bool, true, cond, List, [], ◌∷◌, ◌++◌, length, get_or, set, refl, ◌∙◌, arith, Option, None, Some, position_or_len, is_eq-slice_cmp, bytes_eq-Decides, nat_cmp, eq_by_cmp_equiv, slice_cmp, nat_list_cmp_total, FinMap, get, get-empty, get-insert, get-remove, same_map, slice_cmp-IsAntisymmetric, nat_cmp-IsAntisymmetric, same_name, put, by_name, IsEntryOf, passes_at_first, length-set, get_or-set_same, get_or-set_other, string_bytes, length-append, unwrap_or, add-zero, length-map, map-append, map-set, get_or_append_left, get_or-map, set-get_or, get_or-append_seam, map-set_same, ltb-false, eq-eqb, ne_eqb, prefix_len-le-length, Global, position_or_len_push, position_or_len_is, Vec, position, option_map, Entry, State, Columns, columns_of, told_at, bytes_at, IsInPlace, with_bytes, SaysTheSame, position_or_len-map}
 use Rattle.std.specs.FinMap.{insert}
 use Rattle.cq_space.specs.declared.entries.State.TheVariants as state
 use Rattle.std.proofs.lemmas.List.Quantifiers.{position-Some}
@@ -28,9 +28,8 @@ module _ {X : Type 0} where
   pub get-first : (names : List (List ℕ)) (values : List (Option X)) (name : List ℕ) → length values ≡ length names →
       get (by_name names values) name ≡ get_or values (position_or_len (same_name name) names) None
   get-first [] [] name even = get-empty (slice_cmp nat_cmp) name
-  get-first [] (v ∷ values) name even = absurd (omega arith)
-  get-first (n ∷ names) [] name even = absurd (omega arith)
   get-first (n ∷ names) (value ∷ values) name even = grind (arith, common_steps, get-put, get-first names values name)
+  get-first names values name even = absurd (omega arith)
 
   pub by_name-set : (names : List (List ℕ)) (values : List (Option X)) (i : ℕ) (name : List ℕ) (x : X) →
       IsEntryOf names i name → length values ≡ length names →
@@ -48,9 +47,8 @@ module _ {X : Type 0} where
   by_name-push [] [] name even =
       let removed = get-remove {X = X} nat_list_cmp_total (by_name [] []) name in
       same_answers _ _ (λ q. grind (arith, common_steps, removed, get-empty {X = X} (slice_cmp nat_cmp) q))
-  by_name-push [] (v ∷ values) name even = absurd (omega arith)
-  by_name-push (n ∷ names) [] name even = absurd (omega arith)
   by_name-push (n ∷ names) (value ∷ values) name even = search (rules, arith, by_name-push names values name)
+  by_name-push names values name even = absurd (omega arith)
 
 -- ## Entries as columns, all of one length. A new entry at the end says nothing new of any name, and leaves what is
 -- open in place; a change of one column at the entry of a name changes one map at that name.
@@ -72,8 +70,7 @@ entry_found : (names : List (List ℕ)) (name : List ℕ) (i : ℕ) → position
     IsEntryOf names i name
 entry_found names name i e =
     let at = position-Some (same_name name) names i [] e in
-    let first = position_or_len_is (same_name name) names i [] (omega arith) at.2 (λ _. at.1) in
-    record { there = at.0; first = first; named = sym (is_same name _ at.1) }
+    search (arith, rules, position_or_len_is (same_name name) names i [], is_same name)
 
 pub finds : (es found : List Entry) (name : List ℕ) (i : ℕ) → found ≡ es →
     Some i ≡ position (has_name name) found → IsEntryOf (columns_of es).names i name
@@ -104,9 +101,7 @@ still_entry : (names : List (List ℕ)) (n : List ℕ) (at : ℕ) → IsEntryOf 
 still_entry names n at is = search (arith, rules, get_or_append_left, ne_eqb, length-append, position_or_len_push)
 
 still_in_place : (c : Columns) (name : List ℕ) → AreEven c → (s : State) → IsInPlace c s → IsInPlace (grown c name) s
-still_in_place c name even state.Shut sound = tt
-still_in_place c name even (state.Reads at place) sound = search (rules, unwrap_or, still_entry, get_or_append_left)
-still_in_place c name even (state.Writes at) sound = grind (arith, common_steps, still_entry, get_or_append_left)
+still_in_place c name even s sound = search (rules, unwrap_or, still_entry, get_or_append_left)
 
 -- a list with one more behind it
 ruleset seams = (get_or_append_left, unwrap_or)

@@ -1,7 +1,7 @@
 -- What calls on files in memory do. The entry of a name answers for the name in each map, since it is the
 -- first. So a new value at that entry is a new value of the name and changes nothing else, and the cut and
 -- the bytes of the open name, which the code takes from its entry, are those that the meaning has.
-use Rattle.cq_space.proofs.Terms.{rules, ◌≡◌, ℕ, ◌+◌, ◌-◌, ◌<◌, ◌≤◌, min, true, false, List, [], ◌++◌, length, get_or, map, take, drop, refl, ap, ◌∙◌, arith, unwrap_or, string_bytes, common_steps, length-map, get_or-map, get_or_past, with_items_is, length-drop, length-take, take-append-drop, drop_all, drop-drop, Option, None, Some, Vec, is_some, Global, with_items, position, option_map, get, Entry, State, Calls, IsShort, one_more, StaysBefore, MemSpace, told_space, cut_at, moved_at, Closed, Reading, Space, BeginsReading, TakesNext, ReadsOn, Appends, bytes_of, Columns, columns_of, contents_of, read_cuts_of, write_cuts_of, by_name, IsEntryOf, name_at, bytes_at, mode_of, IsInPlace, with_bytes, with_read_cut, with_write_cut, SaysTheSame}
+use Rattle.cq_space.proofs.Terms.{rules, ◌≡◌, ℕ, ◌+◌, ◌-◌, ◌<◌, ◌≤◌, min, true, false, List, [], ◌++◌, length, get_or, map, take, drop, ap, ◌∙◌, arith, unwrap_or, string_bytes, common_steps, length-map, get_or-map, get_or_past, with_items_is, length-drop, length-take, take-append-drop, drop_all, drop-drop, Option, None, Some, Vec, is_some, Global, with_items, position, option_map, get, Entry, State, Calls, IsShort, one_more, StaysBefore, MemSpace, told_space, cut_at, moved_at, Closed, Reading, Space, BeginsReading, TakesNext, ReadsOn, Appends, bytes_of, Columns, columns_of, contents_of, read_cuts_of, write_cuts_of, by_name, IsEntryOf, name_at, bytes_at, mode_of, IsInPlace, with_bytes, with_read_cut, with_write_cut, SaysTheSame}
 use Rattle.std.specs.FinMap.{insert}
 use Rattle.cq_space.specs.declared.entries.State.TheVariants as state
 use Rattle.cq_space.specs.declared.mem_files.MemFiles.TheInside.{Inside}
@@ -54,12 +54,10 @@ pub short_before : (old new : Calls) (n k : ℕ) → new ≡ one_more old → k 
 short_before old new n k e h s = search (arith, rules)
 
 pub stays_less : (cut : Option ℕ) (moved n k : ℕ) → k ≤ n → StaysBefore cut moved n → StaysBefore cut moved k
-stays_less None moved n k less stays = tt
-stays_less (Some after) moved n k less stays = (stays.0, omega (arith, stays.1))
+stays_less cut moved n k less stays = grind (arith, common_steps)
 
 untold : (o : Option (Vec ℕ Global)) → false ≡ is_some o → option_map (λ v. v.items) o ≡ None
-untold None e = refl
-untold (Some v) e = absurd (let P : ⊥ = cc in P)
+untold o e = grind (arith, common_steps)
 
 -- a read takes the next piece
 module _ (name bytes : List ℕ) (most place count : ℕ) (counted : count ≡ min (length (drop place bytes)) most)
