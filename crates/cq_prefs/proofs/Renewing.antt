@@ -64,9 +64,6 @@ filter_all p (x ∷ xs) all = grind (arith, common_steps, cond-true, filter_all 
 no_partner : (p : Option ℕ) (j : ℕ) → p ≢ Some j → is_partner p j ≡ false
 no_partner p j ne = grind (arith, common_steps, ne_eqb)
 
-partner_if : (p : Option ℕ) (j : ℕ) → is_partner p j ≡ true → p ≡ Some j
-partner_if p j h = grind (arith, common_steps, eqb-true)
-
 -- of the inputs, only the one whose partner it is makes a pair with an output
 one_partner : (m : Partners) → ArePairs m → (i j k : ℕ) → partner_of m i ≡ Some j → is_pair m k j ≡ eqb k i
 one_partner m pairs i j k e = search (rules, eq-eqb, no_partner, pairs.once, ne_eqb, cases_eq)
@@ -121,7 +118,7 @@ pub in_range_still :
 in_range_still m o lists pairs v size long same i j c found =
     let order = is_output_order (list_of lists i) in
     let left = has_kept (λ k. not (is_pair m i k)) (outputs_of (orders_of lists) i) j in
-    search (arith, rules, partner_if, left, outputs_at, among, order, kept_has, output_in_range, listed, cases_Bool)
+    search (arith, rules, left, outputs_at, among, order, kept_has, output_in_range, listed, cases_Bool, eqb-true)
 
 -- so what they are to be are offers
 pub still_offers :
@@ -187,9 +184,6 @@ module _ (n j : ℕ) (lists : List Waiting) (inside : n < length lists) (within 
   pair_size : length (pair_of lists n j) ≡ length lists
   pair_size = grind (arith, common_steps, length-set, length-replicate)
 
-  pair_here : partner_of (pair_of lists n j) n ≡ Some j
-  pair_here = grind (arith, common_steps, length-replicate, get_or-set_same)
-
   pair_else : (i : ℕ) → i ≢ n → partner_of (pair_of lists n j) i ≡ None
   pair_else i other = grind (arith, common_steps, get_or-set_other, nobody)
 
@@ -204,7 +198,7 @@ module _ (n j : ℕ) (lists : List Waiting) (inside : n < length lists) (within 
   pair_next outputs inputs o now shown v is many same =
       let size = pair_size in
       let first = none_renewed (pair_of lists n j) o (orders_of (cells_of lists)) pair_apart v.0 in
-      search (arith, rules, first, none_between, pair_else, still_offers, pair_apart, pair_here)
+      search (arith, rules, first, none_between, pair_else, still_offers, pair_apart, length-replicate, get_or-set_same)
 
   -- the two orders are all
   pub pair_renewed : (outputs inputs : List (List ℕ)) (row column : List ℕ) (list : Waiting) →
