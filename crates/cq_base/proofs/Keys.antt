@@ -1,10 +1,6 @@
 -- The order of keys is a strict total order. Their comparison is total (`keys_total`). Where it says equal, all four
 -- parts are equal, so the keys are the same. The laws then read this comparison through "is less", by its three cases.
-use Rattle.cq_base.proofs.Terms.{rules, arith, ◌≡◌, true, false, ap, common_steps, Ordering, Less, Equal, is_lt, tied_itself, exact_pairs, exact_unsigned, Key, key_cmp, keys_total, is_before, KeyLaws}
-
--- keys that compare alike are one
-exact_keys : (a b : Key) → key_cmp a b ≡ Equal → a ≡ b
-exact_keys a b h = grind (arith, common_steps, exact_pairs, exact_unsigned)
+use Rattle.cq_base.proofs.Terms.{rules, arith, ◌≡◌, true, false, ap, common_steps, Ordering, Less, is_lt, tied_itself, exact_pairs, exact_unsigned, Key, key_cmp, keys_total, is_before, KeyLaws}
 
 -- what is less compares as less
 less_from : (o : Ordering) → is_lt o ≡ true → o ≡ Less
@@ -20,7 +16,7 @@ one_way a b h = search (arith, rules, less_from)
 
 alike : (a b : Key) → is_before a b ≡ false → is_before b a ≡ false → a ≡ b
 unfolding is_before
-alike a b h k = grind (arith, common_steps, exact_keys)
+alike a b h k = grind (arith, common_steps, exact_pairs, exact_unsigned)
 
 pub key_laws : KeyLaws
 key_laws = search (arith, rules, on, one_way, alike, tied_itself)

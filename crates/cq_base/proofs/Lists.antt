@@ -42,9 +42,6 @@ pub first_later : {X : Type 0} (p : X → Bool) (x : X) (xs : List X) → p x �
     position_or_len p (x ∷ xs) ≡ 1 + position_or_len p xs
 first_later p x xs e = ap (λ b. cond (not b) (1 + position_or_len p xs) 0) e
 
-first_step : {X : Type 0} (p : X → Bool) (x : X) (xs : List X) → position_or_len p (x ∷ xs) ≤ 1 + position_or_len p xs
-first_step p x xs = grind (arith, common_steps, cond_both)
-
 pub first_inside : {X : Type 0} (p : X → Bool) (xs : List X) → position_or_len p xs ≤ length xs
 first_inside p xs = prefix_len-le-length _ xs
 
@@ -52,7 +49,7 @@ first_inside p xs = prefix_len-le-length _ xs
 pub first_le : {X : Type 0} (p : X → Bool) (xs : List X) (t : ℕ) (c : X) → slice_get xs t ≡ Some c → p c ≡ true →
     position_or_len p xs ≤ t
 first_le p [] t c h e = cc
-first_le p (x ∷ xs) t c h e = grind (arith, common_steps, first_here, first_step, first_le p xs)
+first_le p (x ∷ xs) t c h e = search (arith, rules, first_here, first_le p xs, cond_both)
 
 -- the place that a search found, or the length
 pub place_found : {X : Type 0} (p : X → Bool) (xs : List X) (o : Option ℕ) (n : ℕ) → o ≡ position p xs →

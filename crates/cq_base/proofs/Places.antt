@@ -34,10 +34,6 @@ own_read input cells found o are read is = search (arith, rules, own_at, unwrap_
 
 -- ## One place
 
-own_of : (o : Option Cell) (cell : Cell) (input : ℕ) → o ≡ Some cell → IfSome o (λ c. c.id.input ≡ input) →
-    cell.id.input ≡ input
-own_of o cell input is own = grind (arith, common_steps)
-
 -- what is put to an input is its own, and the other places keep theirs
 pub put_are : (cells : List (Option Cell)) (input : ℕ) (o : Option Cell) → AreArrivals cells → input < 64 →
     IfSome o (λ cell. cell.id.input ≡ input) → AreArrivals (set cells input o)
@@ -47,4 +43,4 @@ put_are cells input o are place own =
     let had = λ (i : ℕ). unwrap_or-slice_get cells i none in
     let same = get_or-set_same cells input o none in
     let other = λ (i : ℕ). get_or-set_other cells input i o none in
-    search (arith, rules, length-set, cases_eq, read, had, same, other, are.own_input, own_of)
+    search (arith, rules, length-set, cases_eq, read, had, same, other, are.own_input)

@@ -34,16 +34,12 @@ module _ {A B : Type 0} (R : A → B → Type 0) where
     pub has : Has pool one
     pub own : R x one
 
-  still : (pool : List B) (x : A) (b : B) (w : Without pool b) → R x b → (xs : List A) →
-      AllByRecursion (AreApart x) xs → AllByRecursion (Stands pool) xs → AllByRecursion (Stands w.left) xs
-  still pool x b w own xs apart all = search (arith, rules, all_from_has, all_of_has)
-
   pub no_more : (xs : List A) (pool : List B) → EachPair AreApart xs → AllByRecursion (Stands pool) xs →
       length xs ≤ length pool
   no_more [] pool pairs all = omega arith
   no_more (x ∷ xs) pool pairs all =
       let w = without pool all.0.one all.0.has in
-      search (arith, rules, no_more xs w.left, still)
+      search (arith, rules, no_more xs w.left, all_from_has, all_of_has)
 
 -- ## Pairs
 
