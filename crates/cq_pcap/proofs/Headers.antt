@@ -1,5 +1,5 @@
 -- The first bytes of a file tell its form, or the first fault of its header: the tests compare what the rule compares.
-use Rattle.cq_pcap.proofs.Terms.{rules, ◌≡◌, ℕ, ◌%◌, ◌^◌, ◌≤◌, Bool, false, List, ◌++◌, length, refl, subst, arith, length-append, common_steps, Option, None, Some, Result, Ok, Err, Decides, Decides-and, Decides-eqb, Decides-like, nat_tests, take-append-le, bytes_eq-Decides, Form, form_at, number_at, PcapRefusal, IsFaulty, has_link_type, has_version, header_form, offset_of, HasMagic, HasVersion, HasLinkType, IsHeader}
+use Rattle.cq_pcap.proofs.Terms.{rules, ◌≡◌, ℕ, ◌%◌, ◌^◌, ◌≤◌, List, ◌++◌, length, refl, subst, arith, length-append, common_steps, Option, None, Some, Result, Ok, Err, Decides, Decides-and, Decides-eqb, Decides-like, nat_tests, take-append-le, bytes_eq-Decides, Form, form_at, number_at, PcapRefusal, IsFaulty, has_link_type, has_version, header_form, offset_of, HasMagic, HasVersion, HasLinkType, IsHeader}
 use Rattle.cq_pcap.proofs.Numbers.{number_at-append}
 
 -- a form is found by its magic
@@ -17,10 +17,6 @@ version-Decides form bytes = grind (arith, common_steps, Decides-like, Decides-a
 
 link-Decides : (form : Form) (bytes : List ℕ) → Decides (has_link_type form bytes) (HasLinkType form bytes)
 link-Decides form bytes = Decides-eqb (number_at form.big 4 bytes 20 % 2 ^ 16) 1
-
--- a test of what is not so
-is_false : {P : Type 0} (b : Bool) → Decides b P → ¬ P → b ≡ false
-is_false b d h = grind (arith, common_steps)
 
 -- what an answer says of the header
 abbrev pub Says : List ℕ → Result Form PcapRefusal → Type 0
@@ -55,4 +51,4 @@ no_form bytes (Some form) e h = absurd (h form (found_magic form bytes e))
 pub header_faulty : (bytes : List ℕ) (fault : PcapRefusal) → offset_of fault ≡ None → IsFaulty bytes fault →
     header_form bytes ≡ Err fault
 unfolding header_form
-header_faulty bytes fault o h = search (rules, nat_tests, form_found, is_false, version-Decides, link-Decides, no_form)
+header_faulty bytes fault o h = search (arith, rules, nat_tests, form_found, version-Decides, link-Decides, no_form)

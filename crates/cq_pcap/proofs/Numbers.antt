@@ -14,15 +14,12 @@ pub number_in-reads_back : (big : Bool) (x : ℕ) (rest : List ℕ) → x < 2 ^ 
     number_in big 4 (bytes_in big 4 x ++ rest) ≡ x
 number_in-reads_back big x rest h = grind (arith, common_steps, little_number-reads_back, big_number-reads_back)
 
-number_in-append : (big : Bool) (n : ℕ) (xs ys : List ℕ) → n ≤ length xs →
-    number_in big n (xs ++ ys) ≡ number_in big n xs
-number_in-append big n xs ys h = grind (arith, common_steps, little_from-append, big_from-append)
-
 -- what stands in front does not depend on what follows
 pub number_at-append : (big : Bool) (n : ℕ) (xs ys : List ℕ) (at : ℕ) → at + n ≤ length xs →
     number_at big n (xs ++ ys) at ≡ number_at big n xs at
 unfolding number_at
-number_at-append big n xs ys at h = grind (arith, common_steps, length-drop, drop-append-le, number_in-append)
+number_at-append big n xs ys at h =
+    grind (arith, common_steps, length-drop, drop-append-le, little_from-append, big_from-append)
 
 -- a number after a place is one of the bytes from that place on
 pub number_at-drop : (big : Bool) (n : ℕ) (xs : List ℕ) (place at : ℕ) →

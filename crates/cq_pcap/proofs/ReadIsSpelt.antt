@@ -48,16 +48,13 @@ module _ (form : Form) (bytes : List ℕ) (at : ℕ) (packets : List Captured) (
   spelt_next : xs ≡ spelling form.big next ++ drop (16 + stated form xs) xs
   spelt_next = record_spelt form xs (AreBytes-drop bytes at fits) w
 
-  next_length : length (spelling form.big next) ≡ 16 + stated form xs
-  next_length = grind (arith, common_steps, spelt_next, length-append, stated, length-drop)
-
   front_is : take (at + (16 + stated form xs)) bytes ≡ take at bytes ++ spelling form.big next
   front_is =
       let rest = drop (16 + stated form xs) xs in
       let front = take at bytes ++ spelling form.big next in
       let whole : bytes ≡ front ++ rest = rw append_assoc (cc (take-append-drop at bytes, spelt_next)) in
       let len = length-append (take at bytes) (spelling form.big next) in
-      search (arith, rules, take_at front rest, length-take-le, next_length)
+      search (arith, rules, take_at front rest, length-take-le, spelt_next, length-append, stated, length-drop)
 
   pub spelt_more : SpellsIn form (take (at + (16 + stated form xs)) bytes) (packets ++ front_packet form xs ∷ [])
   spelt_more = record {

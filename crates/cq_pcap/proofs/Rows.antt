@@ -3,9 +3,9 @@
 -- place goes on so: the record read there is spelt by the bytes up to its end. A fault there is the file's, and where
 -- no byte is left the file is a capture.
 use Rattle.std.proofs.Common.{rules}
-use Rattle.cq_pcap.proofs.Terms.{◌≡◌, ℕ, ◌+◌, ◌-◌, ◌<◌, ◌≤◌, ◌^◌, List, [], ◌∷◌, ◌++◌, length, take, drop, ap, sym, arith, add-zero, common_steps, map-append, length-drop, length-take-le, drop-drop, take_all, take_rest, All-push, sum_by-cons, sum_by_push, Ok, Err, Some, None, sum_by, Form, PcapRefusal, Captured, rows_from, file_length, first_packet, header_form, AreRowsOf, AreRowsTo, AreSpelt, IsFaultAt, IsRowOf, offset_of, packet_at, packets_at, all_both}
+use Rattle.cq_pcap.proofs.Terms.{◌≡◌, ℕ, ◌+◌, ◌-◌, ◌<◌, ◌≤◌, ◌^◌, List, [], ◌∷◌, ◌++◌, length, take, drop, ap, sym, arith, add-zero, common_steps, map-append, length-drop, length-take-le, drop-drop, take_all, take_rest, All-push, sum_by-cons, sum_by_push, Ok, Err, Some, None, sum_by, Form, PcapRefusal, Captured, rows_from, file_length, first_packet, header_form, AreRowsOf, AreRowsTo, AreSpelt, IsFaultAt, IsRowOf, packet_at, packets_at, all_both}
 use Rattle.cq_pcap.specs.declared.capture.PacketRow.{PacketRow}
-use Rattle.cq_pcap.proofs.Firsts.{Says, first_says}
+use Rattle.cq_pcap.proofs.Firsts.{first_says}
 use Rattle.cq_pcap.proofs.Headers.{header_is, header_place}
 use Rattle.cq_pcap.proofs.Numbers.{AreBytes, AreBytes-drop}
 use Rattle.cq_pcap.proofs.ReadIsSpelt.{body_length, faulty_at, spelt_more, spelt_none}
@@ -63,16 +63,12 @@ rows_more form bytes rows at row fits small is_row so_far =
     search (arith, rules, inside_is, more, body, length_is form bytes at row r, map-append, spelt)
 
 -- a fault at the place is the file's, whatever refusal names it
-place_of : (form : Form) (at : ℕ) (ys : List ℕ) (fault : PcapRefusal) → Says form at ys (Err fault)
-    → offset_of fault ≡ Some at
-place_of form at ys fault h = grind (arith, common_steps)
-
 pub rows_fault : (form : Form) (bytes : List ℕ) (rows : List PacketRow) (at : ℕ) (refusal : PcapRefusal)
     → at < length bytes → first_packet form at (take (length bytes - at) (drop at bytes)) ≡ Err refusal
     → AreRowsTo form bytes at rows → IsFaultAt bytes (Some at) refusal
 rows_fault form bytes rows at refusal left e so_far =
     let says = first_says form at (drop at bytes) (Err refusal) (rw take_rest at e) in
-    search (rules, faulty_at, place_of)
+    search (arith, rules, faulty_at)
 
 -- and so is a fault of the header
 pub header_fault : (bytes : List ℕ) (refusal : PcapRefusal) → header_form bytes ≡ Err refusal

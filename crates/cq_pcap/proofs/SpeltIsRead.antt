@@ -35,21 +35,7 @@ module _ (form : Form) (r : Record) (rest : List ℕ) (fit : Fits r) where
 abbrev joined : List Captured → Result (List Captured) PcapRefusal → Result (List Captured) PcapRefusal
 joined front left = left >>= (λ ps. Ok (front ++ ps))
 
-joined-cons : (p : Captured) (ps : List Captured) (left : Result (List Captured) PcapRefusal) →
-    (joined ps left >>= (λ qs. Ok (p ∷ qs))) ≡ joined (p ∷ ps) left
-joined-cons p ps left = grind (arith, common_steps)
-
-joined-nil : (left : Result (List Captured) PcapRefusal) → joined [] left ≡ left
-joined-nil left = grind (arith, common_steps)
-
--- a packet at the front comes first
-packet_first : (form : Form) (n place : ℕ) (xs : List ℕ) (p : Captured) → 0 < length xs →
-    first_packet form place xs ≡ Ok p →
-    packets_in form (suc n) place xs
-    ≡ (packets_in form n (place + (16 + length p.body)) (drop (16 + length p.body) xs) >>= (λ ps. Ok (p ∷ ps)))
-packet_first form n place xs p some e = grind (arith, common_steps)
-
--- and so does a fault
+-- a fault at the front comes first
 fault_first : (form : Form) (place : ℕ) (xs : List ℕ) (fault : PcapRefusal) → 0 < length xs →
     first_packet form place xs ≡ Err fault → (m : ℕ) → length xs ≤ m → packets_in form m place xs ≡ Err fault
 fault_first form place xs fault some e m few = grind (arith, common_steps)
@@ -60,11 +46,11 @@ records_read : (form : Form) (n place ends : ℕ) (rs : List Record) (rest : Lis
     AllByRecursion Fits rs → ends ≡ place + length (flat_map (spelling form.big) rs) →
     length (flat_map (spelling form.big) rs ++ rest) ≤ n →
     packets_in form n place (flat_map (spelling form.big) rs ++ rest) ≡ joined (map (captured_of form) rs) left
-records_read form n place ends [] rest left then fits at few = grind (arith, common_steps, then n few, joined-nil left)
+records_read form n place ends [] rest left then fits at few = grind (arith, common_steps, then n few)
 records_read form zero place ends (r ∷ rs) rest left then fits at few = search (rules, length-append, length_is)
 records_read form (suc n) place ends (r ∷ rs) rest left then fits at few =
     let on = records_read form n (place + (16 + length r.body)) ends rs rest left then fits.1 in
-    search (rules, length_is, length-append, packet_first, first_is, append_assoc, after_is, joined-cons, on)
+    search (arith, rules, length_is, length-append, first_is, append_assoc, after_is, on)
 
 -- so is a capture
 capture_read : (form : Form) (front rest : List ℕ) (packets : List Captured) (left : Result (List Captured) PcapRefusal)
