@@ -1,5 +1,5 @@
 -- The names of files, port by port.
-use Rattle.cq_tables.proofs.Terms.{common_steps, ◌≡◌, ℕ, zero, suc, ◌+◌, ◌<◌, ◌≤◌, Bool, true, false, not, ◌||◌, List, [], ◌∷◌, ◌++◌, length, get_or, take, drop, Some, None, Result, IfErr, codes, refl, ap, ◌∙◌, arith, add-one, append_assoc, append-nil, or-false, drop-cons, list_any, list_any-append, bytes_eq, Tables, DuplicateFile, TableRefusal, Ports, Element, Check, Refuses, at, first, otherwise, refused, unless, path, Named, apart_from, clash, file_check, files_of, names_of}
+use Rattle.cq_tables.proofs.Terms.{common_steps, ◌≡◌, ℕ, suc, ◌+◌, ◌<◌, ◌≤◌, Bool, true, false, not, ◌||◌, List, [], ◌∷◌, ◌++◌, length, get_or, take, drop, Some, None, Result, IfErr, codes, refl, ap, ◌∙◌, arith, add-one, append_assoc, append-nil, or-false, drop-cons, list_any, list_any-append, bytes_eq, Tables, DuplicateFile, TableRefusal, Ports, Element, Check, Refuses, at, first, otherwise, refused, unless, path, Named, apart_from, clash, file_check, files_of, names_of}
 use Rattle.cq_route.specs.declared.tables.PortRow.{PortRow}
 use Rattle.cq_tables.specs.Files.{files_before, is_named, read_clashes, write_clashes}
 use Rattle.cq_tables.proofs.Checks.{first-append, here_in, first_none}
@@ -28,8 +28,7 @@ files_drop rows i n d h = rw (drop-cons rows i d)
 files_take : (rows : List PortRow) (i n m : ℕ) (d : PortRow) → m ≡ n + i → i < length rows →
     files_of n (take (suc i) rows) ≡ files_of n (take i rows) ++ names_of m (get_or rows i d)
 files_take [] i n m d e h = absurd (omega arith)
-files_take (row ∷ rows) zero n m d e h = let same : m ≡ n = omega arith in rw (same) (append-nil (names_of n row))
-files_take (row ∷ rows) (suc i) n m d e h = grind (arith, common_steps, append_assoc, files_take rows i (suc n) m d)
+files_take (row ∷ rows) i n m d e h = grind (arith, common_steps, append-nil, append_assoc, files_take rows)
 
 -- the names of the first i ports clash with none before them
 abbrev pub Apart : Tables → ℕ → Type 0

@@ -1,5 +1,5 @@
 -- Checks in order: where one holds, the next ones decide, and where one does not, it is the first.
-use Rattle.cq_tables.proofs.Terms.{rules, arith, ◌≡◌, ℕ, List, [], ◌∷◌, ◌++◌, None, Result, Ok, Err, IfErr, IfOk, refl, ◌∙◌, common_steps, TableRefusal, Data, Members, Place, Element, element_check, Key, table_checks, members, table_type, Check, Refuses, first, otherwise}
+use Rattle.cq_tables.proofs.Terms.{rules, arith, ◌≡◌, ℕ, List, [], ◌∷◌, ◌++◌, None, Result, IfErr, IfOk, refl, ◌∙◌, common_steps, TableRefusal, Data, Members, Place, Element, element_check, Key, table_checks, members, table_type, Check, Refuses, first, otherwise}
 use Rattle.cq_tables.specs.declared.refusal.TableRefusal.TheVariants as refusal
 use Rattle.cq_tables.specs.declared.place.Array.{Array}
 
@@ -14,8 +14,7 @@ first_on c cs e = rw e
 
 -- a check that does not hold
 refuses_first : (c : Check) (d : Check) (r : TableRefusal) → Refuses c r → Refuses (otherwise c d) r
-refuses_first c d refusal.NoMemory h = tt
-refuses_first c d (refusal.At code path) h = rw h
+refuses_first c d r h = grind (arith, common_steps)
 
 pub first_here : (c : Check) (cs : List Check) (r : TableRefusal) → Refuses c r → Refuses (first (c ∷ cs)) r
 unfolding first
@@ -39,13 +38,11 @@ otherwise_later r c d e h = rw e h
 -- where the first holds, both hold if the second does
 pub otherwise_holds : {A : Type 0} (r : Result A TableRefusal) (c d : Check) → c ≡ None → IfOk r (λ _. d ≡ None) →
     IfOk r (λ _. otherwise c d ≡ None)
-otherwise_holds (Ok x) c d e h = rw e h
-otherwise_holds (Err f) c d e h = tt
+otherwise_holds r c d e h = grind (arith, common_steps)
 
 pub here : {A : Type 0} (r : Result A TableRefusal) (c : Check) (cs : List Check) → IfErr r (Refuses c) →
     IfErr r (Refuses (first (c ∷ cs)))
-here (Ok x) c cs h = tt
-here (Err e) c cs h = first_here c cs e h
+here r c cs h = search (rules, first_here)
 
 pub later : {A : Type 0} (r : Result A TableRefusal) (c : Check) (cs : List Check) → c ≡ None →
     IfErr r (Refuses (first cs)) → IfErr r (Refuses (first (c ∷ cs)))
@@ -75,5 +72,4 @@ pub element_holds : {A : Type 0} (r : Result A TableRefusal) (array : Array) (ke
     (d : Data) (place : Place) (table : Members) → table_type d ≡ None → place ≡ Element array i → table ≡ members d
     → IfOk r (λ _. first (table_checks place (keys place) table) ≡ None) →
     IfOk r (λ _. element_check array (λ _. keys) i d ≡ None)
-element_holds (Err e) array keys i d place table type there seen told = tt
-element_holds (Ok x) array keys i d place table type there seen told = rw type (rw (there, seen) at told)
+element_holds r array keys i d place table type there seen told = search (arith, rules)

@@ -1,5 +1,5 @@
 -- The document that a text is, and the verdict on it.
-use Rattle.cq_tables.proofs.Terms.{rules, arith, ◌≡◌, ℕ, nat_le, ◌<◌, ◌≤◌, List, [], ◌∷◌, ◌++◌, Option, Some, None, Result, Ok, Err, IfErr, length, is_some, unwrap_or, subst, ap, ◌∙◌, sym, le-leb, common_steps, IsUtf8, cases_Bool, lt-leb, is_utf8-from_IsUtf8, IsUtf8-from_is_utf8, Members, no_members, Tables, TableRefusal, Refuses, at, first, refused, unless, NotToml, TooLong, Top, table_checks, checks_in, default_checks, document, file_check, top_keys, whole, read_or_refused, IsRefusedFor, tables_of, top_of, verdict}
+use Rattle.cq_tables.proofs.Terms.{rules, arith, ◌≡◌, ℕ, nat_le, ◌<◌, ◌≤◌, List, [], ◌∷◌, ◌++◌, Option, Some, None, Result, Ok, IfErr, length, is_some, unwrap_or, subst, ap, ◌∙◌, sym, le-leb, common_steps, IsUtf8, cases_Bool, lt-leb, is_utf8-from_IsUtf8, IsUtf8-from_is_utf8, Members, no_members, Tables, TableRefusal, Refuses, at, first, refused, unless, NotToml, TooLong, Top, table_checks, checks_in, default_checks, document, file_check, top_keys, whole, read_or_refused, IsRefusedFor, tables_of, top_of, verdict}
 use Rattle.toml.specs.Parse.{parse_document}
 use Rattle.cq_tables.specs.declared.refusal.TableRefusal.TheVariants as refusal
 use Rattle.cq_tables.proofs.Checks.{all_in, first_all, first_here, first_none, first_on, here, here_in, later, later_in}
@@ -30,8 +30,7 @@ fits text small = rw (le-leb (length text) 1048576 small)
 
 refused_in : {A : Type 0} (r : Result A TableRefusal) (text : List ℕ) → IfErr r (Refuses (verdict text)) →
     IfErr r (IsRefusedFor (read_or_refused text))
-refused_in (Ok x) text h = tt
-refused_in (Err e) text h = read_refused text e h
+refused_in r text h = search (rules, read_refused)
 
 pub long_told : (text : List ℕ) (r : TableRefusal) → 1048576 < length text →
     Refuses (Some (refused whole TooLong)) r → IsRefusedFor (read_or_refused text) r

@@ -1,5 +1,5 @@
 -- What values are seen as.
-use Rattle.cq_tables.proofs.Terms.{rules, arith, ◌≡◌, ℕ, ◌<◌, ◌^◌, Bool, true, ◌&&◌, if◌then◌else◌, nat_lt, nat_le, ◌≤◌, IfSome, Option, List, [], ◌∷◌, length, map, Some, None, Result, Ok, Err, refl, ap, common_steps, result_ok, OkIff, and_parts, cases_Bool, lt-ltb, leb-true, ltb-true, IsInRange, all_ascii_digits, is_ascii_digit, list_all, digits_value, ParsesUnsigned, IsNumeralModel, numerals_by_value, tells_all_ascii_digits, parse_digits, Data, as_array, view, items_of, items_view, Value, OutOfRange, unless, listed, array_of, elements, is_from, written, not, option_map, String, Bor, Less, string_bytes, nat_list_cmp_total, find, AllByRecursion, list_any, IsStrictlySortedBy, keys_of, bytes_eq, string_cmp, members_view, Entry, is_among, least_unknown, lesser}
+use Rattle.cq_tables.proofs.Terms.{rules, arith, ◌≡◌, ℕ, Bool, true, ◌&&◌, nat_lt, ◌≤◌, IfSome, Option, List, [], ◌∷◌, length, map, Some, Result, refl, ap, common_steps, result_ok, and_parts, cases_Bool, leb-true, ltb-true, IsInRange, all_ascii_digits, is_ascii_digit, list_all, digits_value, ParsesUnsigned, IsNumeralModel, numerals_by_value, tells_all_ascii_digits, parse_digits, Data, as_array, view, items_of, items_view, Value, OutOfRange, unless, listed, array_of, elements, is_from, written, not, option_map, String, Bor, Less, string_bytes, nat_list_cmp_total, find, AllByRecursion, list_any, IsStrictlySortedBy, keys_of, bytes_eq, string_cmp, members_view, Entry, is_among, least_unknown, lesser}
 use Rattle.std.proofs.Common.{Global}
 
 pub listed_items : (ds : List Data) → listed (items_of ds) ≡ ds
@@ -31,19 +31,12 @@ pub parsed_is_written : {E : Type 0} (text : List ℕ) (r : Result ℕ E) →
 unfolding written
 parsed_is_written {E} text r test parsed =
     let (sized, digits) = and_parts (is_from 1 39 (length text)) (all_ascii_digits text) test in
-    let (least, most) = and_parts (nat_le 1 (length text)) (nat_le (length text) 39) sized in
-    rw (sized, digits) (by_bound r (parse_digits whole 128 text r parsed digits) (leb-true 1 (length text) least))
-  where
-    by_bound : (r : Result ℕ E) →
-        OkIff r ((0 < length text) × (digits_value 10 text < 2 ^ 128)) (digits_value 10 text) → 0 < length text →
-        result_ok r ≡ (if nat_lt (digits_value 10 text) (2 ^ 128) then Some (digits_value 10 text) else None)
-    by_bound (Ok x) h some = rw (lt-ltb (digits_value 10 text) (2 ^ 128) h.0.1) (ap Some h.1)
-    by_bound (Err e) h some = search (arith, rules, cases_Bool, nat_lt, ltb-true)
+    let parsed_is = parse_digits whole 128 text r parsed digits in
+    search (arith, rules, and_parts, leb-true, cases_Bool, nat_lt, ltb-true)
 
 -- a number in a range is at least its least, where there is one
 pub least_of : (least most : ℕ) (n : Option ℕ) → IfSome n (IsInRange least most) → IfSome n (λ n. least ≤ n)
-least_of least most None t = tt
-least_of least most (Some n) range = range.0
+least_of least most n range = search (arith, rules)
 
 -- ## The keys of a table ascend, so the least one that is not known is the first
 

@@ -45,13 +45,11 @@ module _ {A : Type 0} where
     pub walked_more : {after : List A} (v : Value) {x : A} → i < length vs → v ≡ get_or vs i v
         → check i (view v) ≡ None → x ≡ row (members (view v)) → P x → after ≡ rows ++ x ∷ [] →
         Walked check row P vs (i + 1) after
-    walked_more v {x} small is held reads p pushed =
-        let holds = ap (λ (u : Value). check i (view u)) (sym is) ∙ held in
-        rw (pushed, add-one) (record {
-          checked = w.checked ∙ (ap first (each_drop check vs i i v small) ∙ first_on _ _ holds);
-          read = search (arith, rules, rows_more);
-          kept = All-push P rows x w.kept p;
-        })
+    walked_more v {x} small is held reads p pushed = rw (pushed, add-one) (record {
+      checked = grind (arith, common_steps, each_drop check vs i i v small, first_on);
+      read = search (arith, rules, rows_more);
+      kept = All-push P rows x w.kept p;
+    })
 
     pub walked_stop : {B : Type 0} (r : Result B TableRefusal) (v : Value) → i < length vs → v ≡ get_or vs i v
         → IfErr r (Refuses (check i (view v))) → IfErr r (Refuses (first (each check 0 (map view vs))))
@@ -102,8 +100,7 @@ abbrev pub AreKnown : List (List ℕ) → List AddressRow → Type 0
 AreKnown known rows = (q : List ℕ) → has known q ≡ has (map mac rows) q
 
 take_macs : (vs : List Value) (i : ℕ) → map mac (rows_of address_row (take i vs)) ≡ take i (macs_of vs)
-take_macs [] zero = refl
-take_macs [] (suc i) = refl
+take_macs [] i = grind (arith, common_steps)
 take_macs (v ∷ vs) zero = refl
 take_macs (v ∷ vs) (suc i) = ap (λ t. mac_in (members (view v)) ∷ t) (take_macs vs i)
 
