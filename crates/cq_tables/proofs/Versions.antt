@@ -1,20 +1,18 @@
 -- What version 1 accepts as classes version 2 accepts too. A class that version 1 accepts has no key but the priority
 -- and the cost, and so none that version 2 does not know. And since it has no level, its level is the default, which
 -- every class has in version 1. So it is from class to class.
-use Rattle.cq_tables.proofs.Terms.{arith, rules, ◌≡◌, ℕ, suc, Bool, true, false, cond, List, [], ◌∷◌, map, Option, Some, None, refl, ap, codes, option_map, cond-true, Data, Members, no_members, member, get_member, Classes, Place, UnknownKey, Check, at, each, first, otherwise, refused, class_array, class_keys, class_row, class_rows, element_check, elements_at, or_one, check_of, key_check, least_unknown, lesser, no_other, optional, table_checks, array_key, path, array_of, members, wide_from}
+use Rattle.cq_tables.proofs.Terms.{arith, rules, ◌≡◌, ℕ, suc, Bool, true, cond, List, [], ◌∷◌, map, Option, None, refl, ap, codes, option_map, cond-true, Data, Members, no_members, member, get_member, Classes, Place, UnknownKey, Check, at, each, first, otherwise, refused, class_array, class_keys, class_row, class_rows, element_check, elements_at, or_one, check_of, key_check, least_unknown, lesser, no_other, optional, table_checks, array_key, path, array_of, members, wide_from, common_steps}
 use Rattle.cq_tables.specs.declared.version.Version.TheVariants.{One, Two}
 use Rattle.cq_tables.proofs.Checks.{first_all, first_none}
 
 -- ## Checks in a row
 
 both_none : (c d : Check) → otherwise c d ≡ None → (c ≡ None) × (d ≡ None)
-both_none None d h = (refl, h)
-both_none (Some w) d h = absurd (let P : ⊥ = cc in P)
+both_none c d h = grind (arith, common_steps)
 
 -- where both hold, so does the first with another in the place of the second, which follows from it
 then_other : (c d e : Check) → (d ≡ None → e ≡ None) → otherwise c d ≡ None → otherwise c e ≡ None
-then_other None d e on h = on h
-then_other (Some w) d e on h = absurd (let P : ⊥ = cc in P)
+then_other c d e on h = grind (arith, common_steps)
 
 pub first_parts : (c : Check) (cs : List Check) → first (c ∷ cs) ≡ None → (c ≡ None) × (first cs ≡ None)
 unfolding first
@@ -30,8 +28,7 @@ all_keys = codes "priority" ∷ codes "cost" ∷ codes "level" ∷ []
 
 -- where no key is unknown, the first one is known, and none of the others is unknown
 known_first : (b : Bool) (k : List ℕ) (o : Option (List ℕ)) → cond b o (lesser k o) ≡ None → (b ≡ true) × (o ≡ None)
-known_first true k o h = (refl, h)
-known_first false k o h = search (arith, rules)
+known_first b k o h = grind (arith, common_steps)
 
 known_more : (table : Members) → least_unknown first_keys table ≡ None → least_unknown all_keys table ≡ None
 unfolding least_unknown
@@ -47,8 +44,7 @@ no_level (member k d ms) h = search (arith, rules, known_first, no_level ms)
 
 none_unknown : (place : Place) (o : Option (List ℕ)) →
     option_map (λ (name : List ℕ). refused (path place name) UnknownKey) o ≡ None → o ≡ None
-none_unknown place None h = refl
-none_unknown place (Some name) h = absurd (let P : ⊥ = cc in P)
+none_unknown place o h = grind (arith, common_steps)
 
 module _ (place : Place) (table : Members) (holds : first (table_checks place (class_keys One place) table) ≡ None)
   where
