@@ -20,9 +20,7 @@ one_more (b ∷ bs) (suc i) inside = search (rules, append_assoc, one_more bs i)
 -- ## One block
 
 in_front : (xs ys : List Queued) (k : ℕ) (x : Queued) → slice_get xs k ≡ Some x → slice_get (xs ++ ys) k ≡ Some x
-in_front [] ys k x e = absurd (let P : ⊥ = cc in P)
-in_front (y ∷ xs) ys zero x e = e
-in_front (y ∷ xs) ys (suc k) x e = in_front xs ys k x e
+in_front xs ys k x e = grind (arith, common_steps, slice_get_cases)
 
 behind : (xs ys : List Queued) (k n : ℕ) → n ≡ length xs + k → slice_get (xs ++ ys) n ≡ slice_get ys k
 behind xs ys k n e = grind (arith, common_steps, slice_get_cases)

@@ -2,7 +2,8 @@
 -- has a lesser key, all cells before it have one too. The test is thus passed by the first cells and by no others, and
 -- halving finds the point where they end. As many cells pass as stand before the point.
 -- A cell goes in behind the cells of lesser key, and the list stays in the order of keys.
-use Rattle.cq_urgency.proofs.Terms.{common_steps, rules, ◌≡◌, ℕ, zero, suc, ◌+◌, ◌≤◌, Bool, true, false, cond, List, [], ◌∷◌, ◌++◌, length, filter, refl, sym, ap, ◌∙◌, length-append, arith, AllByRecursion, IsPartitionPoint, IsPartitionedBy, cases_eq, cond_both, filter-append, slice_get-get_or, Key, Queued, is_before, IsBefore, IsRising, cushion, key_laws, each_pair_at, insert, HasOtherKey, put, after_other, before_all, all_weaker}
+use Rattle.cq_urgency.proofs.Terms.{common_steps, rules, ◌≡◌, ℕ, zero, suc, ◌+◌, ◌≤◌, Bool, true, false, cond, List, [], ◌∷◌, ◌++◌, length, filter, refl, sym, ap, ◌∙◌, length-append, arith, AllByRecursion, IsPartitionPoint, IsPartitionedBy, cases_eq, cond_both, filter-append, slice_get-get_or, Key, Queued, is_before, IsBefore, IsRising, cushion, key_laws, each_pair_at, insert, HasOtherKey, put, after_other, before_all, all_weaker, filter_none}
+use Rattle.std.proofs.lemmas.List.Elements.{recursion_from_All}
 
 -- the cells of lesser key stand first
 pub lesser_part : (key : Key) (xs : List Queued) → IsRising xs → IsPartitionedBy (λ x. is_before x.key key) xs
@@ -13,9 +14,7 @@ pub passed_at_point : {X : Type 0} (p : X → Bool) (xs : List X) (n : ℕ) → 
     IsPartitionPoint (λ x. p x ≡ true) (λ x. p x ≡ false) xs n → n ≡ length (filter p xs)
 passed_at_point p [] n few point = omega arith
 passed_at_point p (x ∷ xs) zero few point =
-    let rest = passed_at_point p xs zero (omega arith)
-    ((λ k d from to. absurd (omega arith)), (λ k d from to. point.1 (suc k) d (omega arith) (omega arith))) in
-    rest ∙ ap (λ b. length (cond b (x ∷ filter p xs) (filter p xs))) (sym (point.1 zero x (omega arith) (omega arith)))
+    ap length (sym (filter_none p (x ∷ xs) (recursion_from_All _ (x ∷ xs) (λ k d. point.1 k d (omega arith)))))
 passed_at_point p (x ∷ xs) (suc n) few point =
     let rest = passed_at_point p xs n (omega arith) (
       (λ k d from to. point.0 (suc k) d (omega arith) (omega arith)),
@@ -28,20 +27,6 @@ passed_at_point p (x ∷ xs) (suc n) few point =
 pub cushion-append : (key : Key) (xs ys : List Queued) → cushion key (xs ++ ys) ≡ cushion key xs + cushion key ys
 cushion-append key xs ys = grind (arith, common_steps, filter-append, length-append)
 
-pub cushion_le : (key : Key) (xs : List Queued) → cushion key xs ≤ length xs
-cushion_le key [] = omega arith
-cushion_le key (x ∷ xs) = grind (arith, common_steps, cond_both, cushion_le key xs)
-
-pub cushion_all : (key : Key) (xs : List Queued) → AllByRecursion (λ x. is_before x.key key ≡ true) xs →
-    cushion key xs ≡ length xs
-cushion_all key [] a = refl
-cushion_all key (x ∷ xs) a = search (arith, rules, cushion_all key xs a.1)
-
-pub cushion_none : (key : Key) (xs : List Queued) → AllByRecursion (λ x. is_before x.key key ≡ false) xs →
-    cushion key xs ≡ 0
-cushion_none key [] a = refl
-cushion_none key (x ∷ xs) a = search (arith, rules, cushion_none key xs a.1)
-
 -- ## A cell put in
 
 -- a cell goes in behind those of lesser key
@@ -50,4 +35,4 @@ pub put_is : (c : Queued) (xs : List Queued) → IsRising xs → HasOtherKey c x
 put_is c [] r other = refl
 put_is c (x ∷ xs) r other =
     let after = all_weaker (IsBefore c) (λ y. is_before y.key c.key ≡ false) (λ y. key_laws.one_way c.key y.key) in
-    search (arith, rules, cond_both, cushion_none, after (x ∷ xs), before_all, after_other, put_is c xs r.1 other.1)
+    search (arith, rules, cond_both, filter_none, after (x ∷ xs), before_all, after_other, put_is c xs r.1 other.1)

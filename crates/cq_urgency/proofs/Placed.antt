@@ -3,6 +3,8 @@
 -- was free or is new stands nowhere in the order, so that the blocks there stay; and so do the others where the first
 -- one becomes free.
 use Rattle.cq_urgency.proofs.Terms.{common_steps, rules, ◌≡◌, ◌≢◌, ℕ, zero, suc, ◌+◌, ◌<◌, ◌≤◌, Bool, List, [], ◌∷◌, ◌++◌, length, map, get_or, set, take, drop, refl, sym, ap, ◌∙◌, arith, Some, length-set, length-take, length-drop, get_or-set_same, get_or-set_other, get_or-drop, drop-map, ◌==◌, insert, slice_get, sum_by, cases_Bool, cases_eq, cases_lt, ltb-true, lt-ltb, eq-eqb, ne_eqb, cond-true, cond-false, take_more, drop_more, set-set, length_push, length-map, map-set, take-map, get_or-map, get_or_past, get_or_read, length-insert, insert_end, sum_by-cons, sum_by_push, sum_by-insert, get_or-le-sum_by, slice_get_within, get_or_from_slice_get, Queued, BlocksView, block_at, cells_in_all, counts_behind, get_or-insert_below, halved, without_first, in_order, bit, times, has, parted, ArePlaced, ComesIn, map-insert, most_cells}
+use Rattle.std.proofs.lemmas.List.Sums.{sum-map}
+use Rattle.std.proofs.lemmas.List.{drop-set-add, drop-set-lt}
 
 -- ## How often a number stands in a list
 
@@ -12,12 +14,6 @@ bit_le b = search (arith, rules, cases_Bool b)
 bit_same : (m n : ℕ) → m ≡ n → bit (m == n) ≡ 1
 bit_same m n e = ap bit (eq-eqb m n e)
 
-times-cons : (n x : ℕ) (xs : List ℕ) → times n (x ∷ xs) ≡ bit (x == n) + times n xs
-times-cons n x xs = sum_by-cons (λ (other : ℕ). bit (other == n)) x xs
-
-times_push : (n : ℕ) (xs : List ℕ) (x : ℕ) → times n (xs ++ x ∷ []) ≡ times n xs + bit (x == n)
-times_push n xs x = sum_by_push (λ (other : ℕ). bit (other == n)) xs x
-
 times_read : (xs : List ℕ) (i number : ℕ) → i < length xs → number ≡ get_or xs i number → 1 ≤ times number xs
 times_read xs i number inside is = grind (arith, common_steps, get_or-le-sum_by, bit_same)
 
@@ -26,7 +22,7 @@ has_inside pool n some = grind (arith, common_steps, ltb-true, cases_Bool)
 
 -- a number that is not there is not the first one
 differs : (number x : ℕ) (xs : List ℕ) → times number (x ∷ xs) ≤ times number xs → x ≢ number
-differs number x xs none e = let one = bit_same x number e in let step = times-cons number x xs in absurd (omega arith)
+differs number x xs none e = grind (arith, common_steps, bit_same, sum_by-cons)
 
 -- ## Blocks in their order
 
@@ -36,11 +32,7 @@ same_order : (pool pool' : List (List Queued)) (number : ℕ) →
     in_order pool' order ≡ in_order pool order
 same_order pool pool' number others [] none = refl
 same_order pool pool' number others (x ∷ xs) none =
-    grind (arith, common_steps, times-cons, differs, same_order pool pool' number others xs)
-
-set_others : (pool : List (List Queued)) (number : ℕ) (block : List Queued) (n : ℕ) → n ≢ number →
-    block_at (set pool number block) n ≡ block_at pool n
-set_others pool number block n ne = get_or-set_other pool number n block [] ne
+    grind (arith, common_steps, sum_by-cons, differs, same_order pool pool' number others xs)
 
 -- a block changes at its place
 set_order : (pool : List (List Queued)) (block : List Queued) (order : List ℕ) (i number : ℕ) → i < length order →
@@ -48,16 +40,11 @@ set_order : (pool : List (List Queued)) (block : List Queued) (order : List ℕ)
     in_order (set pool number block) order ≡ set (in_order pool order) i block
 set_order pool block [] i number inside is there once = absurd (omega arith)
 set_order pool block (x ∷ xs) zero number inside is there once =
-    grind (arith, common_steps, times-cons, bit_same, get_or-set_same, same_order, set_others)
+    grind (arith, common_steps, sum_by-cons, bit_same, get_or-set_same, same_order, get_or-set_other)
 set_order pool block (x ∷ xs) (suc i) number inside is there once =
-    grind (arith, common_steps, times-cons, times_read, set_others, differs, set_order pool block xs i number)
+    grind (arith, common_steps, sum_by-cons, times_read, get_or-set_other, differs, set_order pool block xs i number)
 
 -- ## Fields that stand for blocks
-
-sum_counts : (blocks : List (List Queued)) →
-    sum_by (λ n. n) (map (λ (b : List Queued). length b) blocks) ≡ cells_in_all blocks
-sum_counts [] = refl
-sum_counts (b ∷ bs) = grind (arith, common_steps, sum_by-cons, sum_counts bs)
 
 -- the fields are in order, and stand for these blocks
 pub record Kept (pool : List (List Queued)) (first : ℕ) (order counts free : List ℕ) (blocks : List (List Queued)) :
@@ -78,15 +65,11 @@ module _ {pool : List (List Queued)} {first : ℕ} {order counts free : List ℕ
   pub as_many_counts : counts ≡ counts_behind blocks
   as_many_counts = w.placed.counted ∙ ap counts_behind w.seen
 
-sum_first : (blocks : List (List Queued)) (k : ℕ) →
-    sum_by (λ n. n) (take k (map (λ (b : List Queued). length b) blocks)) ≡ cells_in_all (take k blocks)
-sum_first blocks k = grind (arith, common_steps, take-map, sum_counts)
-
 -- the cells of the first block and the counts behind it add up to the cells
 pub counts_all : (blocks : List (List Queued)) (counts : List ℕ) → counts ≡ counts_behind blocks → 0 < length blocks →
     length (block_at blocks 0) + sum_by (λ n. n) counts ≡ cells_in_all blocks
 counts_all [] counts is some = absurd (omega arith)
-counts_all (b ∷ bs) counts is some = grind (arith, common_steps, sum_by-cons, sum_counts)
+counts_all (b ∷ bs) counts is some = grind (arith, common_steps, sum_by-cons, sum-map)
 
 -- and so do those ahead of a place
 pub counts_ahead : (blocks : List (List Queued)) (counts : List ℕ) (behind place : ℕ) → counts ≡ counts_behind blocks →
@@ -94,15 +77,14 @@ pub counts_ahead : (blocks : List (List Queued)) (counts : List ℕ) (behind pla
     length (block_at blocks 0) + sum_by (λ n. n) (take behind counts) ≡ cells_in_all (take place blocks)
 counts_ahead [] counts behind place is some next = absurd (omega arith)
 counts_ahead (b ∷ bs) counts behind zero is some next = absurd (omega arith)
-counts_ahead (b ∷ bs) counts behind (suc n) is some next = grind (arith, common_steps, sum_first, sum_by-cons)
+counts_ahead (b ∷ bs) counts behind (suc n) is some next = grind (arith, common_steps, take-map, sum-map, sum_by-cons)
 
 -- where a count is more than nothing, there is a block, of so many cells
 pub count_there : (blocks : List (List Queued)) (counts : List ℕ) (behind within : ℕ) → counts ≡ counts_behind blocks →
     within < get_or counts behind 0 →
     (behind + 1 < length blocks) × (within < length (block_at blocks (behind + 1)))
-count_there [] counts behind within is some = absurd (let none : within < 0 = rw is at some in omega arith)
-count_there (b ∷ bs) counts behind within is some =
-    grind (arith, common_steps, length-map, get_or-map, get_or_past, cases_lt)
+count_there blocks counts behind within is some =
+    grind (arith, common_steps, length-map, get_or-map, get_or_past, cases_lt, length-drop, get_or-drop)
 
 -- the block at a place in the order
 module _ {pool : List (List Queued)} {first : ℕ} {order counts free : List ℕ} {blocks : List (List Queued)}
@@ -132,21 +114,18 @@ module _ {pool : List (List Queued)} {first : ℕ} {order counts free : List ℕ
 pub count_is : (blocks : List (List Queued)) (counts : List ℕ) (i behind : ℕ) {count : ℕ} →
     counts ≡ counts_behind blocks → i ≡ behind + 1 → i < length blocks → count ≡ get_or counts behind count →
     count ≡ length (block_at blocks i)
-count_is [] counts i behind is e inside read = absurd (omega arith)
-count_is (b ∷ bs) counts zero behind is e inside read = absurd (omega arith)
-count_is (b ∷ bs) counts (suc n) behind is e inside read = grind (arith, common_steps, get_or-map, length-map)
+count_is blocks counts i behind is e inside read =
+    grind (arith, common_steps, get_or-map, length-map, length-drop, get_or-drop)
 
 -- the counts where a block changes
 pub count_first : (blocks : List (List Queued)) (block : List Queued) (i : ℕ) (counts : List ℕ) →
     counts ≡ counts_behind blocks → i ≡ 0 → counts ≡ counts_behind (set blocks i block)
-count_first [] block i counts is e = grind (arith, common_steps)
-count_first (b ∷ bs) block i counts is e = grind (arith, common_steps)
+count_first blocks block i counts is e = grind (arith, common_steps, drop-set-lt)
 
 pub count_behind : (blocks : List (List Queued)) (block : List Queued) (i behind count : ℕ) (counts : List ℕ) →
     counts ≡ counts_behind blocks → i ≡ behind + 1 → count ≡ length block →
     set counts behind count ≡ counts_behind (set blocks i block)
-count_behind [] block i behind count counts is e long = grind (arith, common_steps)
-count_behind (b ∷ bs) block i behind count counts is e long = grind (arith, common_steps, map-set)
+count_behind blocks block i behind count counts is e long = grind (arith, common_steps, map-set, drop-set-add)
 
 -- ## A block that comes in
 
@@ -154,14 +133,14 @@ count_behind (b ∷ bs) block i behind count counts is e long = grind (arith, co
 pub free_there : (pool : List (List Queued)) (free free' : List ℕ) (number : ℕ) →
     ((n : ℕ) → times n free ≤ has pool n) → free ≡ free' ++ number ∷ [] → number < length pool
 free_there pool free free' number within whole =
-    search (arith, rules, times_push number free' number, bit_same number number refl, has_inside pool number)
+    search (arith, rules, sum_by_push, bit_same number number refl, has_inside pool number)
 
 pub comes_free : (pool : List (List Queued)) (free free' : List ℕ) (block block' : List Queued) (number : ℕ) →
     ((n : ℕ) → times n free ≤ has pool n) → free ≡ free' ++ number ∷ [] → block' ≡ block →
     ComesIn pool free (set pool number block') free' block number
 comes_free pool free free' block block' number within whole e =
     let inside = free_there pool free free' number within whole in
-    grind (arith, common_steps, get_or-set_same, set_others, times_push, length-set, length_push)
+    grind (arith, common_steps, get_or-set_same, get_or-set_other, sum_by_push, length-set, length_push)
 
 module _ {pool : List (List Queued)} {first : ℕ} {order counts free : List ℕ} {blocks : List (List Queued)}
     (w : Kept pool first order counts free blocks) {pool' : List (List Queued)} {free' : List ℕ} {block : List Queued}
@@ -190,17 +169,14 @@ pub split : {pool : List (List Queued)} {first : ℕ} {order counts free : List 
     Kept pool' first (insert order (i + 1) other) counts' free' (halved blocks i)
 split {pool = pool} {first = first} {order = order} w i {number = number} {other = other} {counts' = counts'} inside is
     q counted =
-    let same = block_same w i inside is in
-    let there = in_order_there w i inside is in
     let fronted = changed w i inside is (take 32 (block_at pool number)) _ refl in
-    search (arith, rules, get_or-insert_below, come fronted q first (i + 1) counts')
+    search (arith, rules, get_or-insert_below, block_same w i, in_order_there w i, come fronted q first (i + 1) counts')
 
 -- the counts where a block is split
 pub count_halved : (blocks : List (List Queued)) (counts : List ℕ) (i : ℕ) → counts ≡ counts_behind blocks →
     length (block_at blocks i) ≡ most_cells → i ≡ 0 → 32 ∷ counts ≡ counts_behind (halved blocks i)
 count_halved [] counts i is full e = absurd (omega arith)
-count_halved (b ∷ bs) counts zero is full e = cc (length-drop 32 b)
-count_halved (b ∷ bs) counts (suc n) is full e = absurd (omega arith)
+count_halved (b ∷ bs) counts i is full e = rw e (cc (length-drop 32 b))
 
 pub count_halved_behind : (blocks : List (List Queued)) (counts : List ℕ) (i behind : ℕ) →
     counts ≡ counts_behind blocks → length (block_at blocks i) ≡ most_cells → i ≡ behind + 1 →
@@ -234,7 +210,7 @@ module _ (pool pool' : List (List Queued)) (free free' : List ℕ) (block : List
   pub comes_parted : (now : List (List Queued)) → now ≡ parted pool' number other →
       ComesIn (set pool number (take 32 (block_at pool number))) free now free' (drop 32 (block_at pool number)) other
   comes_parted now e = rw (e, came_others) (search
-      (arith, rules, length-set, set_others, came_apart, get_or-set_same, came_there, cases_eq, had, has_inside))
+      (arith, rules, length-set, get_or-set_other, came_apart, get_or-set_same, came_there, cases_eq, had, has_inside))
 
 -- where so many cells of the upper half of one block are in the other
 module _ (pool pool' : List (List Queued)) (from to place : ℕ) (inside : from < length pool) (there : to < length pool)
@@ -264,8 +240,7 @@ module _ (pool pool' : List (List Queued)) (from to place : ℕ) (inside : from 
 
 pub upper_first : (block : List Queued) (x : Queued) → slice_get block 32 ≡ Some x →
     x ∷ [] ≡ take 1 (drop 32 block)
-upper_first block x at = sym (ap (take 1) (drop_more block 32 x (slice_get_within block 32 x at)
-    ∙ ap (λ y. y ∷ drop 33 block) (get_or_from_slice_get block 32 x x at)))
+upper_first block x at = search (arith, rules, drop_more block 32 x, slice_get_within, get_or_from_slice_get)
 
 -- ## The first block becomes free
 
@@ -274,7 +249,7 @@ pub freed : (pool : List (List Queued)) (first first' : ℕ) (order counts free 
     Kept pool first' (drop 1 order) (drop 1 counts) (free ++ first ∷ []) (drop 1 blocks)
 freed pool first first' [] counts free blocks w some led = absurd (let many = as_many w in omega arith)
 freed pool first first' (x ∷ xs) counts free blocks w some led =
-    let p = w.placed in search (arith, rules, times-cons, times_push, length_push, drop-map)
+    grind (arith, common_steps, sum_by-cons, sum_by_push, length_push, drop-map)
 
 -- ## The first cell taken out
 

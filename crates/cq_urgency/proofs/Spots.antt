@@ -5,9 +5,9 @@
 --
 -- A full block that is split keeps each place: in its front half, or in its back half behind 32 cells more.
 use Rattle.cq_urgency.specs.declared.blocks.Spot.{Spot}
-use Rattle.cq_urgency.proofs.Terms.{cases_lt, rules, ◌≡◌, ℕ, zero, suc, ◌+◌, ◌<◌, ◌≤◌, true, false, List, [], ◌∷◌, ◌++◌, length, take, Some, length-append, length-set, length-take, length-drop, get_or-set_same, arith, sym, subst, common_steps, slice_get, AllByRecursion, cases_Bool, take-append-le, take-take, take-set, length-insert, get_or-insert_below, get_or-insert_at, sum_by_more, Key, Queued, is_before, IsBefore, IsRising, cushion, key_laws, all_at, flattened, block_at, halved, AreFilled, AreBegun, IsSpot, starts_before, all_weaker, all_front, all_back, most_cells, drop, ap}
+use Rattle.cq_urgency.proofs.Terms.{cases_lt, rules, ◌≡◌, ℕ, zero, suc, ◌+◌, ◌<◌, ◌≤◌, true, false, List, [], ◌∷◌, ◌++◌, length, take, Some, length-append, length-set, length-take, length-drop, get_or-set_same, arith, sym, subst, common_steps, slice_get, AllByRecursion, cases_Bool, take-append-le, take-take, take-set, length-insert, get_or-insert_below, get_or-insert_at, sum_by_more, Key, Queued, is_before, IsBefore, IsRising, cushion, key_laws, all_at, flattened, block_at, halved, AreFilled, AreBegun, IsSpot, starts_before, all_weaker, all_front, all_back, most_cells, drop, ap, few_kept, filter_all, filter_none, refl}
 use Rattle.cq_urgency.proofs.Flattened.{length-flattened}
-use Rattle.cq_urgency.proofs.Halving.{cushion_all, cushion_none, cushion_le, cushion-append}
+use Rattle.cq_urgency.proofs.Halving.{cushion-append}
 
 -- ## What holds of joined lists
 
@@ -26,8 +26,7 @@ rising_block (b ∷ bs) (suc i) r = rising_block bs i (rising_parts b (flattened
 lesser_ahead : (key : Key) (blocks : List (List Queued)) (i : ℕ) → starts_before key (block_at blocks i) ≡ true →
     (x : Queued) → AllByRecursion (IsBefore x) (flattened blocks) → is_before x.key key ≡ true
 lesser_ahead key [] i e x a = cc
-lesser_ahead key ([] ∷ bs) zero e x a = cc
-lesser_ahead key ((y ∷ ys) ∷ bs) zero e x a = key_laws.on x.key y.key key a.0 e
+lesser_ahead key (b ∷ bs) zero e x a = grind (arith, common_steps, key_laws.on)
 lesser_ahead key (b ∷ bs) (suc i) e x a = lesser_ahead key bs i e x (all_back (IsBefore x) b (flattened bs) a)
 
 -- no block is empty
@@ -41,13 +40,11 @@ filled_some (b ∷ bs) f = (f.0, all_weaker (λ c. 32 ≤ length c) (λ c. 0 < l
 none_lesser : (key : Key) (x : Queued) (xs : List Queued) → is_before x.key key ≡ false →
     AllByRecursion (IsBefore x) xs → cushion key (x ∷ xs) ≡ 0
 none_lesser key x xs first after =
-    let weaker : (y : Queued) → IsBefore x y → is_before y.key key ≡ false =
-    λ y before. grind (arith, common_steps, cases_Bool (is_before y.key key), key_laws.on x.key y.key key before) in
-    cushion_none key (x ∷ xs) (first, all_weaker _ _ weaker xs after)
+    ap length (filter_none (λ y. is_before y.key key) (x ∷ xs) (search (rules, all_weaker, cases_Bool, key_laws.on)))
 
 none_behind : (key : Key) (blocks : List (List Queued)) → IsRising (flattened blocks) → AreSome blocks →
     (0 < length blocks → starts_before key (block_at blocks 0) ≡ false) → cushion key (flattened blocks) ≡ 0
-none_behind key [] r some first = cushion_none key [] tt
+none_behind key [] r some first = refl
 none_behind key ([] ∷ bs) r some first = absurd (omega arith)
 none_behind key ((x ∷ xs) ∷ bs) r some first = none_lesser key x (xs ++ flattened bs) (first (omega arith)) r.0
 
@@ -61,8 +58,7 @@ cushion_in key (b ∷ bs) zero r some inside e behind =
     let rest = none_behind key bs (rising_parts b (flattened bs) r).1 some.1 (λ l. behind (omega arith)) in omega arith
 cushion_in key (b ∷ bs) (suc i) r some inside e behind =
     let parts = rising_parts b (flattened bs) r in
-    let both = cushion-append key b (flattened bs) in
-    search (arith, rules, length-append, cushion_all, all_weaker, lesser_ahead, cushion_in key bs i)
+    search (arith, rules, length-append, filter_all, all_weaker, lesser_ahead, cushion_in key bs i, cushion-append)
 
 pub some_at : (blocks : List (List Queued)) (i : ℕ) (block : List Queued) → AreFilled blocks → i < length blocks →
     block ≡ block_at blocks i → 0 < length block
@@ -76,12 +72,11 @@ all_lesser : (key : Key) (xs : List Queued) (k : ℕ) (x : Queued) → IsRising 
 all_lesser key [] k x r at end e = tt
 all_lesser key (y ∷ ys) zero x r at end e = grind (arith, common_steps)
 all_lesser key (y ∷ ys) (suc k) x r at end e =
-    grind (arith, common_steps, all_at (IsBefore y) ys k x r.0 at, key_laws.on, all_lesser key ys k x r.1 at)
+    grind (arith, common_steps, all_at, key_laws.on, all_lesser key ys k x r.1)
 
 starts_lesser : (key : Key) (xs : List Queued) → 0 < length xs →
     AllByRecursion (λ y. is_before y.key key ≡ true) xs → starts_before key xs ≡ true
-starts_lesser key [] some a = absurd (omega arith)
-starts_lesser key (x ∷ xs) some a = a.0
+starts_lesser key xs some a = grind (arith, common_steps)
 
 -- ## The spot of a key
 
@@ -92,16 +87,16 @@ module _ (key : Key) (blocks : List (List Queued)) (r : IsRising (flattened bloc
 
   pub spot_in : (place block within : ℕ) → AreBegun key blocks place → block + 1 ≡ place →
       within ≡ cushion key (block_at blocks block) → IsSpot blocks (cushion key (flattened blocks)) block within
-  spot_in place block within begun next is = search (rules, cushion_le, cushion_in, filled_some, length-flattened)
+  spot_in place block within begun next is = search (rules, few_kept, cushion_in, filled_some, length-flattened)
 
   -- behind the last cell of all
   pub spot_end : (last within place : ℕ) (block : List Queued) (x : Queued) → last + 1 ≡ length blocks →
       block ≡ block_at blocks last → within ≡ length block → place + 1 ≡ within → slice_get block place ≡ Some x →
       is_before x.key key ≡ true → IsSpot blocks (cushion key (flattened blocks)) last within
   spot_end last within place block x end is long whole at e =
-      let lesser = all_lesser key block place x (subst IsRising (sym is) (rising_block blocks last r)) at
-      (let all : place + 1 ≡ length block = omega arith in all) e in
-      search (arith, rules, starts_lesser, cushion_all, cushion_in, filled_some, length-flattened)
+      let lesser = all_lesser key block place x (subst IsRising (sym is) (rising_block blocks last r)) at (cc) e in
+      let all = ap length (filter_all (λ y. is_before y.key key) block lesser) in
+      search (arith, rules, starts_lesser, all, cushion_in, filled_some, length-flattened)
 
 -- ## The spot where a block was split
 

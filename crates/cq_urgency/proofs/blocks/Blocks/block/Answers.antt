@@ -1,4 +1,4 @@
-use Rattle.cq_urgency.proofs.Terms.{arith}
+use Rattle.cq_urgency.proofs.Terms.{arith, rules}
 use Rattle.cq_urgency.proofs.Placed.{kept, in_pool, read_is}
 use Rattle.cq_urgency.proofs.blocks.Blocks.block.Goals as goal
 
@@ -8,5 +8,4 @@ index-requires c =
     omega arith
 
 pub returns : goal.returns
-returns c =
-    read_is (kept c.self.invariant.0 c.self.view_is) c.args.place c.requires c.number_at.ensures c.index.ensures
+returns c = search (arith, rules, read_is, kept c.self.invariant.0 c.self.view_is)
