@@ -10,17 +10,16 @@ without_length j [] = inl refl
 without_length j (x ∷ xs) = grind (arith, common_steps, cond_both, without_length j xs)
 
 taken_length : (p : Option ℕ) (xs : List Queued) → IsSameOrNext (length (list_taken p xs)) (length xs)
-taken_length None xs = inl refl
-taken_length (Some j) xs = without_length j xs
+taken_length p xs = grind (arith, common_steps, without_length)
 
 -- an output has a partner or has none
 pub partner_or_free : (m : Partners) (j : ℕ) → ((i : ℕ) × (partner_of m i ≡ Some j)) ⊎ IsFreeOutput m j
-partner_or_free [] j = inr (λ i e. let P : ⊥ = cc in P)
+partner_or_free [] j = inr (λ i e. cc)
 partner_or_free (p ∷ m) j = ⊎_elim (λ r. inl (suc r.0, r.1))
     (λ free. ⊎_elim (λ e. inl (zero, e)) (λ ne. inr (at_none p ne free)) (first p)) (partner_or_free m j)
   where
     first : (q : Option ℕ) → (q ≡ Some j) ⊎ (q ≡ Some j → ⊥)
-    first None = inr (λ e. let P : ⊥ = cc in P)
+    first None = inr (λ e. cc)
     first (Some k) = grind (arith, common_steps, cases_eq k j)
 
     at_none : (q : Option ℕ) → (q ≡ Some j → ⊥) → IsFreeOutput m j → IsFreeOutput (q ∷ m) j
@@ -32,10 +31,8 @@ pub moves_one_each : (m : Partners) (lists buffers lists' buffers' : List (List 
 moves_one_each m lists buffers lists' buffers' have moves =
     record {
       leaves = search (arith, rules, moves.taken, taken_length);
-      comes = λ j. ⊎_elim (λ r.
-          let cell = have r.0 j r.1 in
-          inr (ap length (moves.given r.0 j cell.0 r.1 cell.1) ∙ length_put cell.0 (list_of buffers j)))
-          (λ free. inl (ap length (moves.kept j free))) (partner_or_free m j);
+      comes = λ j. ⊎_elim (λ r. let c = have r.0 j r.1 in search (arith, rules, moves.given r.0 j c.0, length_put))
+          (λ free. search (rules, moves.kept)) (partner_or_free m j);
     }
 
 -- ## Transfers
@@ -43,13 +40,10 @@ moves_one_each m lists buffers lists' buffers' have moves =
 -- what is made of numbers that rise differs by a key that no two of them share
 module _ (f : ℕ → Option Transfer) (key : Transfer → ℕ)
     (apart : (i k : ℕ) (s t : Transfer) → f i ≡ Some s → f k ≡ Some t → key s ≡ key t → i ≡ k) where
-  unlike : (s t : Transfer) (i k : ℕ) → f i ≡ Some s → f k ≡ Some t → i < k → nat_eq (key s) (key t) ≡ false
-  unlike s t i k at_i at_k l = grind (arith, common_steps, eqb-true, cases_Bool)
-
   all_unlike : (s : Transfer) (i a n : ℕ) → f i ≡ Some s → i < a →
       AllByRecursion (λ y. nat_eq (key s) y ≡ false) (map key (filter_map f (range_with_len a n)))
   all_unlike s i a zero at_i l = tt
-  all_unlike s i a (suc n) at_i l = grind (arith, common_steps, all_unlike s i (a + 1) n, unlike s)
+  all_unlike s i a (suc n) at_i l = grind (arith, common_steps, all_unlike s i (a + 1) n, eqb-true, cases_Bool)
 
   all_distinct : (a n : ℕ) → IsDistinct nat_eq (map key (filter_map f (range_with_len a n)))
   unfolding IsDistinct

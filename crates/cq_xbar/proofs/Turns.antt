@@ -83,7 +83,7 @@ module _ {m : Partners} {lists : List Waiting} {buffers : List Buffered} {n : �
 
   pub cell_next : (j : ℕ) (d : Waiting) → HaveCells m (cells_of lists) → partner_of m n ≡ Some j →
       n < length lists → HasCellFor (get_or lists' n d).cells j
-  cell_next j d have p inside = rw (next_list d inside) (cell_there m lists n j have p)
+  cell_next j d have p inside = search (rules, next_list, cells-at, have)
 
   module _ (j : ℕ) (e : Buffered) (pairs : ArePairs m) (p : partner_of m n ≡ Some j)
       (as_many : length buffers ≡ length m) where
@@ -123,10 +123,6 @@ module _ {m : Partners} {lists : List Waiting} {buffers : List Buffered} {n : �
 partner_inside : (m : Partners) (i j : ℕ) → partner_of m i ≡ Some j → i < length m
 partner_inside m i j p = grind (arith, common_steps, get_or_past, cases_lt)
 
-spare_left : (p : Option ℕ) (w : Waiting) → (list_left p w).spare ≡ w.spare + cond (is_some p) 1 0
-spare_left None w = omega arith
-spare_left (Some j) w = refl
-
 outputs_left : (p : Option ℕ) (w : Waiting) → (list_left p w).outputs ≡ w.outputs
 outputs_left None w = refl
 outputs_left (Some j) w = refl
@@ -145,20 +141,15 @@ module _ {m : Partners} {lists : List Waiting} {buffers : List Buffered} {lists'
   pub crossed_room : HaveCells m (cells_of lists) → HaveRoom m buffers → MovesRoom m lists buffers lists' buffers'
   crossed_room have room =
       record {
-        gained = search (arith, rules, list_spare-at, taken_at, spare_left);
+        gained = λ i. grind (arith, common_steps, list_spare-at, taken_at i);
         lost = λ i j p.
             let cell = cell_there m lists i j have p in
-            let some = room i j p in
-            let before = buffer_spare-at buffers j in
-            let after : buffer_spare buffers' j ≡ (buffer_at buffers j).spare - 1 = buffer_spare-at buffers' j
-            ∙ ap (λ (b : Buffered). b.spare) (x.given i j cell.0 (partner_inside m i j p) p cell.1) in
-            omega arith;
+            grind (arith, common_steps, room i j p, buffer_spare-at, x.given i j cell.0 (partner_inside m i j p) p);
         kept = search (arith, rules, buffer_spare-at);
       }
 
   pub crossed_outputs : map (λ w. w.outputs) lists' ≡ map (λ w. w.outputs) lists
   crossed_outputs =
       let out : Waiting → ℕ = λ w. w.outputs in
-      ext_get_or 0 (map out lists') (map out lists) (length-map lists' out ∙ x.sizes.0 ∙ sym (length-map lists out))
-      (λ i l. get_or-map out lists' i no_list ∙ ap out (taken_at i)
-      ∙ outputs_left (partner_of m i) (list_at lists i) ∙ sym (get_or-map out lists i no_list))
+      ext_get_or 0 (map out lists') (map out lists) (search (rules, length-map)) (λ i l.
+      search (rules, get_or-map out lists' i no_list, get_or-map out lists i no_list, taken_at i, outputs_left))
