@@ -1,8 +1,7 @@
 -- A walk along the blocks, from the first on or from the last back. The places ahead of the block behind a block are
 -- those ahead of it and its own; so what is counted grows by a block's numbers, or shrinks by them.
-use Rattle.cq_list.proofs.Terms.{take-append-add, cases_lt, rules, ◌≡◌, ℕ, ◌+◌, ◌-◌, ◌<◌, ◌≤◌, Bool, List, [], ◌∷◌, ◌++◌, length, get_or, take, drop, sym, ap, ◌∙◌, arith, length-append, take-append-drop, common_steps, filter, concat, get_or_read, length-drop, length-take-le, take-append-le, drop_more, take_more, append-nil, filter-append, concat-append, place_of_nth, is_output, count_of, IsSpot, IsAhead}
+use Rattle.cq_list.proofs.Terms.{take-append-add, cases_lt, rules, ◌≡◌, ℕ, ◌+◌, ◌-◌, ◌<◌, ◌≤◌, Bool, List, [], ◌∷◌, ◌++◌, length, get_or, take, drop, sym, ap, ◌∙◌, arith, length-append, take-append-drop, common_steps, filter, concat, get_or_read, length-drop, length-take-le, take-append-le, drop_more, take_more, append-nil, filter-append, concat-append, place_of_nth, is_output, count_of, IsSpot, IsAhead, few_kept}
 use Rattle.std.proofs.lemmas.List.{same_from_push}
-use Rattle.cq_list.proofs.Counts.{count_le}
 use Rattle.cq_list.proofs.Nth.{nth_inside, nth_in_front, nth_behind}
 use Rattle.cq_list.proofs.Blocks.{ahead_more, whole_is}
 
@@ -11,15 +10,13 @@ pub nth_end : {X : Type 0} (p : X → Bool) (k : ℕ) (xs : List X) → k ≡ le
 nth_end p k xs all = grind (arith, common_steps, nth_behind p k xs [], append-nil xs)
 
 pub take_past : (xs ys : List ℕ) (n : ℕ) → length xs ≤ n → take n (xs ++ ys) ≡ xs ++ take (n - length xs) ys
-take_past xs ys n past =
-    let e : n ≡ length xs + (n - length xs) = omega arith in
-    ap (λ m. take m (xs ++ ys)) e ∙ take-append-add xs ys (n - length xs)
+take_past xs ys n past = grind (arith, common_steps, take-append-add xs ys (n - length xs))
 
 -- what stands ahead of a block is no more than all
 pub ahead_fits : {blocks : List (List ℕ)} {j i places own : ℕ} → IsAhead blocks j i places own →
     (places ≤ length (concat blocks)) × (own ≤ length (concat blocks))
 ahead_fits {blocks} {j} {i} ahead =
-    let few = count_le j (concat (take i blocks)) in let whole = whole_is blocks i in (omega arith, omega arith)
+    grind (arith, common_steps, few_kept (is_output j) (concat (take i blocks)), whole_is blocks i)
 
 module _ (blocks : List (List ℕ)) (i : ℕ) {block : List ℕ} (inside : i < length blocks)
     (is_read : block ≡ get_or blocks i block) where
@@ -27,9 +24,8 @@ module _ (blocks : List (List ℕ)) (i : ℕ) {block : List ℕ} (inside : i < l
   block_is = get_or_read blocks i block inside is_read []
 
   parts_are : concat blocks ≡ concat (take i blocks) ++ (block ++ concat (drop (i + 1) blocks))
-  parts_are = rw block_is (ap concat (sym (take-append-drop i blocks))
-      ∙ concat-append (take i blocks) (drop i blocks)
-      ∙ ap (λ l. concat (take i blocks) ++ concat l) (drop_more blocks i [] inside))
+  parts_are = rw block_is
+      (cc (take-append-drop i blocks, concat-append (take i blocks) (drop i blocks), drop_more blocks i [] inside))
 
   pub ahead_next : length (concat (take i blocks)) + length block ≡ length (concat (take (i + 1) blocks))
   ahead_next = let more = ahead_more blocks i inside in let same = ap length block_is in omega arith
@@ -53,8 +49,7 @@ module _ (blocks : List (List ℕ)) (i : ℕ) {block : List ℕ} (inside : i < l
   pub count_within : (j left place : ℕ) → left ≤ length block → length (concat (take i blocks)) + left ≡ place →
       count_of j (concat (take i blocks)) + count_of j (take left block) ≡ count_of j (take place (concat blocks))
   count_within j left place early is =
-      let ahead = take-append-add (concat (take i blocks)) (block ++ concat (drop (i + 1) blocks)) left in
-      grind (arith, common_steps, parts_are, ahead, take-append-le, filter-append, length-append)
+      search (arith, rules, parts_are, take-append-add, take-append-le, filter-append, length-append)
 
   -- the place of number k where the block has it
   module _ {j k places own : ℕ} (ahead : IsAhead blocks j i places own) (late : own ≤ k)
@@ -84,18 +79,14 @@ module _ (blocks : List (List ℕ)) (i : ℕ) {j later some : ℕ} {from to : Li
       to ≡ lent ++ back ∷ [] → IsAhead blocks j i places own →
       AreMet blocks j i front back left lent places own later some
   are_met {front} {back} {left} {lent} first last counted =
-      let next : drop i blocks ≡ front ∷ left = sym ahead ∙ first in
-      let one = ap length next in
-      let many = length-drop i blocks in
-      let inside : i < length blocks = omega arith in
-      let met : get_or blocks i front ∷ drop (i + 1) blocks ≡ front ∷ left =
-      sym (drop_more blocks i front inside) ∙ next in
+      let next : drop i blocks ≡ front ∷ left = cc in
+      let inside : i < length blocks = omega (arith, length-drop i blocks, ap length next) in
+      let met = drop_more blocks i front inside in
       let read : front ≡ get_or blocks i front = cc in
-      let before : length blocks - (i + 1) < length blocks = omega arith in
       let same : length blocks - i ≡ length blocks - (i + 1) + 1 = omega arith in
-      let parts = same_from_push lent (take (length blocks - (i + 1)) blocks) back _ (sym last ∙ behind
-      ∙ ap (λ n. take n blocks) same ∙ take_more blocks (length blocks - (i + 1)) back before) in
-      let off = ahead_off blocks (length blocks - (i + 1)) before parts.1 rest same in
+      let parts = same_from_push lent (take (length blocks - (i + 1)) blocks) back _
+      (cc (take_more blocks (length blocks - (i + 1)) back (omega arith), same)) in
+      let off = ahead_off blocks (length blocks - (i + 1)) (omega arith) parts.1 rest same in
       search (rules, parts, off, ahead_on, read)
 
   -- while there is more of an output ahead of what was passed from the end, neither is at its own

@@ -9,16 +9,12 @@ ahead_more blocks i inside = grind (arith, common_steps, take_more, concat-appen
 
 pub whole_is : (blocks : List (List ℕ)) (i : ℕ) →
     length (concat blocks) ≡ length (concat (take i blocks)) + length (concat (drop i blocks))
-whole_is blocks i =
-    let parts = concat-append (take i blocks) (drop i blocks) in
-    grind (arith, common_steps, parts, take-append-drop i blocks, length-append)
+whole_is blocks i = grind (arith, common_steps, concat-append (take i blocks), take-append-drop i blocks, length-append)
 
 -- ## One block
 
 pub shown_front : (xs ys : List ℕ) (k x : ℕ) → slice_get xs k ≡ Some x → slice_get (xs ++ ys) k ≡ Some x
-shown_front [] ys k x e = absurd (let P : ⊥ = cc in P)
-shown_front (y ∷ xs) ys zero x e = e
-shown_front (y ∷ xs) ys (suc k) x e = shown_front xs ys k x e
+shown_front xs ys k x e = grind (arith, common_steps, slice_get_cases)
 
 pub shown_behind : (xs ys : List ℕ) (k : ℕ) → slice_get (xs ++ ys) (length xs + k) ≡ slice_get ys k
 shown_behind xs ys k = grind (arith, common_steps, slice_get_cases)

@@ -33,8 +33,7 @@ chain_stays old new P stay (suc n) place whole all =
 
 -- a cell that another one comes before is not that one
 pub differs : (a b : Queued) → IsBefore a b → a ≢ b
-differs a b before same = absurd (let never = key_laws.never_itself a.key in
-    let P : ⊥ = cc in P)
+differs a b before same = search (rules, key_laws.never_itself)
 
 -- a node put in behind another one: that one leads to it, and it leads on to where that one led
 pub record IsBehind (old new : Nodes) (a k : ℕ) (ahead : Node) (c : Queued) : Type 0 where
@@ -53,15 +52,11 @@ module _ {old new : Nodes} {a k : ℕ} {ahead : Node} {c : Queued} (b : IsBehind
       (suc p) (k, c)
   chain_behind zero first p whole rising at = cc
   chain_behind (suc n) first zero whole rising at =
-      let node : Node = (begins old n first whole).0 in
-      let seen = chain-at old n first node (begins old n first whole).1 in
+      let seen = chain-at old n first ahead in
       let stays = chain_stays old new (λ x. x ≢ ahead.queued) other_cell n ahead.next in
       search (arith, rules, chain-at, same_Some, seen, stays, rest_whole, all_weaker, differs)
   chain_behind (suc n) first (suc p) whole rising at =
       let node : Node = (begins old n first whole).0 in
-      let there = (begins old n first whole).1 in
-      let seen = chain-at old n first node there in
-      let rise = subst (λ (l : List (ℕ × Queued)). IsRising (cells l)) seen rising in
-      let later = all_at _ (cells (chain old n node.next)) p ahead.queued rise.0 in
-      let seen_now = chain-at new (suc n) first node in
-      search (arith, rules, other_cell, differs, rest_whole, slice_get-map, chain_behind n node.next p)
+      let seen = chain-at old n first node (begins old n first whole).1 in
+      let later = all_at (IsBefore node.queued) (cells (chain old n node.next)) p ahead.queued in
+      search (arith, rules, other_cell, differs, rest_whole, slice_get-map, later, seen, chain-at, chain_behind n node.next p)

@@ -1,6 +1,6 @@
 -- The counts of a block, where a place is put in or taken out: the count of its output changes by one, and the others
 -- stay. A place that is taken out can be put back, so the one follows from the other.
-use Rattle.cq_list.proofs.Terms.{all_at, common_steps, rules, ◌≡◌, ◌≢◌, ℕ, zero, suc, ◌+◌, ◌-◌, ◌<◌, ◌≤◌, List, [], ◌∷◌, ◌++◌, length, replicate, get_or, set, refl, ap, arith, length-set, length-append, get_or-set_same, get_or-set_other, Some, insert, remove, slice_get, slice_get-get_or, AllByRecursion, eq-eqb, ne_eqb, cases_eq, get_or-replicate, length-replicate, length-insert, length-remove, length-filter, count_by-le-length, is_output, count_of, most_ports, most_places, get_or_from_slice_get, take_more, take_all, append_assoc}
+use Rattle.cq_list.proofs.Terms.{all_at, common_steps, rules, ◌≡◌, ◌≢◌, ℕ, zero, suc, ◌+◌, ◌-◌, ◌<◌, ◌≤◌, List, [], ◌∷◌, ◌++◌, length, replicate, get_or, set, refl, ap, arith, length-set, length-append, get_or-set_same, get_or-set_other, Some, insert, remove, slice_get, slice_get-get_or, AllByRecursion, eq-eqb, ne_eqb, cases_eq, get_or-replicate, length-replicate, length-insert, length-remove, is_output, count_of, most_ports, most_places, get_or_from_slice_get, take_more, take_all, append_assoc, few_kept}
 use Rattle.cq_list.specs.Block.{AreCounts}
 use Rattle.cq_list.proofs.Nth.{fails}
 use Rattle.cq_list.proofs.Split.{filter-insert, filter-insert-other, filter-parts}
@@ -9,16 +9,9 @@ count_of-own : (xs : List ℕ) (i y j : ℕ) → y ≡ j → count_of j (insert 
 count_of-own xs i y j own =
     grind (arith, common_steps, filter-insert, eq-eqb y j own, filter-parts (is_output j) xs i, length-append)
 
-count_of-other : (xs : List ℕ) (i y j : ℕ) → y ≢ j → count_of j (insert xs i y) ≡ count_of j xs
-count_of-other xs i y j ne = ap length (filter-insert-other (is_output j) xs i y (ne_eqb y j ne))
-
-pub count_le : (j : ℕ) (xs : List ℕ) → count_of j xs ≤ length xs
-count_le j xs = let same = length-filter (is_output j) xs in let le = count_by-le-length (is_output j) xs in omega arith
-
 pub put_back : (xs : List ℕ) (i y : ℕ) → i < length xs → y ≡ get_or xs i y → insert (remove xs i) i y ≡ xs
 put_back [] i y inside read = absurd (omega arith)
-put_back (x ∷ xs) zero y inside read = ap (λ z. z ∷ xs) read
-put_back (x ∷ xs) (suc i) y inside read = ap (λ l. x ∷ l) (put_back xs i y (omega arith) read)
+put_back (x ∷ xs) i y inside read = grind (arith, common_steps, put_back xs (i - 1) y)
 
 all_remove : (P : ℕ → Type 0) (xs : List ℕ) (i : ℕ) → AllByRecursion P xs → AllByRecursion P (remove xs i)
 all_remove P xs i all = grind (arith, common_steps)
@@ -36,11 +29,11 @@ ruleset set_steps = (get_or-set_same, get_or-set_other, length-insert, length-se
 
 module _ (places counts : List ℕ) (had : AreCounts places counts) where
   pub count_fits : (j : ℕ) → j < most_ports → get_or counts j 0 ≤ most_places
-  count_fits j inside = grind (arith, common_steps, count_le)
+  count_fits j inside = grind (arith, common_steps, few_kept)
 
   pub counts_insert : (i j : ℕ) → i ≤ length places → length places < most_places → j < most_ports →
       AreCounts (insert places i j) (set counts j (get_or counts j 0 + 1))
-  counts_insert i j inside room in_range = grind (arith, common_steps, count_of-own, count_of-other, cases_eq)
+  counts_insert i j inside room in_range = grind (arith, common_steps, count_of-own, filter-insert-other, ne_eqb, cases_eq)
 
   module _ (i j : ℕ) (inside : i < length places) (read : j ≡ get_or places i j) where
     again : insert (remove places i) i j ≡ places
@@ -54,7 +47,7 @@ module _ (places counts : List ℕ) (had : AreCounts places counts) where
 
     pub counts_remove : AreCounts (remove places i) (set counts j (get_or counts j 0 - 1))
     counts_remove = search
-        (rules, set_steps, in_range_at, again, count_of-own, count_of-other, cases_eq, all_remove, length-remove)
+        (rules, set_steps, in_range_at, again, count_of-own, filter-insert-other, ne_eqb, cases_eq, all_remove, length-remove)
 
 -- ## The last place goes over to the front of another block
 

@@ -73,8 +73,7 @@ filled_split (b ∷ bs) (suc i) front back filled inside long longer =
     search (rules, filled_behind, filled_rest, filled_split bs i front back (filled_rest b bs filled))
 
 pub filled_without : (blocks : List (List ℕ)) (i : ℕ) → AreFilled blocks → AreFilled (remove blocks i)
-filled_without [] zero filled = tt
-filled_without [] (suc i) filled = tt
+filled_without [] i filled = grind (arith, common_steps)
 filled_without (b ∷ bs) zero filled = filled_rest b bs filled
 filled_without (b ∷ bs) (suc i) filled =
     grind (arith, common_steps, filled_behind, filled_rest, filled_without bs i (filled_rest b bs filled))

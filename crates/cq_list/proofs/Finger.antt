@@ -9,8 +9,7 @@ use Rattle.std.proofs.lemmas.List.Edits.{get_or-insert_above}
 pub insert_end_kept : {X : Type 0} (xs : List X) (i m : ℕ) (y : X) → i ≤ m → m < length xs →
     slice_get (insert xs i y) (suc m) ≡ slice_get xs m
 insert_end_kept xs i m y le inside =
-    let next : suc m ≡ m + 1 = omega arith in
-    let above = get_or-insert_above xs i y y m in search (arith, rules, slice_get-get_or, length-insert)
+    search (arith, rules, get_or-insert_above xs i y y m, slice_get-get_or, length-insert)
 
 insert_kept : {X : Type 0} (xs : List X) (i m : ℕ) (y : X) → m < i → i ≤ length xs →
     slice_get (insert xs i y) m ≡ slice_get xs m
@@ -47,10 +46,9 @@ module _ (places : List ℕ) (fingers : List Ahead) where
 
     pub fingers_more : (new : List Ahead) → AreFingers places fingers → n ≤ length places →
         AreShifted n 0 1 fingers new → AreFingers (insert places n x) new
-    fingers_more new had inside moved k = ⊎_elim
-        (λ more. rw ((moved k).moves more) (ends_later places (had k) n x more _ (omega arith)))
-        (λ few. rw ((moved k).stays few) (ends_kept places (had k) n x few inside))
-        (cases_lt n (finger_at fingers k).count)
+    fingers_more new had inside moved k =
+        let kept = ends_kept places (had k) n x in
+        search (arith, rules, moved k, ends_later places (had k), kept, cases_lt n (finger_at fingers k).count)
 
   pub fingers_less : (x : ℕ) (new : List Ahead) → AreFingers (x ∷ places) fingers → AreShifted 0 1 0 fingers new →
       AreFingers places new

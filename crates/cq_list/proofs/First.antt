@@ -23,6 +23,4 @@ module _ (b : List ℕ) (bs : List (List ℕ)) (n : ℕ) (long : n ≡ length b)
   insert_later place y past = insert-append_right b (concat bs) n place y (sym long) past
 
   pub remove_later : (place k : ℕ) → n + place ≡ k → remove (b ++ concat bs) k ≡ b ++ remove (concat bs) place
-  remove_later place k at =
-      let same : k - n ≡ place = omega arith in
-      remove-append_right b (concat bs) n k (sym long) (omega arith) ∙ ap (λ m. b ++ remove (concat bs) m) same
+  remove_later place k at = grind (arith, common_steps, remove-append_right b (concat bs) n k)

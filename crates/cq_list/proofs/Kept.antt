@@ -63,14 +63,12 @@ module _ {outputs : ℕ} {places : PlacesView} {pool : PoolView} {w : Waiting}
       new_pool.spare + 1 ≡ pool.spare → StandFor outputs new_places new_pool (with_arrival cushion c w.cells)
   arrived cushion c {place = place} inside other urgent a l p outs queues less fewer =
       let as_seen = ap (λ (v : Waiting). v.outputs) is in
-      let spare = had.spare in
+      let known = had in
       let at : place ≡ place_of_arrival cushion c w.cells =
       grind (arith, common_steps, both_is_nth places.outputs (queue_of pool.queues) w.cells c.cell.output, as_many) in
-      changed c.cell.output (put c) _ _ (let same = had.queues in omega arith)
-      (grind (arith, common_steps, all_insert, keeps_order_arrival, keys_differ_insert))
-      (split_arrived places.outputs (queue_of pool.queues) w.cells cushion c had.split had.waiting.in_order other
-      urgent)
-      (outs ∙ ap (λ n. insert places.outputs n c.cell.output) at) queues (omega arith)
+      let split = split_arrived places.outputs (queue_of pool.queues) w.cells cushion c had.split in
+      let new = changed c.cell.output (put c) in
+      search (arith, rules, new, all_insert, keeps_order_arrival, keys_differ_insert, split)
 
   -- the place of the first cell for an output that passes a test, as it is computed
   pub place_found : (j : ℕ) (q : Queued → Bool) {ahead place : ℕ} → ahead ≡ position_or_len q (queue_of pool.queues j) →
@@ -88,10 +86,9 @@ module _ {outputs : ℕ} {places : PlacesView} {pool : PoolView} {w : Waiting}
       (position_or_len (is_output j) places.outputs) → new_pool.queues ≡ set pool.queues j
       (drop 1 (queue_of pool.queues j)) → new_places.spare ≡ places.spare + 1 → new_pool.spare ≡ pool.spare + 1 →
       StandFor outputs new_places new_pool (without_first j w.cells)
-  left j x head outs queues more larger = changed j (drop 1) _ _ (queue_inside pool.queues j x head)
-      (grind (arith, common_steps, all_left, each_pair_left))
-      (split_left places.outputs (queue_of pool.queues) w.cells j had.split) outs queues
-      (let spare = had.spare in omega arith)
+  left j x head outs queues more larger =
+      let split = split_left places.outputs (queue_of pool.queues) w.cells j had.split in
+      search (arith, rules, changed j (drop 1), queue_inside, all_left, each_pair_left, split, had)
 
   -- ## The first cell for an output
 
@@ -111,8 +108,7 @@ module _ {outputs : ℕ} {places : PlacesView} {pool : PoolView} {w : Waiting}
 
   pub none_told : {first told : List ℕ} (behind : List ℕ) {heads : List (List Queued)} → told ≡ first →
       first ++ behind ≡ places.outputs → heads ≡ pool.queues → HaveTold (told ++ behind) (queue_of heads) [] w.cells
-  none_told behind reads parts heads_are = rw (reads, parts, heads_are)
-      (record { all = ap (λ (v : Waiting). v.cells) is; can = λ j. let many = counted j in omega arith })
+  none_told behind reads parts heads_are = search (arith, rules, counted)
 
   -- ## The cell at a place
 
@@ -121,8 +117,7 @@ module _ {outputs : ℕ} {places : PlacesView} {pool : PoolView} {w : Waiting}
       (x : Queued) × (slice_get (queue_of pool.queues j)
       (count_of j (take i places.outputs)) ≡ Some x) × (slice_get w.cells i ≡ Some x)
   shown i j at =
-      let outputs =
-      ap (λ l. slice_get l i) had.split.outputs ∙ slice_get-map (λ (c : Queued). c.cell.output) w.cells i in
+      let outputs = slice_get-map (λ (c : Queued). c.cell.output) w.cells i in
       ⊎_elim (λ seen.
       let own : j ≡ seen.0.cell.output = let e = seen.2 in cc in
       let queued = cell_at places.outputs (queue_of pool.queues) w.cells i seen.0 had.split seen.2 in

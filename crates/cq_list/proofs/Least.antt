@@ -34,11 +34,8 @@ least_of_all id n (x ∷ xs) all = simp (lt-ltb x.cell.output n all.0, least_of_
 module _ (id : CellId) (n outputs place : ℕ) (xs : List Queued)
     (all : AllByRecursion (λ x. x.cell.output < outputs) xs) (few : n ≤ outputs) (many : outputs ≤ n)
     (is : place ≡ position_or_len (is_below id n) xs) (len : ℕ) (long : len ≡ length xs) where
-  place_is : place ≡ position_or_len (has_id id) xs
-  place_is = grind (arith, common_steps, least_of_all)
-
   pub found_at : place ≢ len → Some place ≡ position (has_id id) xs
-  found_at other = grind (arith, common_steps, place_is, first_inside, lt-ltb)
+  found_at other = grind (arith, common_steps, least_of_all, first_inside, lt-ltb)
 
   pub found_nowhere : place ≡ len → None ≡ position (has_id id) xs
-  found_nowhere end = grind (arith, common_steps, place_is, le-ltb)
+  found_nowhere end = grind (arith, common_steps, least_of_all, le-ltb)

@@ -10,8 +10,7 @@ use Rattle.cq_list.proofs.Put.{put_is, is_later}
 -- the queue of another output stays
 pub linked_stays : (old new : Nodes) (j i : ℕ) (queue : Queue) → OthersStay j old new → i ≢ j → IsLinked old i queue →
     linked new queue ≡ linked old queue
-linked_stays old new j i queue stay ne had = chain_stays old new (λ c. c.cell.output ≡ i)
-    (λ k node at own. stay k node at (λ same. ne (sym own ∙ same))) queue.len queue.first had.chained.whole had.own
+linked_stays old new j i queue stay ne had = search (arith, rules, chain_stays old new (λ c. c.cell.output ≡ i))
 
 pub is_linked_along : (old new : Nodes) (i : ℕ) (queue : Queue) → linked new queue ≡ linked old queue →
     IsLinked old i queue → IsLinked new i queue
@@ -25,9 +24,8 @@ pub chain_first : (old new : Nodes) (j : ℕ) (queue : Queue) (k : ℕ) (c : Que
     ((i : ℕ) (node : Node) → old i ≡ Some node → new i ≡ Some node) → chain new
     (queue.len + 1) k ≡ (k, c) ∷ linked old queue
 chain_first old new j queue k c had added others =
-    let long : queue.len + 1 ≡ suc queue.len = omega arith in
-    ap (λ n. chain new n k) long ∙ chain-at new queue.len k _ added
-    ∙ ap (λ l. (k, c) ∷ l) (search (arith, rules, chain_stays, others))
+    let same : linked new queue ≡ linked old queue = search (arith, rules, chain_stays, others) in
+    search (arith, rules, chain-at, same)
 
 -- behind one: a place that was vacant was no node's, so the nodes that were there stand at other places
 pub still_there : (old new : Slab Node) (k : ℕ) (node : Node) → get old k ≡ None → Updates old new k (Some node) →
@@ -50,8 +48,7 @@ module _ {old : Nodes} {j : ℕ} {queue : Queue} (had : IsLinked old j queue) (c
 
     pub others_stay : OthersStay j old new
     others_stay i node there ne =
-        let shown = cell_ahead had.chained ends some b.here in
-        search (rules, b.others, same_Some, all_at, shown)
+        search (rules, b.others, same_Some, all_at, cell_ahead had.chained ends some b.here)
 
 insert_end_shown : {X : Type 0} (xs : List X) (n : ℕ) (y : X) → length xs ≡ n → slice_get (insert xs n y) n ≡ Some y
 insert_end_shown xs n y len =
@@ -95,31 +92,21 @@ module _ {nodes : Nodes} {j : ℕ} {queue : Queue} {node : Node} (had : IsLinked
   linked_behind =
       let rising = subst IsRising cells_behind had.chained.rising in
       let own = subst (AllByRecursion (λ c. c.cell.output ≡ j)) cells_behind had.own in
-      record {
-        chained = record {
-          whole = search (arith, rules, begins_with);
-          rising = rising.1;
-          last = λ m is. ap (λ l. slice_get (places l) (suc m)) (sym begins_with)
-              ∙ had.chained.last (suc m) (omega arith);
-        };
-        own = own.1;
-      }
+      let last : EndsAt (places (linked nodes (behind_first queue node.next))) (queue.len - 1) queue.last =
+      λ m is. ap (λ l. slice_get (places l) (suc m)) (sym begins_with) ∙ had.chained.last (suc m) (omega arith) in
+      search (arith, rules, begins_with, rising, own, last)
 
 -- taken out
 module _ {old new : Slab Node} {j : ℕ} {queue : Queue} {node : Node} (had : IsLinked (get old) j queue)
     (some : 0 < queue.len) (here : get old queue.first ≡ Some node) (less : Updates old new queue.first None) where
-  others : (i : ℕ) (m : Node) → get old i ≡ Some m → i ≢ queue.first → get new i ≡ Some m
-  others i m there ne = less.others i ne ∙ there
-
   pub rest_stay : OthersStay j (get old) (get new)
-  rest_stay i m there ne = search (rules, cells_behind, others, same_Some)
+  rest_stay i m there ne = search (rules, cells_behind, less.others, same_Some)
 
   rest_stays : linked (get new) (behind_first queue node.next) ≡ linked (get old) (behind_first queue node.next)
   rest_stays =
       let rising = subst IsRising (cells_behind had some here) had.chained.rising in
-      let whole = (linked_behind had some here).chained.whole in
-      chain_stays (get old) (get new) (λ x. x ≢ node.queued) (search (arith, rules, others, same_Some)) (queue.len - 1)
-      node.next whole (search (arith, rules, all_weaker, differs))
+      chain_stays (get old) (get new) (λ x. x ≢ node.queued) (search (arith, rules, less.others, same_Some))
+      (queue.len - 1) node.next (linked_behind had some here).chained.whole (search (arith, rules, all_weaker, differs))
 
   pub links_less : linked (get old) queue
       ≡ (queue.first, node.queued) ∷ linked (get new) (behind_first queue node.next)

@@ -30,8 +30,7 @@ pub no_sooner_is_later :
     position_or_len (is_no_sooner c.key) xs ≡ position_or_len (is_later c.key) xs
 no_sooner_is_later c [] other = refl
 no_sooner_is_later c (x ∷ xs) other =
-    let rest = no_sooner_is_later c xs other.1 in let sooner = cases_Bool (is_before x.key c.key) in
-    grind (arith, common_steps, first_later, first_here, key_laws.one_way, after_other)
+    search (rules, cases_Bool, first_later, first_here, key_laws.one_way, after_other, no_sooner_is_later c xs other.1)
 
 -- where all cells before one of rising cells are more urgent, those ahead of it are
 pub sooner_to : (key : Key) (x : Queued) (xs : List Queued) (m : ℕ) →

@@ -11,16 +11,12 @@ queue_seen nodes queues j = grind (arith, common_steps, get_or-map, get_or_past,
 -- where no cell waits
 pub no_cells : (nodes : Nodes) (queues : List Queue) (n : ℕ) → queues ≡ replicate n no_queue →
     cells_in_queues nodes queues ≡ replicate n []
-no_cells nodes queues n e = ap (cells_in_queues nodes) e ∙ go n
-  where
-    go : (n : ℕ) → cells_in_queues nodes (replicate n no_queue) ≡ replicate n []
-    go zero = refl
-    go (suc n) = ap (λ l. [] ∷ l) (go n)
+no_cells nodes queues zero e = rw e refl
+no_cells nodes queues (suc n) e = rw e (ap (λ l. [] ∷ l) (no_cells nodes (replicate n no_queue) n refl))
 
 -- nor a finger
 pub same_at : {X : Type 0} (n j : ℕ) (x : X) → get_or (replicate n x) j x ≡ x
-same_at (suc n) (suc j) x = same_at n j x
-same_at n j x = refl
+same_at n j x = grind (arith, common_steps)
 
 pub empty_pool : {nodes : Slab Node} {queues : List Queue} {fingers : List (List Ahead)} (n room : ℕ) →
     nodes.slots ≡ [] → room ≤ nodes.capacity → queues ≡ replicate n no_queue → fingers ≡ replicate n [] →
@@ -85,9 +81,8 @@ pub fingers_read : {nodes : Slab Node} {queues : List Queue} {fingers : List (Li
     {own : List Ahead} → IsPool nodes queues fingers room → j < length queues → queue ≡ get_or queues j queue →
     own ≡ get_or fingers j own → AreFingers (places (linked (get nodes) queue)) own
 fingers_read {queues = queues} {fingers} {j = j} {queue} {own} had inside read is =
-    let long = had.even in
-    rw (get_or_read queues j queue inside read no_queue)
-    (rw (get_or_read fingers j own (omega arith) is []) (had.have_fingers j))
+    let long = had.even in let at = get_or_read fingers j own (omega arith) is [] in
+    rw (get_or_read queues j queue inside read no_queue, at) (had.have_fingers j)
 
 -- what stands first in it stands first in what is seen
 pub first_seen : {nodes : Slab Node} {queues : List Queue} {fingers : List (List Ahead)} {room spare : ℕ}
@@ -111,10 +106,7 @@ module _ {old : Slab Node} (new : Slab Node) {j room : ℕ} {queues : List Queue
       slab_len new + read.len ≡ slab_len old + queue.len → slab_len new ≤ room → new.capacity ≡ old.capacity →
       IsPool new (set queues j queue) (set fingers j own) room
   is_pool_changed own are len fits capacity =
-      let linked = are_linked_changed (get old) (get new) j queues queue had.linked r.inside stay changed in
-      let have_fingers = have_fingers_changed (get old) (get new) j queues queue had.linked r.inside stay fingers own
-      had.have_fingers had.even are in
-      grind (arith, common_steps, linked, have_fingers, sum_by-set, length-set)
+      grind (arith, common_steps, are_linked_changed (get old), have_fingers_changed (get old), sum_by-set, length-set)
 
   pub view_changed : (f : List Queued → List Queued) → cells (linked (get new) queue) ≡ f
       (cells (linked (get old) read)) → cells_in_queues (get new) (set queues j queue) ≡ set seen j
@@ -146,6 +138,5 @@ module _ (nodes : Nodes) (queues : List Queue) {seen : List (List Queued)} (j : 
 
     pub cells_told : cells_in_queues nodes (set queues j rest) ≡ set seen j (drop 1 (queue_of seen j))
     cells_told =
-        let now = cells_changed nodes nodes j queues (behind_first queue node.next) had head_read.inside
-        (λ i m there ne. there) in
-        search (arith, rules, now, cells_behind, head_read, has_head)
+        let now = cells_changed nodes nodes j queues (behind_first queue node.next) in
+        grind (arith, common_steps, now, cells_behind, head_read, has_head)

@@ -21,8 +21,7 @@ use Rattle.cq_list.proofs.Nth.{passes, fails, first_of_both, place_of_nth-map}
 pub filter-insert-other : {X : Type 0} (p : X → Bool) (xs : List X) (i : ℕ) (y : X) → p y ≡ false →
     filter p (insert xs i y) ≡ filter p xs
 filter-insert-other p xs i y e =
-    let parts = sym (ap (filter p) (take-append-drop i xs)) ∙ filter-append p (take i xs) (drop i xs) in
-    grind (arith, common_steps, filter-append, fails, parts)
+    grind (arith, common_steps, filter-append, fails, filter-append p (take i xs) (drop i xs), take-append-drop i xs)
 
 pub filter-insert : {X : Type 0} (p : X → Bool) (xs : List X) (i : ℕ) (y : X) → p y ≡ true →
     filter p (insert xs i y) ≡ filter p (take i xs) ++ y ∷ filter p (drop i xs)

@@ -13,5 +13,5 @@ pub use Rattle.cq_list.specs.Fingers.{AreFingers, AreSet, AreShifted, EndsAt, Is
 pub use Rattle.cq_list.specs.Pool.{AreLinked, HaveFingers, IsChained, IsLinked, IsPool, Nodes, OthersStay, PoolView, behind_first, cells, cells_in_queues, chain, followed, linked, no_queue, places, queue_at, queue_of}
 pub use Rattle.cq_list.specs.Split.{CanTell, HaveTold, IsSplit, Queues, count_of, is_output, merged, place_of_nth, without_head}
 pub use Rattle.cq_list.specs.{declared.fingers.Ahead.Ahead, declared.pool.Node.Node, declared.pool.Queue.Queue}
-pub use Rattle.cq_base.proofs.Each.{all_back, all_filter, all_weaker, map-insert, position_or_len-map}
+pub use Rattle.cq_base.proofs.Each.{all_back, all_filter, all_weaker, map-insert, position_or_len-map, few_kept}
 pub use Rattle.cq_base.proofs.Putting.{after_other, all_put, rising_put}

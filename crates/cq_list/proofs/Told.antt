@@ -32,8 +32,7 @@ module _ (j : ℕ) {x : Queued} (queues : List (List Queued)) {new : List (List 
   pub told_next : (places : List ℕ) {told cells all : List Queued} → HaveTold (j ∷ places) (queue_of queues) told all →
       cells ≡ told ++ x ∷ [] → HaveTold places (queue_of new) cells all
   told_next places t more =
-      let rest = merged_same places (queue_of new) (without_head j (queue_of queues)) head_left in
-      search (arith, rules, rest, append_assoc, can_next)
+      search (arith, rules, merged_same, head_left, append_assoc, can_next)
 
 -- ## Block by block
 
@@ -43,5 +42,4 @@ block_first {rest = rest} met same = ap concat met ∙ ap (λ l. l ++ concat res
 
 pub none_left : (left : List (List ℕ)) {queues : Queues} {cells all : List Queued} →
     HaveTold (concat left) queues cells all → length left ≡ 0 → cells ≡ all
-none_left [] {cells = cells} t none = sym (append-nil cells) ∙ t.all
-none_left (x ∷ xs) t none = absurd (omega arith)
+none_left left t none = grind (arith, common_steps, append-nil)

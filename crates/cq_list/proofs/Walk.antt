@@ -27,7 +27,7 @@ module _ {nodes : Nodes} {queue : Queue} {count place : ℕ} (had : IsChained no
     rest_is : drop count (linked nodes queue) ≡ (place, node.queued) ∷ chain nodes (queue.len - (count + 1)) node.next
     rest_is =
         let left : queue.len - count ≡ suc (queue.len - (count + 1)) = omega arith in
-        reached ∙ ap (λ n. chain nodes n place) left ∙ chain-at nodes (queue.len - (count + 1)) place node here
+        search (arith, rules, left, chain-at)
 
     pub reached_next : HasReached nodes queue (count + 1) node.next
     reached_next = sym (drop-drop 1 count (linked nodes queue)) ∙ ap (drop 1) rest_is
@@ -96,8 +96,7 @@ module _ {nodes : Nodes} {queue : Queue} (had : IsChained nodes queue) where
   reached_at (suc n) le =
       let before = reached_at n (omega arith) in
       let there = node_there had before.1 (omega arith) in
-      let next : suc n ≡ n + 1 = omega arith in
-      (there.0.next, rw next (reached_next had before.1 (omega arith) there.1))
+      let next = reached_next had before.1 (omega arith) there.1 in search (arith, rules, next)
 
   module _ {count place : ℕ} (ends : EndsAt (places (linked nodes queue)) count place) (some : 0 < count) where
     inside : count - 1 < queue.len
@@ -105,11 +104,9 @@ module _ {nodes : Nodes} {queue : Queue} (had : IsChained nodes queue) where
 
     last_reached : HasReached nodes queue (count - 1) place
     last_reached =
-        let lt = inside in
-        let found = reached_at (count - 1) (omega arith) in
+        let found = reached_at (count - 1) (let lt = inside in omega arith) in
         let shown = node_shown had found.1 inside (node_there had found.1 inside).1 in
-        let at : slice_get (places (linked nodes queue)) (count - 1) ≡ Some found.0 =
-        grind (arith, common_steps, slice_get-map) in search (arith, rules, same_Some)
+        search (arith, rules, slice_get-map, shown, ends (count - 1), same_Some)
 
     pub finger_there : (node : Node) × (nodes place ≡ Some node)
     finger_there = node_there had last_reached inside

@@ -1,13 +1,12 @@
-use Rattle.cq_list.proofs.Terms.{rules, length-take, arith, take_all}
+use Rattle.cq_list.proofs.Terms.{rules, length-take, arith, take_all, few_kept}
 use Rattle.cq_list.proofs.BlockWalk.{ahead_next, count_next, count_within}
-use Rattle.cq_list.proofs.Counts.{count_le}
 use Rattle.cq_list.proofs.places.count_in.Goals as goal
 
 pub overflow_add-result : goal.overflow_add-result
-overflow_add-result c = search (arith, rules, count_le, length-take)
+overflow_add-result c = search (arith, rules, few_kept, length-take)
 
 pub overflow_add-count : goal.overflow_add-count
-overflow_add-count c = search (arith, rules, count_le)
+overflow_add-count c = search (arith, rules, few_kept)
 
 pub each-preserved : goal.each-preserved
 each-preserved c = search (arith, rules, count_next, ahead_next)

@@ -1,10 +1,9 @@
-use Rattle.cq_list.proofs.Terms.{PlacesView, arith, rules, ap, take, length-take, count_of}
-use Rattle.cq_list.proofs.Counts.{count_le}
+use Rattle.cq_list.proofs.Terms.{PlacesView, arith, rules, ap, take, length-take, count_of, few_kept}
 use Rattle.cq_list.proofs.First.{count_behind}
 use Rattle.cq_list.proofs.places.Places.count_ahead.Goals as goal
 
 pub overflow_add-result : goal.overflow_add-result
-overflow_add-result c = search (arith, rules, count_le, length-take)
+overflow_add-result c = search (arith, rules, few_kept, length-take)
 
 pub returns : goal.returns
 returns c =
