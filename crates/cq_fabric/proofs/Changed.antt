@@ -22,9 +22,8 @@ module _ {X : Type 0} (f : ℕ → X → X) (xs : List X) where
       now ≡ changed_to (map (λ at. f at.0 at.1) (enumerate_from 0 xs)) xs i → i < length xs →
       y ≡ f i (get_or now i d) → set now i y ≡ changed_to (map (λ at. f at.0 at.1) (enumerate_from 0 xs)) xs (i + 1)
   by_place_next now i y d so_far inside is =
-      ap (λ l. set l i y) so_far
-      ∙ next_place (map (λ at. f at.0 at.1) (enumerate_from 0 xs)) xs i y d length-by_place inside
-      (search (arith, rules, at_place, length-by_place, at-by_place))
+      let next = next_place (map (λ at. f at.0 at.1) (enumerate_from 0 xs)) xs i y d length-by_place inside in
+      search (arith, rules, next, at_place, length-by_place, at-by_place)
 
 -- the items before a place are changed, and the others are as they were
 pub record IsChangedTo {X : Type 0} (f : ℕ → X → X) (xs : List X) (n : ℕ) (now : List X) : Type 0 where

@@ -15,14 +15,10 @@ before_place R (c ∷ cells) (suc i) d inside pairs = search (rules, All-from_re
 
 -- ## The end of a list
 
-not_later : (c x : Queued) → (x.cell.output ≡ c.cell.output → IsBefore x c) →
-    (is_for c.cell.output x && is_before c.key x.key) ≡ false
-not_later c x before = search (arith, rules, and_right, and_left, cases_Bool, eqb-true, key_laws.one_way)
-
 none_later : (c : Queued) (xs : List Queued) →
     AllByRecursion (λ x. x.cell.output ≡ c.cell.output → IsBefore x c) xs → place_of_later c xs ≡ length xs
 none_later c [] all = refl
-none_later c (x ∷ xs) all = grind (arith, common_steps, first_later, not_later, none_later c xs all.1)
+none_later c (x ∷ xs) all = grind (arith, common_steps, first_later, eqb-true, key_laws.one_way, none_later c xs all.1)
 
 goes_last : (n : ℕ) (c : Queued) (xs : List Queued) → length xs ≡ n →
     AllByRecursion (λ x. x.cell.output ≡ c.cell.output → IsBefore x c) xs → with_arrival n c xs ≡ xs ++ c ∷ []
@@ -102,5 +98,4 @@ pub one_told : {X : Type 0} (f : X → List Queued) (items : List X) (i : ℕ) (
     (cells : List Queued) → all ≡ take i (map f items) → more ≡ all ++ cells ∷ [] → i < length items →
     x ≡ get_or items i x → cells ≡ f x → more ≡ take (i + 1) (map f items)
 one_told f items i x all more cells so_far is inside read told =
-    let none = [] in
-    search (arith, rules, take_next (map f items) i all more cells none, length-map, get_or-map f items i x none)
+    let nil = [] in search (arith, rules, take_next, length-map, get_or-map f items i x nil)

@@ -1,6 +1,6 @@
 -- How many cells for an output there are. An arrival brings one more, a transfer moves one from the inputs to the
 -- output's buffer, and a departure takes one away. So it is in each slot with stable matchings, whoever found them.
-use Rattle.cq_fabric.proofs.Terms.{rules, ◌≡◌, ℕ, zero, suc, ◌+◌, ◌≤◌, eqb, Bool, List, [], ◌∷◌, length, Option, Some, None, refl, ap, ⊎_elim, arith, common_steps, if◌then◌else◌, is_some, filter, insert, cond_both, length-drop, length-insert, Cell, Queued, arrival_at, place_of_arrival, is_for, first_for, without_first, put, Machine, list_of, HasCellFor, orders_of, output_order, list_taken, Partners, partner_of, IsMatching, IsStable, partner_or_free, length_put, Fabric, input, buffer, cushion_of, list_arrived, Transfers, SlotRecord, FabricSlot, came_cell, rest_of, Admission, Marked, admission, count_for, each_once, LimitedFabricSlot, LimitedRecord, fabric_held, waiting_for, held_for, is_output_order, admitted_at}
+use Rattle.cq_fabric.proofs.Terms.{rules, ◌≡◌, ℕ, zero, suc, ◌+◌, ◌≤◌, eqb, Bool, List, [], ◌∷◌, length, Option, Some, None, refl, ap, ⊎_elim, arith, common_steps, if◌then◌else◌, is_some, filter, insert, cond_both, length-drop, length-insert, Cell, Queued, arrival_at, place_of_arrival, is_for, first_for, without_first, put, Machine, list_of, HasCellFor, orders_of, output_order, list_taken, Partners, partner_of, IsMatching, IsStable, partner_or_free, length_put, Fabric, input, buffer, cushion_of, list_arrived, Transfers, SlotRecord, FabricSlot, came_cell, rest_of, Admission, Marked, admission, count_for, each_once, LimitedFabricSlot, LimitedRecord, fabric_held, waiting_for, held_for, is_output_order, admitted_at, get_or_past}
 use Rattle.std.proofs.Math.ListN.{get_or-map}
 
 abbrev bit : Bool → ℕ
@@ -42,8 +42,7 @@ count_taken j (Some k) xs = count_left j k xs
 sum_comes : (j : ℕ) (new old : List (List Queued)) (cells : List (Option Cell)) → length new ≡ length old →
     ((i : ℕ) → count j (list_of new i) ≤ count j (list_of old i) + comes j (arrival_at cells i)) →
     waiting_for j new ≤ waiting_for j old + count_for j cells
-sum_comes j [] [] cells same each = omega arith
-sum_comes j [] (y ∷ old) cells same each = absurd (omega arith)
+sum_comes j [] old cells same each = omega arith
 sum_comes j (x ∷ new) [] cells same each = absurd (omega arith)
 sum_comes j (x ∷ new) (y ∷ old) [] same each =
     let here = each zero in let rest = sum_comes j new old [] (omega arith) (λ i. each (suc i)) in omega arith
@@ -62,8 +61,7 @@ sum_most j new old same each =
 sum_less : (j : ℕ) (new old : List (List Queued)) (k : ℕ) → length new ≡ length old →
     ((i : ℕ) → count j (list_of new i) ≤ count j (list_of old i)) →
     count j (list_of new k) + 1 ≤ count j (list_of old k) → waiting_for j new + 1 ≤ waiting_for j old
-sum_less j [] [] k same each less = absurd (omega arith)
-sum_less j [] (y ∷ old) k same each less = absurd (omega arith)
+sum_less j [] old k same each less = grind (arith, common_steps, get_or_past)
 sum_less j (x ∷ new) [] k same each less = absurd (omega arith)
 sum_less j (x ∷ new) (y ∷ old) zero same each less =
     let rest = sum_most j new old (omega arith) (λ i. each (suc i)) in omega arith
@@ -75,9 +73,7 @@ sum_less j (x ∷ new) (y ∷ old) (suc k) same each less =
 came_one : (f : Fabric) (j : ℕ) (came : Option Queued) (cell : Option Cell) (xs : List Queued) →
     ((c : Queued) → came ≡ Some c → cell ≡ Some c.cell) → count j (list_arrived f came xs) ≤ count j xs + comes j cell
 came_one f j None cell xs is = omega arith
-came_one f j (Some c) cell xs is =
-    let here = ap (comes j) (is c refl) in
-    let more = count_insert j xs (place_of_arrival (cushion_of f c) c xs) c in omega arith
+came_one f j (Some c) cell xs is = grind (arith, common_steps, count_insert, is c refl)
 
 length_left : (k : ℕ) (xs : List Queued) → length (without_first k xs) ≤ length xs
 length_left k [] = omega arith
@@ -98,10 +94,8 @@ moved m old new matching step j =
     search (arith, rules, step.moves.taken, count_taken) in
     ⊎_elim (λ r.
     let cell = offered m old matching r.0 j r.1 in
-    let given : length (buffer new j) ≡ length (put cell.0 (buffer old j)) =
-    ap length (step.moves.given r.0 j cell.0 r.1 cell.1) in
-    let longer = length_put cell.0 (buffer old j) in
-    search (arith, rules, step.moves.taken, count_without, sum_less))
+    let given = ap length (step.moves.given r.0 j cell.0 r.1 cell.1) in
+    search (arith, rules, length_put cell.0 (buffer old j), given, step.moves.taken, count_without, sum_less))
     (λ free. search (arith, rules, step.moves.kept, sum_most)) (partner_or_free m j)
 
 module _ (ms : List Machine) (slot : ℕ) (cells : List (Option Cell)) (f g : Fabric) (r : SlotRecord)
@@ -118,29 +112,17 @@ module _ (ms : List Machine) (slot : ℕ) (cells : List (Option Cell)) (f g : Fa
 
 -- ## With limits
 
--- what is admitted is no more than what arrives
-admitted_bit : (limits : List (Option ℕ)) (held : List ℕ) (marks : List Bool) (cells : List (Option Cell))
-    (a : Admission) →
-    a ≡ admission limits held marks cells → (i : ℕ) →
-    bit (is_some (arrival_at a.cells i)) ≤ bit (is_some (arrival_at cells i))
-unfolding admission
-admitted_bit limits held marks cells a is i = search (arith, rules, admitted_at)
-
-admitted_count : (limits : List (Option ℕ)) (held : List ℕ) (marks : List Bool) (cells : List (Option Cell))
-    (a : Admission) →
-    a ≡ admission limits held marks cells → (j : ℕ) → count_for j a.cells ≤ count_for j cells
-unfolding admission
-admitted_count limits held marks cells a is j = grind (arith, common_steps, each_once)
-
 module _ (limits : List (Option ℕ)) (ms : List Machine) (slot : ℕ) (cells : List (Option Cell)) (f g : Marked Fabric)
     (r : LimitedRecord) (s : LimitedFabricSlot IsStable limits ms slot cells f r g) where
   pub limited_lists_kept : (i : ℕ) →
       length (input g.state i) ≤ length (input f.state i) + (if is_some (arrival_at cells i) then 1 else 0)
+  unfolding admission
   limited_lists_kept i =
       let kept = lists_kept ms slot r.admission.cells f.state g.state r.of_slot s.runs i in
-      let less = admitted_bit limits (fabric_held f.state) f.marks cells r.admission s.admits i in omega arith
+      search (arith, rules, admitted_at)
 
   pub limited_outputs_kept : (j : ℕ) → held_for j g.state ≤ held_for j f.state + count_for j cells
+  unfolding admission
   limited_outputs_kept j =
       let kept = outputs_kept ms slot r.admission.cells f.state g.state r.of_slot s.runs j in
-      let less = admitted_count limits (fabric_held f.state) f.marks cells r.admission s.admits j in omega arith
+      grind (arith, common_steps, each_once)

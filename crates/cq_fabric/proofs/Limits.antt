@@ -1,7 +1,7 @@
 -- What the outputs of a fabric hold. Between two slots these are as many cells as the lists of an ideal switch have
 -- with which the fabric agrees. So the numbers that a limiter keeps are followed through a slot by the lists of that
 -- switch: it takes in the same cells and sends the same, and agrees again.
-use Rattle.cq_fabric.proofs.Terms.{common_steps, rules, ◌≡◌, ◌≢◌, ℕ, ◌+◌, ◌<◌, ◌≤◌, ◌^◌, Bool, List, [], ◌∷◌, length, map, get_or, drop, replicate, Option, Some, None, Ok, refl, sym, ap, ◌∙◌, arith, get_or-set_same, get_or-set_other, length-set, IfSome, slice_get, ext_get_or, get_or-replicate, length-map, length-replicate, get_or-map-range_with_len, length-map-range_with_len, Cell, Queued, Machine, admission, admitted, marked, marks_after, count_for, IdealState, filled, fronts, ideal_slot, rests, HoldsLists, LimiterView, held_without, Ranking, ranking, each_once, Agrees, SendsAlike, Fabric, fabric_held, held_for, fabric_admission, came_to, list_of, HoldsFabric, Queues, fabric_of, holds_filled, by_marks, sent_from, came_for, hold_as_many, empty_list, nothing_for}
+use Rattle.cq_fabric.proofs.Terms.{common_steps, rules, ◌≡◌, ◌≢◌, ℕ, ◌+◌, ◌<◌, ◌≤◌, ◌^◌, Bool, List, [], ◌∷◌, length, map, get_or, drop, replicate, Option, Some, None, Ok, refl, sym, ap, ◌∙◌, arith, get_or-set_same, get_or-set_other, length-set, IfSome, slice_get, ext_get_or, get_or-replicate, length-map, length-replicate, get_or-map-range_with_len, length-map-range_with_len, Cell, Queued, Machine, admission, admitted, marked, marks_after, count_for, IdealState, filled, fronts, ideal_slot, rests, HoldsLists, LimiterView, held_without, Ranking, ranking, each_once, Agrees, SendsAlike, Fabric, fabric_held, held_for, fabric_admission, came_to, list_of, HoldsFabric, Queues, fabric_of, holds_filled, by_marks, sent_from, came_for, hold_as_many, empty_list, nothing_for, slice_get_cases, length-drop}
 use Rattle.std.proofs.Math.ListN.{get_or-map as get_or_map}
 use Rattle.cq_fabric.specs.Released.{HasReleased}
 use Rattle.cq_fabric.proofs.Known.{AreRanked, BuffersHaveRoom, HaveJudged, bit}
@@ -19,14 +19,8 @@ held_at f j inside = get_or-map-range_with_len (λ (k : ℕ). held_for k f) 0 (l
 pub holds_first : (n : ℕ) (ranks : List (List ℕ)) (q : Queues) (l : LimiterView) → q.inputs ≡ replicate n [] →
     q.buffers ≡ replicate n [] → length l.limits ≡ n → l.held ≡ replicate n 0 → HoldsFabric (fabric_of q ranks) l
 holds_first n ranks q l inputs buffers limits held =
-    let none = [] in
-    let f : Fabric = fabric_of q ranks in
-    let long = ap length inputs ∙ length-replicate n none in
-    record {
-      ports = limits ∙ sym long;
-      held = ext_get_or 0 l.held (fabric_held f) (ap length held ∙ length-replicate n 0 ∙ sym (held_long f ∙ long))
-          (λ j inside. search (arith, rules, length-replicate, get_or-replicate, held_at, nothing_for, empty_list));
-    }
+    let ext = ext_get_or 0 l.held (fabric_held (fabric_of q ranks)) in
+    search (arith, rules, ext, length-replicate, get_or-replicate, held_long, held_at, nothing_for, empty_list)
 
 -- ## Before a slot
 
@@ -60,8 +54,7 @@ holds_fabric : (slot : ℕ) (f : Fabric) (ideal : IdealState) (l : LimiterView) 
 holds_fabric slot f ideal l agrees holds = grind (arith, common_steps, hold_as_many slot f ideal agrees)
 
 one_less : (xs : List Queued) (n : ℕ) → n + bit (slice_get xs 0) ≡ length xs → n ≡ length (drop 1 xs)
-one_less [] n e = omega arith
-one_less (x ∷ xs) n e = omega arith
+one_less xs n e = grind (arith, common_steps, length-drop, slice_get_cases)
 
 -- the number of an output that sent a cell, or none, and the numbers of the others
 pub released : (o : Option Queued) (output : ℕ) (held held' : List ℕ) → output < length held →
@@ -79,11 +72,10 @@ holds_rests : (lists : List (List Queued)) (judged after : LimiterView) → Hold
 holds_rests lists judged after holds limits long less =
     let here : (j : ℕ) → get_or after.held j 0 ≡ get_or (map length (rests lists)) j 0 = λ j.
     let nil : List Queued = [] in
-    let was = get_or_map length lists j nil in
     let front = get_or_map (λ (xs : List Queued). slice_get xs 0) lists j nil in
     let rest = get_or_map (λ (xs : List Queued). drop 1 xs) lists j nil in
-    let left = get_or_map length (rests lists) j nil in
-    search (arith, rules, one_less, holds.held) in
+    let was = get_or_map length lists j nil in
+    search (arith, rules, one_less, holds.held, front, rest, was, get_or_map length (rests lists) j nil) in
     search (arith, rules, length-map, ext_get_or 0 after.held (map length (rests lists)), holds.held)
 
 -- what the ideal switch sends and keeps, once its arrivals are ranked

@@ -43,11 +43,8 @@ unfolding in_slot
 found c [] place at alone order = absurd (let P : ⊥ = cc in P)
 found c (x ∷ xs) zero at alone order = search (rules, same_Some, first_here, no_sooner, finds_itself, in_slot, eq-eqb)
 found c (x ∷ xs) (suc place) at alone order =
-    let other : x.key.slot ≢ c.key.slot = λ same.
-    (let e = alone 0 x refl same in absurd (omega arith)) in
-    let ahead = all_at (λ y. x.cell.output ≡ y.cell.output → is_before x.key y.key ≡ true) xs place c order.0 at in
-    let rest = found c xs place at (λ t y here same. let e = alone (suc t) y here same in omega arith) order.1 in
-    search (arith, rules, first_later, passes_by, ne_eqb)
+    let rest = found c xs place at (λ t y here same. omega (arith, alone (suc t) y here same)) order.1 in
+    search (arith, rules, first_later, passes_by, ne_eqb, all_at, alone 0 x)
 
 pub found_by_key :
     (c : Queued) (xs : List Queued) → IsNewest c xs → KeepsOrder xs →

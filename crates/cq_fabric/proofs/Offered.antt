@@ -22,11 +22,8 @@ nothing_offered k =
 pub none_offered : (lists : List Waiting) (k : ℕ) → cells_of lists ≡ replicate k [] →
     no_offers k ≡ orders_of (cells_of lists)
 none_offered lists k e =
-    let none : List Queued = [] in
-    let differ : FirstKeysDiffer (replicate k none) = λ j i l c d a b same.
-    absurd (let no : None ≡ Some c = sym (ap (first_for j) (empty_list k i)) ∙ a in let P : ⊥ = cc in P) in
-    one_orders (replicate k none) (no_offers k) (orders_of (replicate k none)) (nothing_offered k)
-    (are_orders (replicate k none) differ) ∙ ap orders_of (sym e)
+    let differ : FirstKeysDiffer (replicate k []) = λ j i l c d a b same. cc (empty_list k i) in
+    search (rules, one_orders, nothing_offered, are_orders, differ, e)
 
 -- ## One cell comes
 
@@ -67,11 +64,7 @@ module _ {lists lists' : List Waiting} {o : Orders} {n cushion : ℕ} {c : Queue
   pub come_same : (m : Partners) → m ≡ with_pair (replicate (length lists) None) n c.cell.output →
       AreSameWithout m o (orders_of (cells_of lists'))
   come_same m is_m =
-      let none = None in
-      let inside : n < length (replicate (length lists) none) =
-      let l = comes.inside in omega (arith, length-replicate (length lists) none) in
-      let partner : partner_of m n ≡ Some c.cell.output =
-      rw is_m (get_or-set_same (replicate (length lists) none) n (Some c.cell.output) none inside) in
+      let partner : partner_of m n ≡ Some c.cell.output = search (arith, rules, get_or-set_same, length-replicate) in
       let size : length (cells_of lists') ≡ length (cells_of lists) = search (arith, rules, length-map, come.long) in
       rw comes.offered (same_without m (cells_of lists) (cells_of lists') size (λ i. ⊎_elim
       (λ is. rw is (same_but_arrival (partner_of m n) _ (list_of (cells_of lists') n) place c partner this_list))
@@ -82,10 +75,8 @@ module _ {lists lists' : List Waiting} {o : Orders} {n cushion : ℕ} {c : Queue
   pub come_behind : key_before (first_key c.cell.output (list_at lists n).cells) (Some c.key) ≡ true →
       MoreUrgentAhead cushion c (list_at lists n).cells → o ≡ orders_of (cells_of lists')
   come_behind before ahead =
-      let size = length-map lists (λ (w : Waiting). w.cells) in
-      let size' = length-map lists' (λ (w : Waiting). w.cells) in
       let alike = comes_behind cushion c (list_at lists n).cells before ahead in
-      search (arith, rules, same_offers, cells-at)
+      search (arith, rules, same_offers, cells-at, length-map, come.others)
 
 -- ## Cells come, one after the other
 
@@ -139,12 +130,9 @@ module _ (m : Partners) (lists lists' : List Waiting) (buffers buffers' : List (
   -- with the pairs of the matching taken out, the orders are as before
   pub moved_same : (o : Orders) → o ≡ orders_of (cells_of lists) → AreSameWithout m o (orders_of (cells_of lists'))
   moved_same o is =
-      rw is (same_without m (cells_of lists) (cells_of lists') moves.ports.0
-      (λ i. taken_same (partner_of m i) _ _ (moves.taken i))
-      (firsts_apart (cells_of lists) apart) (firsts_apart (cells_of lists') moved_apart))
+      rw is (search (rules, same_without, taken_same, moves.taken, firsts_apart, moved_apart))
 
   pub moved_outputs : All (λ list. list.outputs ≡ length lists) lists →
       map (λ w. w.outputs) lists' ≡ map (λ w. w.outputs) lists → All (λ list. list.outputs ≡ length lists) lists'
   moved_outputs all outputs k d l =
-      let out : Waiting → ℕ = λ w. w.outputs in
-      search (arith, rules, length-map lists out, length-map lists' out, get_or-map out)
+      let out : Waiting → ℕ = λ w. w.outputs in search (arith, rules, length-map, get_or-map out)

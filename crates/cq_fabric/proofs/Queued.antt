@@ -122,16 +122,13 @@ module _ {m : Partners} {lists : List Waiting} {buffers : List Buffered} {lists'
   crossed_list_rooms = search (arith, rules, same_rooms, lists_long, list_room-is, without_one)
 
   pub crossed_buffer_rooms : map buffer_room buffers' ≡ map buffer_room buffers
-  crossed_buffer_rooms = same_rooms buffer_room buffers' buffers buffers_long (λ j _.
-      let now = buffer_room-is buffers' j in
-      let then = buffer_room-is buffers j in
-      ⊎_elim (λ r. search (arith, rules, length_put (known.have r.0 j r.1).0 (list_of (cells_in buffers) j)))
-      (λ free. search (arith, rules)) (partner_or_free m j))
+  crossed_buffer_rooms = same_rooms buffer_room buffers' buffers buffers_long (λ j _. ⊎_elim (λ r. search
+      (arith, rules, buffer_room-is, length_put (known.have r.0 j r.1).0 (list_of (cells_in buffers) j)))
+      (λ free. search (arith, rules, buffer_room-is)) (partner_or_free m j))
 
   pub crossed_square : (n : ℕ) → AreSquare lists buffers n → AreSquare lists' buffers' n
   crossed_square n square =
-      let out : Waiting → ℕ = λ w. w.outputs in
-      search (arith, rules, lists_long, buffers_long, get_or-map out, square.outputs)
+      search (arith, rules, lists_long, buffers_long, get_or-map (λ (w : Waiting). w.outputs), square.outputs)
 
 -- ## Departures
 
@@ -156,8 +153,7 @@ popped_square lists buffers n square = grind (arith, common_steps, length-map)
 pub new_square : (lists : List Waiting) (buffers : List Buffered) (n k : ℕ) → k ≤ most_ports → n ≡ k →
     map (λ w. w.outputs) lists ≡ replicate k k → length lists ≡ k → length buffers ≡ k → AreSquare lists buffers n
 new_square lists buffers n k few offered outputs long as_many =
-    let out : Waiting → ℕ = λ w. w.outputs in
-    search (arith, rules, get_or-map out, get_or-replicate)
+    search (arith, rules, get_or-map (λ (w : Waiting). w.outputs), get_or-replicate)
 
 -- ## One place
 

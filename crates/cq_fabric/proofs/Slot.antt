@@ -29,10 +29,9 @@ waits_one j (cells ∷ lists) (suc i) c h e = let one = waits_one j lists i c h 
 arrives_one : (j : ℕ) (cells : List (Option Cell)) (i : ℕ) (cell : Cell) → arrival_at cells i ≡ Some cell →
     cell.output ≡ j → 1 ≤ count_for j cells
 arrives_one j [] i cell h e = absurd (let P : ⊥ = cc in P)
-arrives_one j (None ∷ cells) zero cell h e = absurd (let P : ⊥ = cc in P)
+arrives_one j (o ∷ cells) zero cell h e = grind (arith, common_steps, same_Some, eq-eqb)
 arrives_one j (None ∷ cells) (suc i) cell h e = arrives_one j cells i cell h e
-arrives_one j (Some d ∷ cells) zero cell h e = grind (arith, common_steps, same_Some, eq-eqb)
-arrives_one j (Some d ∷ cells) (suc i) cell h e = let one = arrives_one j cells i cell h e in omega arith
+arrives_one j (Some d ∷ cells) (suc i) cell h e = omega (arith, arrives_one j cells i cell h e)
 
 -- ## The cells of one slot can cross
 
@@ -40,11 +39,10 @@ can_cross : (slot : ℕ) (q : Queues) (ranks : List (List ℕ)) → Sound slot (
     ((i j : ℕ) (c : Queued) → IsAmong c (list_of q.inputs i) → c.cell.output ≡ j →
     length (list_of q.buffers j) < get_or q.to_outputs j 0) → CanCross q
 can_cross slot q ranks sound room =
-    let firsts = firsts_cross slot (fabric_of q ranks) sound in
     record {
-      apart = λ i k c d a b e. (sound.apart.waiting i k c d a b e).0;
+      apart = search (rules, sound.apart.waiting);
       room = λ i j has. let first = from_first j (list_of q.inputs i) has.0 has.1 in room i j has.0 first.0 first.1;
-      keys = firsts.keys;
+      keys = (firsts_cross slot (fabric_of q ranks) sound).keys;
     }
 
 -- a list without its first cell is shorter by one, or empty as before
@@ -84,11 +82,7 @@ module _ {ms : List Machine} {slot : ℕ} {q0 : Queues} {ranks0 : List (List ℕ
   -- no waiting cell has the key of one that came, which has its own slot, and no two of these have the same
   pub come_apart : ComeApart came q0.inputs
   come_apart =
-      record {
-        waiting = λ i k c d a b e. (sound0.apart.waiting i k c d a b e).0;
-        older = λ i k c d is h e. grind (arith, sound0.early.waiting k d h, keyed.slot_is i c is);
-        each = λ i k c d a b e. sym (keyed.input_is i c a) ∙ ap (λ (x : Key). x.input) e ∙ keyed.input_is k d b;
-      }
+      search (arith, rules, sound0.apart.waiting, sound0.early.waiting, keyed.slot_is, keyed.input_is)
 
   pub fits_lists : ListsHaveRoom q0 cells → FitLists came q0
   fits_lists room i c is =
@@ -102,10 +96,7 @@ module _ {ms : List Machine} {slot : ℕ} {q0 : Queues} {ranks0 : List (List ℕ
     -- a cell that came is the newest of its list
     pub came_newest : (i : ℕ) (c : Queued) → came_to came i ≡ Some c → IsNewest c (list_of q1.inputs i)
     came_newest i c is =
-        let at = keyed.slot_is i c is in
-        let before : ArrivedBefore c.key.slot (list_of q0.inputs i) =
-        all_from_has _ _ (λ d h. search (arith, rules, sound0.early.waiting i d h)) in
-        search (arith, rules, newest_arrived)
+        search (arith, rules, newest_arrived, all_from_has, sound0.early.waiting, keyed.slot_is)
 
     sound1 : Sound (slot + 1) (fabric_of q1 ranks1)
     sound1 = search (rules, arrived_sound, arrive, keyed, sound0)
@@ -133,9 +124,7 @@ module _ {ms : List Machine} {slot : ℕ} {q0 : Queues} {ranks0 : List (List ℕ
         sent_was_held : (j : ℕ) → 1 ≤ length (list_of q2.buffers j) →
             1 ≤ waiting_for j q0.inputs + count_for j cells + length (list_of q0.buffers j)
         sent_was_held j some = ⊎_elim (λ r.
-            let cell = crossing r.0 j r.1 in
-            let first = from_first j (list_of q1.inputs r.0) cell.0 cell.1 in
-            let one = one_waits r.0 j cell.0 first.0 first.1 in omega arith)
+            let cell = crossing r.0 j r.1 in search (arith, rules, from_first, one_waits r.0 j cell.0))
             (λ free. search (arith, rules)) (partner_or_free m1 j)
 
         module _ {before judged : LimiterView} (holds : HoldsFabric (fabric_of q0 ranks0) before)
@@ -159,10 +148,8 @@ module _ {ms : List Machine} {slot : ℕ} {q0 : Queues} {ranks0 : List (List ℕ
           no_longer : (j : ℕ) → length (list_of q3.buffers j) ≤ length (list_of q1.buffers j)
           no_longer j =
               ⊎_elim (λ r. let cell = crossing r.0 j r.1 in
-              let given = moved1.moves.given r.0 j cell.0 r.1 cell.1 in
-              grind (arith, common_steps, length_put, length_rest))
-              (λ free. let kept = moved1.moves.kept j free in grind (arith, common_steps, length_rest))
-              (partner_or_free m1 j)
+              grind (arith, common_steps, moved1.moves.given r.0 j cell.0 r.1 cell.1, length_put, length_rest))
+              (λ free. grind (arith, common_steps, moved1.moves.kept j free, length_rest)) (partner_or_free m1 j)
 
           pub can_cross_second : CanCross q3
           can_cross_second = can_cross (slot + 1) q3 ranks2 sound3 (λ i j c h e. search
