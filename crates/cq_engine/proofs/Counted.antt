@@ -1,15 +1,11 @@
 -- How many cells each output holds, counted in one walk over the lists: at first those of the buffers, and of each
 -- list those for the output more.
-use Rattle.cq_engine.proofs.Terms.{common_steps, rules, ◌≡◌, ℕ, ◌+◌, ◌<◌, ◌≤◌, List, [], ◌∷◌, ◌++◌, length, map, get_or, set, take, sym, ◌∙◌, arith, All, filter, cases_eq, cond_both, eq-eqb, ne_eqb, ext_get_or, get_or-map, get_or-set_other, get_or-set_same, length-map, take_all, take_more, slice_get-get_or, Queued, is_for, list_of, Fabric, IsAmong, buffer, input, fabric_held, waiting_for, held_at, held_long, has_there}
+use Rattle.cq_engine.proofs.Terms.{common_steps, rules, ◌≡◌, ℕ, ◌+◌, ◌<◌, ◌≤◌, List, [], ◌∷◌, ◌++◌, length, map, get_or, set, take, sym, ◌∙◌, arith, All, filter, cases_eq, cond_both, eq-eqb, ne_eqb, ext_get_or, get_or-map, get_or-set_other, get_or-set_same, length-map, take_all, take_more, slice_get-get_or, Queued, is_for, list_of, Fabric, IsAmong, buffer, input, fabric_held, waiting_for, held_at, held_long, has_there, filter-append, length-append}
 use Rattle.cq_laws.proofs.Cushions.{bit, bit_false, bit_true}
 
 -- how many of the cells are for output j
 abbrev pub number_for : ℕ → List Queued → ℕ
 number_for j cells = length (filter (is_for j) cells)
-
-number_cons : (j : ℕ) (c : Queued) (cells : List Queued) →
-    number_for j (c ∷ cells) ≡ bit (is_for j c) + number_for j cells
-number_cons j c cells = grind (arith, common_steps, cond_both, bit, bit_true, bit_false)
 
 -- ## One list
 
@@ -21,7 +17,7 @@ module _ (old held : List ℕ) (cells : List Queued) (at : ℕ) (inside : at < l
     (so_far : AreCounted old held (take at cells)) (there : (get_or cells at d).cell.output < length old) where
   one_more : (j : ℕ) →
       number_for j (take (at + 1) cells) ≡ number_for j (take at cells) + bit (is_for j (get_or cells at d))
-  one_more j = grind (arith, common_steps, take_more, number_cons)
+  one_more j = grind (arith, common_steps, take_more, filter-append, length-append, cond_both, bit, bit_true, bit_false)
 
   pub count_next : (new : List ℕ) → length held ≡ length old →
       new ≡ set held (get_or cells at d).cell.output (get_or held (get_or cells at d).cell.output 0 + 1) →
@@ -62,5 +58,4 @@ module _ (f : Fabric) (i : ℕ) (held : List ℕ) (so_far : HeldSoFar f i held) 
   held_next new same counted = grind (arith, common_steps, next_waiting)
 
 pub held_last : (f : Fabric) (i : ℕ) (held : List ℕ) → HeldSoFar f i held → length f.inputs ≤ i → held ≡ fabric_held f
-held_last f i held so_far past = ext_get_or 0 held (fabric_held f) (so_far.ports ∙ sym (held_long f))
-    (λ j below. search (arith, rules, so_far.counts, take_all, held_at))
+held_last f i held so_far past = search (arith, rules, ext_get_or 0 held (fabric_held f), held_long, so_far.counts, take_all, held_at)

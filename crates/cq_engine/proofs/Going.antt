@@ -30,8 +30,7 @@ place_same : (i s t : ℕ) → Waiting i s ≡ Waiting i t → s ≡ t
 place_same i s t e = cc
 
 keys_differ : (f : Fabric) (i : ℕ) → NoKeyTwice f → KeysDiffer (input f i)
-keys_differ f i differ = pairs_by (λ a b. a.key ≢ b.key) (input f i) (λ s t a b u v l e.
-    search (arith, rules, place_same i s t (differ (Waiting i s) (Waiting i t) a b u v e)))
+keys_differ f i differ = pairs_by _ (input f i) (λ s t a b u v l e. search (arith, rules, place_same i s t, differ (Waiting i s) (Waiting i t) a b))
 
 pub can_hold : (ms : List Machine) (limits : List (Option ℕ)) (from to : List ℕ) (x : Frozen) →
     CanGoOn ms limits from to x → CanHold from to x.lists x.buffers
@@ -39,13 +38,8 @@ can_hold ms limits from to x can =
     let f = fabric_in x in
     record {
       inputs = λ i inside.
-          record {
-            room = can.list_rooms i (omega arith);
-            outputs =
-                all_from_has (λ (c : Queued). c.cell.output < length x.lists) (input f i) (can.sound.fabric.outputs i);
-            order = can.sound.order i;
-            differ = keys_differ f i can.sound.differ;
-          };
+          let all = all_from_has (λ c. c.cell.output < length x.lists) (input f i) (can.sound.fabric.outputs i) in
+          search (arith, rules, can.list_rooms, all, can.sound.order, keys_differ f);
       outputs = search (arith, rules, can.buffer_rooms, can.sound.fabric.rising);
     }
 

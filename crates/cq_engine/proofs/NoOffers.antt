@@ -3,10 +3,10 @@
 use Rattle.cq_engine.proofs.Terms.{rules, ◌≡◌, ℕ, List, [], ◌∷◌, replicate, Option, None, refl, arith, common_steps, filter_map, sum_by, append-nil, length-replicate, sum-map, sum_by-cons, Queued, Transfer, RoomView, Queues, orders_of, Moves, transfers_of, Orders, ports, outputs_of, proposals, IsInputBest}
 use Rattle.cq_prefs.proofs.Pairs.{nobody}
 use Rattle.cq_engine.specs.Crossing.{HasCrossed}
+use Rattle.std.proofs.lemmas.List.Sums.{sum_by-le}
 
 zeros : (f : ℕ → ℕ) (xs : List ℕ) → ((k : ℕ) → f k ≡ 0) → sum_by f xs ≡ 0
-zeros f [] none = refl
-zeros f (x ∷ xs) none = grind (arith, common_steps, sum_by-cons, zeros f xs none)
+zeros f xs none = grind (arith, common_steps, sum_by-le f 0 xs, none)
 
 module _ (o : Orders) (none : (i : ℕ) → outputs_of o i ≡ []) where
   pub none_best : IsInputBest o (replicate (ports o) None)
@@ -34,6 +34,5 @@ nothing_noted n lists slot phase = grind (arith, common_steps, none_kept, nobody
 pub nothing_crosses : (slot phase : ℕ) (q : Queues) (note : RoomView Transfer) →
     ((i : ℕ) → outputs_of (orders_of q.inputs) i ≡ []) → HasCrossed slot phase q q note note 0
 nothing_crosses slot phase q note none =
-    let noted = nothing_noted (ports (orders_of q.inputs)) q.inputs slot phase in
-    let best = none_best (orders_of q.inputs) none in
-    search (arith, rules, best, none_proposed (orders_of q.inputs) none, nothing_moves, append-nil)
+    let proposed = none_proposed (orders_of q.inputs) none in
+    search (arith, rules, nothing_noted, none_best (orders_of q.inputs), proposed, nothing_moves, append-nil)

@@ -14,7 +14,7 @@ abbrev slack_of_came : ℕ → Queues → List (List ℕ) → ℕ → Option Que
 slack_of_came slot q ranks i came = option_map
     (λ c. cushion_of (fabric_of q ranks) c - position_or_len (λ x. eqb x.key.slot slot) (list_of q.inputs i)) came
 
-by_place_same : {X : Type 0} (f g : ℕ → X → X) (n : ℕ) (xs : List X) →
+pub by_place_same : {X : Type 0} (f g : ℕ → X → X) (n : ℕ) (xs : List X) →
     ((i : ℕ) (y : X) (k : ℕ) → k ≡ n + i → slice_get xs i ≡ Some y → f k y ≡ g k y) →
     map (λ at. f at.0 at.1) (enumerate_from n xs) ≡ map (λ at. g at.0 at.1) (enumerate_from n xs)
 by_place_same {X} f g n [] same = refl
@@ -28,9 +28,7 @@ count_one : {X : Type 0} (cells : X → ℕ) (after : ℕ → X → X) (moved : 
     ((i : ℕ) (y : X) → slice_get xs i ≡ Some y → cells y ≤ n) → (i : ℕ) (y : X) →
     slice_get (map (λ at. after at.0 at.1) (enumerate_from 0 xs)) i ≡ Some y → cells y ≤ n + 1
 count_one cells after moved n xs more fit i y at =
-    let within = slice_get_within (map (λ at. after at.0 at.1) (enumerate_from 0 xs)) i y at in
-    let long = length-by_place after xs in
-    grind (arith, common_steps, slice_get-get_or, at-by_place after xs i y, same_Some)
+    search (arith, rules, slice_get_within, length-by_place, slice_get-get_or, at-by_place after xs i y, same_Some)
 
 counts_fit : (slot : ℕ) (x : Figures) (r : SlotRecord) → CountsFit slot x → CountsFit (slot + 1) (figures_after x r)
 unfolding figures_after input_after output_after

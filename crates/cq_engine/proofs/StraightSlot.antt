@@ -5,13 +5,11 @@
 -- transfer empties the lists and puts each cell alone into the buffer of its output, which sends it. After that nothing
 -- waits and nothing is offered, and the second matching is empty. The lists and buffers in between are made here for
 -- the proof alone.
-use Rattle.cq_engine.proofs.Terms.{common_steps, rules, ◌≡◌, ℕ, ◌+◌, ◌-◌, ◌*◌, ◌<◌, ◌≤◌, true, List, [], ◌∷◌, ◌++◌, length, map, drop, get_or, replicate, Option, Some, None, refl, sym, ap, ◌∙◌, ⊎_elim, arith, All, IfSome, min, enumerate_from, filter_map, range_with_len, reduce, sum_by, option_map, option_to_list, cases_lt, cond_both, eq-eqb, row_fits, same_Some, append-nil, ext_get_or, get_or_past, length-map, get_or-map-range_with_len, length-map-range_with_len, sum-map, sum_by-cons, Cell, Queued, Transfer, Figures, InputFigures, cushion, first_for, is_for, Machine, all_told, fronts, rests, LimiterView, list_of, orders_of, output_order, Moves, list_taken, transfers_of, outputs_of, ports, IsListed, Partners, partner_of, partner_place, spent, proposals, IsFreeOutput, IsInputBest, IsStable, cushion_of, slacks, came_to, HoldsFabric, Queues, fabric_of, AreRanked, BuffersHaveRoom, HaveArrived, HaveJudged, HaveSent, ListsHaveRoom, fits_lists, held_before, keyed, IsInStep, IsSeen, arriving_slack, input_counted, slack_seen, GoStraight, crossing, crossings, input_passed, Look, among, place_head, none_unless, kept_more}
+use Rattle.cq_engine.proofs.Terms.{common_steps, rules, ◌≡◌, ℕ, ◌+◌, ◌-◌, ◌*◌, ◌<◌, ◌≤◌, true, List, [], ◌∷◌, ◌++◌, length, map, drop, get_or, replicate, Option, Some, None, refl, sym, ap, ◌∙◌, ⊎_elim, arith, All, IfSome, min, enumerate_from, filter_map, range_with_len, reduce, sum_by, option_map, option_to_list, cases_lt, cond_both, eq-eqb, row_fits, same_Some, append-nil, ext_get_or, get_or_past, length-map, get_or-map-range_with_len, length-map-range_with_len, sum-map, sum_by-cons, Cell, Queued, Transfer, Figures, InputFigures, cushion, first_for, is_for, Machine, all_told, fronts, rests, LimiterView, list_of, orders_of, output_order, Moves, list_taken, transfers_of, outputs_of, ports, IsListed, Partners, partner_of, partner_place, spent, proposals, IsFreeOutput, IsInputBest, IsStable, cushion_of, slacks, came_to, HoldsFabric, Queues, fabric_of, AreRanked, BuffersHaveRoom, HaveArrived, HaveJudged, HaveSent, ListsHaveRoom, fits_lists, held_before, keyed, IsInStep, IsSeen, arriving_slack, input_counted, slack_seen, GoStraight, crossing, crossings, input_passed, Look, among, place_head, none_unless, kept_more, kept_few}
 use Rattle.std.proofs.Math.ListN.{get_or-map}
-use Rattle.std.proofs.lemmas.List.FromFn.{length-range_with_len}
-use Rattle.cq_base.proofs.Pooled.{looked_few}
 use Rattle.cq_engine.specs.declared.measure.Look.TheVariants as look
 use Rattle.cq_engine.proofs.NoOffers.{none_best, none_proposed, nothing_moves, nothing_noted}
-use Rattle.cq_engine.proofs.Slot.{AreCounted, HaveCrossed, Whole, moved_of, whole_slot}
+use Rattle.cq_engine.proofs.Slot.{AreCounted, HaveCrossed, Whole, moved_of, whole_slot, by_place_same}
 
 -- ## A cell alone
 
@@ -24,14 +22,11 @@ alone (Some c) = c ∷ []
 abbrev wanted : Option Queued → Option ℕ
 wanted q = option_map (λ c. c.cell.output) q
 
-for_own : (c : Queued) → is_for c.cell.output c ≡ true
-for_own c = eq-eqb c.cell.output c.cell.output refl
-
 first_alone : (c : Queued) → first_for c.cell.output (c ∷ []) ≡ Some c
-first_alone c = grind (arith, common_steps, cond_both, for_own)
+first_alone c = grind (arith, common_steps, cond_both, eq-eqb)
 
 left_alone : (q : Option Queued) → [] ≡ list_taken (wanted q) (alone q)
-left_alone q = grind (arith, common_steps, cond_both, for_own)
+left_alone q = grind (arith, common_steps, cond_both, eq-eqb)
 
 -- an input offers what it has, and to no other
 offers_wanted : (q : Option Queued) (j : ℕ) → wanted q ≡ Some j → IsListed (output_order (alone q)) j
@@ -45,9 +40,6 @@ cell_of : (q : Option Queued) (j : ℕ) → wanted q ≡ Some j → (c : Queued)
 cell_of q j h = grind (arith, common_steps, same_Some)
 
 -- ## Lists of such cells
-
-same_map : {X Y : Type 0} (f g : X → Y) (xs : List X) → ((x : X) → f x ≡ g x) → map f xs ≡ map g xs
-same_map f g xs same = λ k. map (λ x. same x k) xs
 
 same_kept : {X Y : Type 0} (f g : X → Option Y) (xs : List X) → ((x : X) → f x ≡ g x) →
     filter_map f xs ≡ filter_map g xs
@@ -73,11 +65,9 @@ rests_alone : (buffers : List (List Queued)) (gone : List (Option Queued)) → l
     All (λ cells. cells ≡ []) buffers → buffers ≡ rests (map alone gone)
 rests_alone buffers gone long empty =
     let nil = [] in
-    let none = None in
-    let rest : List Queued → List Queued = λ xs. drop 1 xs in
+    let rest = get_or-map {B = List Queued} (λ xs. drop 1 xs) (map alone gone) in
     ext_get_or nil buffers (rests (map alone gone)) (grind (arith, common_steps, length-map)) (λ j below.
-    let left = get_or-map rest (map alone gone) j nil in
-    let was = get_or-map alone gone j none in search (rules, no_cell buffers empty, left, was))
+    search (rules, no_cell buffers empty, rest j nil, get_or-map alone gone j None))
 
 -- ## What is noted, input by input
 
@@ -102,7 +92,7 @@ crossings_one slot n came c is = grind (arith, common_steps, crossings_more)
 -- one an input at most
 pub crossings_few : (slot n : ℕ) (came : List (Option Queued)) → length (crossings slot n came) ≤ n
 unfolding crossings
-crossings_few slot n came = grind (arith, common_steps, looked_few, length-range_with_len)
+crossings_few slot n came = search (rules, kept_few)
 
 -- no more than there are pairs of ports
 pub at_most_square : (n : ℕ) → n ≤ n * n
@@ -178,8 +168,7 @@ module _ {ms : List Machine} {slot : ℕ} {q : Queues} {ranks0 : List (List ℕ)
 
   once : (i k j : ℕ) → partner_of pairs i ≡ Some j → partner_of pairs k ≡ Some j → i ≡ k
   once i k j h g =
-      let a = pair_cell i j h in
-      let b = pair_cell k j g in search (arith, rules, keyed known, pair_gone i a.0, pair_gone k b.0)
+      search (arith, rules, keyed known, pair_cell, pair_gone)
 
   pairs_stable : IsStable (orders_of lists) pairs
   pairs_stable =
@@ -188,14 +177,9 @@ module _ {ms : List Machine} {slot : ℕ} {q : Queues} {ranks0 : List (List ℕ)
   pairs_best : IsInputBest (orders_of lists) pairs
   pairs_best = record { stable = pairs_stable; best = λ m stable i. let first = at_best i in omega arith }
 
-  proposes_once : (i : ℕ) (o : Option Queued) → outputs_of (orders_of lists) i ≡ output_order (alone o) →
-      partner_of pairs i ≡ wanted o →
-      spent (outputs_of (orders_of lists) i) (partner_of pairs i) ≡ size (crossing slot i o)
-  proposes_once i o order partner = grind (arith, common_steps, place_head)
-
   all_proposed : length (crossings slot n came) ≡ proposals (orders_of lists) pairs
   unfolding crossings
-  all_proposed = search (rules, length-map, lists_long, sum-map, sum_sizes, proposes_once, order_is, partner_is)
+  all_proposed = search (rules, length-map, lists_long, sum-map, sum_sizes, place_head, order_is, partner_is)
 
   all_noted : transfers_of pairs lists slot 1 ≡ crossings slot n came
   unfolding crossings transfers_of
@@ -266,7 +250,7 @@ module _ {ms : List Machine} {slot : ℕ} {q : Queues} {ranks0 : List (List ℕ)
   pub counted_passed : (looks : Look) (xs : List InputFigures) →
       map (λ at. input_passed (came_to came at.0) at.1) (enumerate_from 0 xs)
       ≡ map (λ at. input_counted looks listed at.0 (came_to came at.0) at.1) (enumerate_from 0 xs)
-  counted_passed looks xs = grind (arith, common_steps, same_map, one_passed, list_is, seen_least)
+  counted_passed looks xs = grind (arith, common_steps, by_place_same, one_passed, list_is, seen_least)
 
   -- ## All of it
 
