@@ -16,6 +16,4 @@ at-requires c = search (arith, rules, some)
 pub returns-then-precedes : goal.returns-then-precedes
 returns-then-precedes c =
     let cells = some (goal.at.returns-then-precedes c).After-len-within in
-    spot_end c.args.key c.args.blocks.now.blocks c.requires.rising c.requires.filled (c.len-last.result - 1)
-    c.len-within.result (c.len-within.result - 1) c.block-end.result.now _ (omega arith) c.block-end.ensures
-    c.len-within.ensures.len (omega arith) c.at.ensures (sym c.precedes.ensures ∙ c.if-precedes.true)
+    search (arith, rules, spot_end c.args.key c.args.blocks.now.blocks, cells)

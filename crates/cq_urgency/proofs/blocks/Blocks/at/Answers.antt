@@ -25,10 +25,7 @@ at-requires-2 c =
 pub returns : goal.returns
 returns c =
     let many = as_many_counts (kept c.self.invariant.0 c.self.view_is) in
-    let some = some_blocks c.args.self.now.blocks (omega arith) in
-    let size = c.len-len.ensures.len ∙ ap length c.block-first.ensures in
-    let sum = counts_ahead c.args.self.now.blocks _ c.place_of-spot.result.block (c.place_of-spot.result.block + 1) many
-    some (omega arith) in
-    let there = count_there c.args.self.now.blocks _ c.place_of-spot.result.block c.place_of-spot.result.within many
-    c.place_of-spot.ensures.within in
-    search (arith, rules, shown_in)
+    let spot = c.place_of-spot.result in
+    let sum = counts_ahead c.args.self.now.blocks _ spot.block (spot.block + 1) many in
+    let there = count_there c.args.self.now.blocks _ spot.block spot.within many in
+    search (arith, rules, some_blocks, sum, there, shown_in)

@@ -10,6 +10,4 @@ invariant_of-self-in_default c =
     let w = kept c.self.invariant.0 c.self.view_is in
     let none : length c.pop_front.new.self.items ≡ 0 =
     grind (arith, common_steps, c.front.ensures.variant, c.in_default.is) in
-    let k = freed _ c.self.inside.first c.self.inside.first _ _ _ _ w c.requires
-    (rw (sym c.pop_front.ensures.rest) (sym (get_or_past c.pop_front.new.self.items 0 _ (omega arith)))) in
-    search (arith, rules)
+    search (arith, rules, freed _ c.self.inside.first c.self.inside.first _ _ _ _ w, get_or_past)

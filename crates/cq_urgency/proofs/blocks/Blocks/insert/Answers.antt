@@ -30,14 +30,12 @@ pub invariant_of-self-2 : goal.invariant_of-self-2
 invariant_of-self-2 c =
     let w = kept c.self.invariant.0 c.self.view_is in
     let same = read_is w c.args.block c.requires.block c.number_at-number.ensures c.index_mut.ensures.value in
-    let long = ap length same in
-    let more = ap length c.insert.ensures
-    ∙ length-insert c.index_mut.result.now c.args.place c.args.queued (omega arith) in
+    let more = length-insert c.index_mut.result.now c.args.place c.args.queued in
     let count = count_is c.args.self.now.blocks _ c.args.block (c.args.block - 1) (as_many_counts w) (omega arith)
     c.requires.block c.index_mut-2.ensures.value in
     let k = changed w c.args.block c.requires.block c.number_at-number.ensures c.insert.new.self _
     (count_behind c.args.self.now.blocks _ c.args.block (c.args.block - 1) (c.index_mut-2.result.now + 1) _
-    (as_many_counts w) (omega arith) (omega arith)) in
+    (as_many_counts w) (omega arith) (omega (arith, ap length same, ap length c.insert.ensures, more))) in
     (k.placed, omega (arith, length-set {A = List Queued}))
 
 pub returns-clause-blocks : goal.returns-clause-blocks

@@ -18,10 +18,7 @@ invariant_of-self c =
     let w = kept c.self.invariant.0 c.self.view_is in
     let k = split w c.args.block c.requires.block c.number_at-number.ensures c.put_upper-other.ensures.comes
     (count_halved _ _ c.args.block (as_many_counts w) c.requires.full c.if-block-eq0.true) in
-    let order = rw c.unwrap.ensures at c.insert.ensures.items in
-    let view = ap (λ (v : BlocksView). v.most) c.self.view_is in
-    let many = as_many w in
-    (rw (order, c.push_front_reserved.ensures.items) k.placed, grind (arith, common_steps, length-set, cases_lt))
+    search (arith, rules, k, as_many w, length-set, c.insert.ensures)
 
 pub returns-then-block-eq0-clause-blocks : goal.returns-then-block-eq0-clause-blocks
 returns-then-block-eq0-clause-blocks c =
@@ -37,9 +34,7 @@ invariant_of-self-2 c =
     (count_halved_behind _ _ c.args.block (c.args.block - 1) (as_many_counts w) c.requires.full (omega arith)) in
     let order = rw c.unwrap.ensures at c.insert.ensures.items in
     let counts = rw c.unwrap-2.ensures at c.insert-2.ensures.items in
-    let view = ap (λ (v : BlocksView). v.most) c.self.view_is in
-    let many = as_many w in
-    (rw (order, counts) k.placed, grind (arith, common_steps, length-set, cases_lt))
+    search (arith, rules, k, order, counts, as_many w, length-set)
 
 pub returns-clause-blocks : goal.returns-clause-blocks
 returns-clause-blocks c =
