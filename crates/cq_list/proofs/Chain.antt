@@ -59,4 +59,4 @@ module _ {old new : Nodes} {a k : ℕ} {ahead : Node} {c : Queued} (b : IsBehind
       let node : Node = (begins old n first whole).0 in
       let seen = chain-at old n first node (begins old n first whole).1 in
       let later = all_at (IsBefore node.queued) (cells (chain old n node.next)) p ahead.queued in
-      search (arith, rules, other_cell, differs, rest_whole, slice_get-map, later, seen, chain-at, chain_behind n node.next p)
+      search (arith, rules, other_cell, differs, rest_whole, slice_get-map, later, chain-at, chain_behind n node.next p)

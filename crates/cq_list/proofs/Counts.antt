@@ -33,7 +33,7 @@ module _ (places counts : List ℕ) (had : AreCounts places counts) where
 
   pub counts_insert : (i j : ℕ) → i ≤ length places → length places < most_places → j < most_ports →
       AreCounts (insert places i j) (set counts j (get_or counts j 0 + 1))
-  counts_insert i j inside room in_range = grind (arith, common_steps, count_of-own, filter-insert-other, ne_eqb, cases_eq)
+  counts_insert i j inside room in_range = grind (arith, common_steps, count_of-own, filter-insert-other, ne_eqb)
 
   module _ (i j : ℕ) (inside : i < length places) (read : j ≡ get_or places i j) where
     again : insert (remove places i) i j ≡ places
@@ -47,7 +47,7 @@ module _ (places counts : List ℕ) (had : AreCounts places counts) where
 
     pub counts_remove : AreCounts (remove places i) (set counts j (get_or counts j 0 - 1))
     counts_remove = search
-        (rules, set_steps, in_range_at, again, count_of-own, filter-insert-other, ne_eqb, cases_eq, all_remove, length-remove)
+        (rules, set_steps, in_range_at, again, count_of-own, filter-insert-other, ne_eqb, cases_eq, all_remove)
 
 -- ## The last place goes over to the front of another block
 

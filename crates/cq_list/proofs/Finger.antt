@@ -47,8 +47,7 @@ module _ (places : List ℕ) (fingers : List Ahead) where
     pub fingers_more : (new : List Ahead) → AreFingers places fingers → n ≤ length places →
         AreShifted n 0 1 fingers new → AreFingers (insert places n x) new
     fingers_more new had inside moved k =
-        let kept = ends_kept places (had k) n x in
-        search (arith, rules, moved k, ends_later places (had k), kept, cases_lt n (finger_at fingers k).count)
+        search (arith, rules, moved k, ends_later places (had k), ends_kept places (had k), cases_lt n)
 
   pub fingers_less : (x : ℕ) (new : List Ahead) → AreFingers (x ∷ places) fingers → AreShifted 0 1 0 fingers new →
       AreFingers places new

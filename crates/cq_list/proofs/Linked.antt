@@ -43,8 +43,7 @@ module _ {old : Nodes} {j : ℕ} {queue : Queue} (had : IsLinked old j queue) (c
   module _ {new : Nodes} {k : ℕ} {ahead : Node} {c : Queued} (b : IsBehind old new a k ahead c) where
     pub chain_more : chain new (queue.len + 1) queue.first ≡ insert (linked old queue) count (k, c)
     chain_more =
-        let shown = node_ahead had.chained ends some b.here in
-        let next : count ≡ suc (count - 1) = omega arith in rw next (search (arith, rules, chain_behind b))
+        search (arith, rules, node_ahead had.chained ends, chain_behind b)
 
     pub others_stay : OthersStay j old new
     others_stay i node there ne =

@@ -8,8 +8,7 @@ returns-then-len-gt-LEAST_PLACES-clause-longer c = search (arith, rules, get_or_
 
 pub returns-then-many-le-HALF_PLACES : goal.returns-then-many-le-HALF_PLACES
 returns-then-many-le-HALF_PLACES c =
-    let inside : c.args.at + 1 < length c.args.blocks.now.items =
-    let inside = c.requires.inside in omega arith in
+    let inside : c.args.at + 1 < length c.args.blocks.now.items = omega (arith, c.requires.inside) in
     rw c.join_next.ensures.joined (search (rules, joined_in, filled_joined, spot_joined, longer_joined))
 
 pub returns-else-many-le-HALF_PLACES : goal.returns-else-many-le-HALF_PLACES

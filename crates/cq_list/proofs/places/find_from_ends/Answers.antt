@@ -18,10 +18,7 @@ met c = are_met _ _ c.each.invariant.ahead c.each.invariant.behind c.each.invari
 
 pub with_block-next-requires : goal.with_block-next-requires
 with_block-next-requires c =
-    let most = most (goal.at.with_block-next-requires c).Start in
-    let met = met (goal.at.with_block-next-requires c).In-Some in
-    let on = ahead_fits met.on in
-    record { fits = omega arith; few = omega arith }
+    let at = goal.at.with_block-next-requires c in search (arith, rules, most at.Start, met at.In-Some, ahead_fits)
 
 pub returns-then-number-next : goal.returns-then-number-next
 returns-then-number-next c =
@@ -36,24 +33,17 @@ without_block-back-requires c =
 
 pub nth_in-requires-then-back-number-clause-fits : goal.nth_in-requires-then-back-number-clause-fits
 nth_in-requires-then-back-number-clause-fits c =
-    let most = most (goal.at.nth_in-requires-then-back-number-clause-fits c).Start in
-    let met = met (goal.at.nth_in-requires-then-back-number-clause-fits c).In-Some in
-    let all = ahead_fits c.each.invariant.back in omega arith
+    let at = goal.at.nth_in-requires-then-back-number-clause-fits c in
+    search (arith, rules, most at.Start, met at.In-Some, ahead_fits)
 
 pub returns-then-back-number : goal.returns-then-back-number
 returns-then-back-number c =
     let met = met (goal.at.returns-then-back-number c).In-Some in
     let number = c.in-Some.ensures.steps.1 in
     let long : c.len.result ≡ length c.args.blocks.now.items = search (arith, rules) in
-    let left : length c.args.blocks.now.items - (c.each.first-iterator.count + 1) < length c.args.blocks.now.items =
-    omega arith in
-    let ahead : IsAhead c.args.blocks.now.items c.args.output
-    (length c.args.blocks.now.items - (c.each.first-iterator.count + 1)) c.without_block-back.result.places
-    c.without_block-back.result.own = record { all = omega arith; few = omega arith } in
-    let in_block : c.nth_in-then-back-number.result.1.block
-    ≡ length c.args.blocks.now.items - (c.each.first-iterator.count + 1) = omega arith in
-    let found = nth_found c.args.blocks.now.items _ left met.last ahead c.if-back-number.true (omega arith)
-    c.nth_in-then-back-number.ensures.place in_block c.nth_in-then-back-number.ensures.within in
+    let found = nth_found c.args.blocks.now.items _ (omega arith) met.last
+    (record { all = omega arith; few = omega arith }) c.if-back-number.true (omega arith)
+    c.nth_in-then-back-number.ensures.place (omega arith) c.nth_in-then-back-number.ensures.within in
     record { place = found.0; spot = found.1 }
 
 pub each-preserved : goal.each-preserved
@@ -65,6 +55,4 @@ pub unreachable-requires : goal.unreachable-requires
 unreachable-requires c =
     let left = both_left _ _ c.each.invariant.ahead c.each.invariant.behind c.each.invariant.back
     c.each.invariant.early in
-    let some = left.0 in
-    let more = left.1 in
-    ⊎_elim (λ e. let none = e.1.0 in omega arith) (λ e. let none = e.1.0 in omega arith) c.in-None.ensures.steps.0
+    search (arith, rules, left, c.in-None.ensures.steps)

@@ -18,5 +18,4 @@ returns-then-len-lt-MOST_PLACES c = search (arith, rules, get_or_read, length-in
 
 pub returns : goal.returns
 returns c =
-    let items = rw c.unwrap.ensures at c.insert-2.ensures.items in
-    search (arith, rules, get_or_read, insert_in, split_in, filled_split, c.insert-2.ensures.capacity)
+    search (arith, rules, get_or_read, insert_in, split_in, filled_split, c.insert-2.ensures)

@@ -8,9 +8,7 @@ index_mut-block-requires c = search (rules, (c.fill_up.ensures.spot _ _ c.requir
 
 pub remove-requires : goal.remove-requires
 remove-requires c =
-    let spot = c.fill_up.ensures.spot _ _ c.requires.spot in
-    let read = ap length (get_or_read c.fill_up.new.blocks.items _ _ spot.inside c.index_mut-block.ensures.value []) in
-    omega arith
+    let spot = c.fill_up.ensures.spot _ _ c.requires.spot in search (arith, rules, spot, get_or_read)
 
 pub returns : goal.returns
 returns c =

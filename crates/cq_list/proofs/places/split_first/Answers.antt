@@ -7,8 +7,4 @@ push_front_reserved-requires c = search (arith, rules, room_for_block)
 
 pub returns-clause-places : goal.returns-clause-places
 returns-clause-places c =
-    let others = concat c.args.others.now.items in
-    let parts = sym (append_assoc c.insert_and_split-back.new.block c.insert_and_split-back.result others)
-    ∙ ap (λ l. l ++ others) c.insert_and_split-back.ensures.whole
-    ∙ sym (insert-append_left c.args.first.now others c.args.place c.args.output (omega arith)) in
-    search (arith, rules, parts)
+    search (arith, rules, append_assoc, insert-append_left, c.insert_and_split-back.ensures)

@@ -10,8 +10,6 @@ pub returns : goal.returns
 returns c places place long had ends =
     let now = fingers_set places c.args.self.now c.args.ahead c.set.new.self had ends c.set.ensures in
     let lent = c.as_mut_slice.ensures.value in
-    let kept = c.shift.auto.fingers in
-    let many = ap length lent in
-    rw (refilled c.self.inside.fingers.items c.shift.new.fingers (omega arith))
+    rw (refilled c.self.inside.fingers.items c.shift.new.fingers (omega (arith, c.shift.auto.fingers, ap length lent)))
     (fingers_more places c.as_mut_slice.result.now c.args.ahead.count place c.shift.new.fingers
     (rw (lent ∙ c.self.view_is) now) (ends_inside places ends) c.shift.ensures)

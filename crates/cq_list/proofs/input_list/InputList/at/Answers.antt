@@ -5,8 +5,7 @@ use Rattle.cq_list.proofs.input_list.InputList.at.Goals as goal
 pub at-requires : goal.at-requires
 at-requires c =
     let there = shown c.self.invariant c.self.view_is c.args.place c.at-output.result c.at-output.ensures in
-    let queue = queue_of c.self.inside.pool.queues c.at-output.result in
-    subst (λ (k : ℕ). k < length queue) (sym c.count_ahead-ahead.ensures) (slice_get_within queue _ there.0 there.1)
+    search (arith, rules, slice_get_within, there)
 
 pub returns : goal.returns
 returns c =

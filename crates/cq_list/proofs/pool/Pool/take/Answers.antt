@@ -8,15 +8,13 @@ pub remove-node-requires : goal.remove-node-requires
 remove-node-requires c =
     let read = read_of c.self.invariant c.self.view_is (inside_some _ c.args.output 0 c.requires)
     c.index-queue.ensures in
-    let many = as_many read in
-    let requires = c.requires in ap is_some (head_there read.is_linked.chained (omega arith)).1
+    search (arith, rules, as_many read, head_there read.is_linked.chained)
 
 pub invariant_of-self : goal.invariant_of-self
 invariant_of-self c =
     let read = read_of c.self.invariant c.self.view_is (inside_some _ c.args.output 0 c.requires)
     c.index-queue.ensures in
-    let many = as_many read in
-    let some : 0 < c.index-queue.result.now.len = let some = c.requires in omega arith in
+    let some : 0 < c.index-queue.result.now.len = omega (arith, as_many read, c.requires) in
     let removed = c.remove-node.ensures in
     let fingers = fingers_read c.self.invariant read.inside c.index-queue.ensures c.index_mut-2.ensures.value in
     let less = links_less read.is_linked some removed.value removed.updates in
@@ -31,8 +29,7 @@ pub returns : goal.returns
 returns c =
     let read = read_of c.self.invariant c.self.view_is (inside_some _ c.args.output 0 c.requires)
     c.index-queue.ensures in
-    let many = as_many read in
-    let some : 0 < c.index-queue.result.now.len = let some = c.requires in omega arith in
+    let some : 0 < c.index-queue.result.now.len = omega (arith, as_many read, c.requires) in
     let removed = c.remove-node.ensures in
     let spare = ap (λ (v : PoolView). v.spare) c.self.view_is in
     let now = view_changed c.remove-node.new.self c.self.invariant read
