@@ -1,6 +1,6 @@
 -- How many cells for an output there are. An arrival brings one more, a transfer moves one from the inputs to the
 -- output's buffer, and a departure takes one away. So it is in each slot with stable matchings, whoever found them.
-use Rattle.cq_fabric.proofs.Terms.{rules, ◌≡◌, ℕ, zero, suc, ◌+◌, ◌≤◌, eqb, Bool, List, [], ◌∷◌, length, Option, Some, None, refl, ap, ⊎_elim, arith, common_steps, if◌then◌else◌, is_some, filter, insert, cond_both, length-drop, length-insert, Cell, Queued, arrival_at, place_of_arrival, is_for, first_for, without_first, put, Machine, list_of, HasCellFor, orders_of, output_order, list_taken, Partners, partner_of, IsMatching, IsStable, partner_or_free, length_put, Fabric, input, buffer, cushion_of, list_arrived, Transfers, SlotRecord, FabricSlot, came_cell, rest_of, Admission, Marked, admission, count_for, each_once, LimitedFabricSlot, LimitedRecord, fabric_held, waiting_for, held_for, is_output_order, admitted_at, get_or_past}
+use Rattle.cq_fabric.proofs.Terms.{rules, ◌≡◌, ℕ, zero, suc, ◌+◌, ◌≤◌, eqb, Bool, List, [], ◌∷◌, length, Option, Some, None, refl, ap, ⊎_elim, arith, common_steps, if◌then◌else◌, is_some, filter, insert, cond_both, length-drop, length-insert, Cell, Queued, arrival_at, place_of_arrival, is_for, first_for, without_first, put, Machine, list_of, HasCellFor, orders_of, output_order, list_taken, Partners, partner_of, IsMatching, IsStable, partner_or_free, length_put, Fabric, input, buffer, cushion_of, list_arrived, Transfers, SlotRecord, FabricSlot, came_cell, rest_of, Admission, Marked, admission, count_for, each_once, LimitedFabricSlot, LimitedRecord, fabric_held, waiting_for, held_for, is_output_order, admitted_at, get_or_past, drop}
 use Rattle.std.proofs.Math.ListN.{get_or-map}
 
 abbrev bit : Bool → ℕ
@@ -33,8 +33,7 @@ count_without j [] c h = absurd (let P : ⊥ = cc in P)
 count_without j (x ∷ xs) c h = grind (arith, common_steps, count_cons, cond_both, count_without j xs c)
 
 count_taken : (j : ℕ) (p : Option ℕ) (xs : List Queued) → count j (list_taken p xs) ≤ count j xs
-count_taken j None xs = omega arith
-count_taken j (Some k) xs = count_left j k xs
+count_taken j p xs = grind (arith, common_steps, count_left)
 
 -- ## Sums over the inputs
 
@@ -44,12 +43,9 @@ sum_comes : (j : ℕ) (new old : List (List Queued)) (cells : List (Option Cell)
     waiting_for j new ≤ waiting_for j old + count_for j cells
 sum_comes j [] old cells same each = omega arith
 sum_comes j (x ∷ new) [] cells same each = absurd (omega arith)
-sum_comes j (x ∷ new) (y ∷ old) [] same each =
-    let here = each zero in let rest = sum_comes j new old [] (omega arith) (λ i. each (suc i)) in omega arith
-sum_comes j (x ∷ new) (y ∷ old) (None ∷ cells) same each =
-    let here = each zero in let rest = sum_comes j new old cells (omega arith) (λ i. each (suc i)) in omega arith
-sum_comes j (x ∷ new) (y ∷ old) (Some c ∷ cells) same each =
-    let here = each zero in let rest = sum_comes j new old cells (omega arith) (λ i. each (suc i)) in omega arith
+sum_comes j (x ∷ new) (y ∷ old) cells same each =
+    let rest = sum_comes j new old (drop 1 cells) (omega arith) (λ i. grind (arith, common_steps, each (suc i))) in
+    grind (arith, common_steps, each zero)
 
 -- each list has no more than before
 sum_most : (j : ℕ) (new old : List (List Queued)) → length new ≡ length old →
@@ -83,9 +79,7 @@ length_left k (x ∷ xs) = grind (arith, common_steps, cond_both, length_left k 
 offered : (m : Partners) (f : Fabric) → IsMatching (orders_of f.inputs) m → (i j : ℕ) → partner_of m i ≡ Some j →
     HasCellFor (input f i) j
 offered m f matching i j p =
-    let none = [] in
-    ((is_output_order (input f i)).offered j).0
-    (rw (get_or-map output_order f.inputs i none) at (matching.offered i j p))
+    ((is_output_order (input f i)).offered j).0 (rw (get_or-map output_order f.inputs i []) at (matching.offered i j p))
 
 moved : (m : Partners) (old new : Fabric) → IsMatching (orders_of old.inputs) m → Transfers m old new → (j : ℕ) →
     held_for j new ≤ held_for j old
@@ -107,8 +101,7 @@ module _ (ms : List Machine) (slot : ℕ) (cells : List (Option Cell)) (f g : Fa
   outputs_kept j =
       let came = sum_comes j r.arrived.inputs f.inputs cells step.arrive.ports (λ i.
       let e = ap (count j) (step.arrive.lists i) in search (arith, rules, came_one, came_cell)) in
-      let first = moved r.first r.arrived r.filled step.first_chosen.matching step.fill j in
-      search (arith, rules, rest_of, length-drop, moved)
+      search (arith, rules, rest_of, length-drop, moved r.first r.arrived r.filled, moved)
 
 -- ## With limits
 

@@ -66,10 +66,9 @@ module _ {lists lists' : List Waiting} {o : Orders} {n cushion : ℕ} {c : Queue
   come_same m is_m =
       let partner : partner_of m n ≡ Some c.cell.output = search (arith, rules, get_or-set_same, length-replicate) in
       let size : length (cells_of lists') ≡ length (cells_of lists) = search (arith, rules, length-map, come.long) in
-      rw comes.offered (same_without m (cells_of lists) (cells_of lists') size (λ i. ⊎_elim
-      (λ is. rw is (same_but_arrival (partner_of m n) _ (list_of (cells_of lists') n) place c partner this_list))
-      (λ other. same_list (partner_of m i) _ _ (other_list i other)) (cases_eq i n))
-      (firsts_apart (cells_of lists) comes.waiting) come_differ)
+      let here = same_but_arrival (partner_of m n) _ (list_of (cells_of lists') n) place c partner this_list in
+      rw comes.offered (same_without m (cells_of lists) (cells_of lists') size (λ i. search
+      (rules, here, same_list, other_list, cases_eq i n)) (firsts_apart (cells_of lists) comes.waiting) come_differ)
 
   -- where a more urgent cell for its output waits there, the orders are all as before
   pub come_behind : key_before (first_key c.cell.output (list_at lists n).cells) (Some c.key) ≡ true →

@@ -117,8 +117,7 @@ module _ {ms : List Machine} {slot : ℕ} {q0 : Queues} {ranks0 : List (List ℕ
       module _ {m1 : Partners} {q2 : Queues} (moved1 : HaveMoved m1 q1 q2) where
         -- the first cell for an output at the input that is its partner
         crossing : HaveCells m1 q1.inputs
-        crossing = has_cell q1.inputs q1.buffers q1.from_inputs q1.to_outputs (orders_of q1.inputs) m1 can_cross_first
-            refl moved1.stable.matching
+        crossing = has_cell _ _ _ _ _ m1 can_cross_first refl moved1.stable.matching
 
         -- an output that sends a cell held one: it stood in its buffer, or crossed to it now
         sent_was_held : (j : ℕ) → 1 ≤ length (list_of q2.buffers j) →
@@ -174,5 +173,4 @@ module _ {ms : List Machine} {slot : ℕ} {q0 : Queues} {ranks0 : List (List ℕ
             is_slot = grind (arith, common_steps, arrive, fill, depart)
 
             pub alike : SendsAlike ms slot cells known.ideal (fronts q2.buffers) (fabric_of q4 ranks2)
-            alike = same_slot ms slot classes cells (fabric_of q0 ranks0) (fabric_of q4 ranks2) known.ideal recorded
-                known.agrees come is_slot
+            alike = same_slot ms slot classes cells _ _ known.ideal recorded known.agrees come is_slot

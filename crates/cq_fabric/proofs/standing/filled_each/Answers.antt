@@ -1,6 +1,5 @@
 use Rattle.cq_fabric.proofs.Terms.{rules, arith, List, get_or, subst, Queued, IsFilled}
 use Rattle.cq_fabric.proofs.Filling.{given_at, one_filled}
-use Rattle.cq_fabric.proofs.standing.filled_each.Given as given
 use Rattle.cq_fabric.proofs.standing.filled_each.Goals as goal
 
 pub fill-requires : goal.fill-requires
@@ -8,13 +7,11 @@ fill-requires g c = search (arith, rules, c.requires.can, given_at)
 
 pub places-preserved : goal.places-preserved
 places-preserved g c cells_at room_of number n fills =
-    let room = get_or c.args.rooms.now c.places.at 0 in
+    let given = given_at _ _ c.index-cells-at.is c.places-test.true c.requires.as_many c.as_slice.ensures in
+    let filled = fills (get_or c.args.rooms.now c.places.at 0) c.as_slice.result c.in_ok-item.item
+    (rw c.in_ok-item.was at c.fill.ensures) in
     one_filled c.in_ok-item.item (c.places.invariant cells_at room_of number n fills) c.in_ok-push.ensures.items
-    c.places-test.true c.requires.as_many
-    (subst (λ (cs : List Queued). IsFilled cells_at room_of number n cs room c.in_ok-item.item)
-    (given_at _ _ c.index-cells-at.is c.places-test.true c.requires.as_many c.as_slice.ensures)
-    (fills room c.as_slice.result c.in_ok-item.item
-    (subst (λ r. given.F-post g c.args.fill room c.as_slice.result r) c.in_ok-item.was c.fill.ensures)))
+    c.places-test.true c.requires.as_many (rw given at filled)
 
 pub returns : goal.returns
 returns g c cells_at room_of number n fills =

@@ -28,9 +28,7 @@ insert_each-requires c =
 
 pub invariant_of-self : goal.invariant_of-self
 invariant_of-self c =
-    let known = come c in
-    let square = arrived_square known in
-    search (arith, rules, whole, as_offered)
+    let square = arrived_square (come c) in search (arith, rules, whole, as_offered)
 
 pub returns-clause-lists : goal.returns-clause-lists
 returns-clause-lists c i = let arrived = arrived_cells (come c) i in search (arith, rules, whole)

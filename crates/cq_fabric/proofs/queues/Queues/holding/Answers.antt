@@ -27,15 +27,10 @@ buffers_filled c = c.in_ok-crossed.ensures (λ (b : Buffered). b.cells) buffer_r
 square : (c : In_ok-offers) →
     AreSquare c.in_ok-waiting.waiting.items c.in_ok-crossed.crossed.items (ports c.in_ok-offers.offers)
 square c =
-    let waiting = c.in_ok-waiting.waiting.items in
-    let crossed = c.in_ok-crossed.crossed.items in
-    let k = length c.args.from_inputs.now in
-    new_square waiting crossed (ports c.in_ok-offers.offers) k c.requires.few
-    (ap ports c.in_ok-offers.ensures ∙ length-replicate k []) (lists_filled c).numbers
-    (sym (length-map waiting (λ (w : Waiting). w.cells)) ∙ ap length (lists_filled c).cells
-    ∙ length-take-le k c.args.lists.now (omega arith))
-    (sym (length-map crossed (λ (b : Buffered). b.cells)) ∙ ap length (buffers_filled c).cells
-    ∙ length-take-le (length c.args.to_outputs.now) c.args.buffers.now (omega arith) ∙ c.requires.square)
+    let lists = lists_filled c in
+    let buffers = buffers_filled c in
+    let new = new_square c.in_ok-waiting.waiting.items c.in_ok-crossed.crossed.items (ports c.in_ok-offers.offers) in
+    search (arith, rules, new, length-replicate, length-map, length-take-le)
 
 pub fill-requires : goal.fill-requires
 fill-requires c = search (arith, rules, square (goal.at.fill-requires c).In_ok-offers)
@@ -43,10 +38,7 @@ fill-requires c = search (arith, rules, square (goal.at.fill-requires c).In_ok-o
 pub invariant_of-result : goal.invariant_of-result
 invariant_of-result c =
     let now = (goal.at.invariant_of-result c).In_ok-offers in
-    let offered = as_offered c.in_ok-waiting.waiting.items c.fill.new.self in
-    let whole = take_all (length c.args.to_outputs.now) c.args.to_outputs.now in
-    let room = get_or_default c.args.to_outputs.now in
-    search (arith, rules, square now, square, offered, buffers_filled now, whole, room, c.type_inv.to_outputs)
+    search (arith, rules, square now, as_offered, buffers_filled now, take_all, get_or_default, c.type_inv.to_outputs)
 
 pub returns : goal.returns
 returns c =

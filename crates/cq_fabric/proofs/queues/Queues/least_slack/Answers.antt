@@ -19,21 +19,18 @@ slack_there : (f : Fabric) (i p : ℕ) (c : Queued) → slice_get (input f i) p 
 unfolding slacks
 slack_there f i p c at =
     let cells = input f i in
-    let slack : ℕ × Queued → ℕ = λ t. cushion_of f t.1 - t.0 in
-    let read = get_or-map slack (enumerate_from 0 cells) p (0, c) 0 in
-    let here = get_or_from_slice_get cells p c c at in
-    search (arith, rules, slice_get_within, length-enumerate_from 0 cells, get_or-enumerate_from 0 cells p (0, c))
+    let read = get_or-map (λ (t : ℕ × Queued). cushion_of f t.1 - t.0) (enumerate_from 0 cells) p (0, c) 0 in
+    let item = get_or-enumerate_from 0 cells p (0, c) in
+    search (arith, rules, slice_get_within, length-enumerate_from, read, item, get_or_from_slice_get)
 
 -- one cell more is looked at
 looked_at : (f : Fabric) (i p slack : ℕ) (least more : Option ℕ) → least ≡ reduce min (take p (slacks f i)) →
     p < length (input f i) → ((c : Queued) → slice_get (input f i) p ≡ Some c → slack ≡ cushion_of f c - p) →
     more ≡ either_by min least (Some slack) → more ≡ reduce min (take (p + 1) (slacks f i))
 looked_at f i p slack least more so_far below each told =
-    let long = length-slacks f i in
-    let inside : p < length (slacks f i) = omega arith in
     ⊎_elim (λ x.
-    let is = each x.0 x.2 in
-    grind (arith, common_steps, slack_there f i p x.0 x.2, reduce_push, take_more (slacks f i) p 0 inside))
+    let more = take_more (slacks f i) p 0 in
+    grind (arith, common_steps, each x.0 x.2, slack_there f i p x.0 x.2, reduce_push, more, length-slacks))
     (λ past. absurd (omega arith)) (slice_get_cases (input f i) p).1
 
 pub index-requires : goal.index-requires
