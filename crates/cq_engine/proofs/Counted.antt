@@ -50,12 +50,12 @@ module _ (f : Fabric) (i : ℕ) (held : List ℕ) (so_far : HeldSoFar f i held) 
   pub cells_inside : ((k : ℕ) (c : Queued) → IsAmong c (input f k) → c.cell.output < length f.inputs) →
       All (λ c. c.cell.output < length held) cells
   cells_inside outputs k d within =
-      let there = has_there cells k (get_or cells k d) (slice_get-get_or cells k d within) in
-      search (arith, rules, outputs)
+      search (arith, rules, outputs, has_there cells k (get_or cells k d), slice_get-get_or)
 
   pub held_next : (new : List ℕ) → length new ≡ length held →
       ((j : ℕ) → j < length held → get_or new j 0 ≡ get_or held j 0 + number_for j cells) → HeldSoFar f (i + 1) new
   held_next new same counted = grind (arith, common_steps, next_waiting)
 
 pub held_last : (f : Fabric) (i : ℕ) (held : List ℕ) → HeldSoFar f i held → length f.inputs ≤ i → held ≡ fabric_held f
-held_last f i held so_far past = search (arith, rules, ext_get_or 0 held (fabric_held f), held_long, so_far.counts, take_all, held_at)
+held_last f i held so_far past = ext_get_or 0 held (fabric_held f) (so_far.ports ∙ sym (held_long f))
+    (λ j below. search (arith, rules, so_far.counts, take_all, held_at))

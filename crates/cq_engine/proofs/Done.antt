@@ -19,15 +19,13 @@ module _ (M : List ℕ → Machine) (fixed states : List (List ℕ)) (q : Queues
       SlotDone (map M v.fixed) slot cells v (seen fixed' states' q' l' y next' stopped) sent sent' note note'
   slot_done fixed' states' q' l' y next' {slot} {sent = sent} {sent' = sent'} {note = note} {note' = note'} done
       released left items spare =
-      let gone = ap (λ g. length (departures_in slot g)) done.gone in
-      let noted = ap length done.crossed in
       rw (← is) (record {
         record_of = record { admission = by_marks taken.marks cells; of_slot = done.of_slot };
         is_slot = search (arith, rules, admits_are);
         departed = rw done.gone left.items;
-        departed_room = omega arith;
+        departed_room = search (arith, rules);
         crossed = rw done.crossed items;
-        crossed_room = omega arith;
+        crossed_room = search (arith, rules);
         counted = done.figures;
         refused = released.judges.refused ∙ counted;
       })

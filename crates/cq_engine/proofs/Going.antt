@@ -2,8 +2,9 @@
 -- in lists and buffers of their rooms: no two cells of a list have one key, since no two places have. By the law on
 -- sound fabrics it is in step with the ideal switch of its cells. Of the slacks nothing is claimed, since the first
 -- slot looks at all of them.
-use Rattle.cq_engine.proofs.Terms.{rules, ◌≡◌, ◌≢◌, ℕ, zero, suc, ◌<◌, List, [], ◌∷◌, length, Option, Some, refl, arith, common_steps, slice_get, Queued, Figures, InputFigures, OutputFigures, EachPair, KeysDiffer, LimiterView, Machine, AreForOneSwitch, Fabric, input, fabric_in, fabric_held, Queues, fabric_of, CanGoOn, IsRunning, all_by, NoKeyTwice, Waiting, Frozen, agrees_of, CanHold, all_from_has}
+use Rattle.cq_engine.proofs.Terms.{rules, ◌≡◌, ◌≢◌, ℕ, zero, suc, ◌<◌, List, [], ◌∷◌, length, Option, Some, refl, arith, common_steps, slice_get, Queued, Figures, InputFigures, OutputFigures, EachPair, KeysDiffer, LimiterView, Machine, AreForOneSwitch, Fabric, input, fabric_in, fabric_held, Queues, fabric_of, CanGoOn, IsRunning, NoKeyTwice, Waiting, Frozen, agrees_of, CanHold, all_from_has, slice_get-get_or}
 use Rattle.cq_engine.specs.declared.measure.Look.TheVariants as look
+use Rattle.cq_base.proofs.Pooled.{each_pair}
 
 -- ## The same, part by part
 
@@ -18,19 +19,12 @@ same_frozen a b e1 e2 e3 e4 e5 e6 e7 = grind (arith, common_steps)
 
 -- ## What waits in lists and buffers
 
-pairs_by : (R : Queued → Queued → Type 0) (xs : List Queued) →
-    ((s t : ℕ) (a b : Queued) → slice_get xs s ≡ Some a → slice_get xs t ≡ Some b → s < t → R a b) → EachPair R xs
-pairs_by R [] each = tt
-pairs_by R (x ∷ xs) each = (
-  all_by (R x) xs (λ t c at. each zero (suc t) x c refl at (omega arith)),
-  pairs_by R xs (λ s t a b u v l. each (suc s) (suc t) a b u v (omega arith)),
-)
-
 place_same : (i s t : ℕ) → Waiting i s ≡ Waiting i t → s ≡ t
 place_same i s t e = cc
 
 keys_differ : (f : Fabric) (i : ℕ) → NoKeyTwice f → KeysDiffer (input f i)
-keys_differ f i differ = pairs_by _ (input f i) (λ s t a b u v l e. search (arith, rules, place_same i s t, differ (Waiting i s) (Waiting i t) a b))
+keys_differ f i differ = each_pair _ (input f i) (λ s t d l inside e.
+    search (arith, rules, place_same i s t, differ (Waiting i s) (Waiting i t), slice_get-get_or))
 
 pub can_hold : (ms : List Machine) (limits : List (Option ℕ)) (from to : List ℕ) (x : Frozen) →
     CanGoOn ms limits from to x → CanHold from to x.lists x.buffers

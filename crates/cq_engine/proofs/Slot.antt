@@ -116,9 +116,8 @@ module _ {ms : List Machine} {slot : ℕ} {q0 : Queues} {ranks0 : List (List ℕ
     unfolding slack_on_arrival slacks
     slack_told look.All seen i y at = refl
     slack_told look.Arriving seen i y at =
-        let same = by_arrivals ms slot classes cells (fabric_of q0 ranks0) (fabric_of q4 ranks2) known.ideal of_slot
-        known.agrees (come known) stable x seen i in
-        search (rules, told_slack i)
+        let same = by_arrivals ms slot classes cells _ _ known.ideal of_slot known.agrees (come known) stable x in
+        search (rules, told_slack i, same)
 
     input_told : (looks : Look) → IsSeen looks x (fabric_of q0 ranks0) → (i : ℕ) (y : InputFigures) →
         slice_get x.inputs i ≡ Some y → input_counted looks q1 i (came_to came i) y ≡ input_after of_slot i y

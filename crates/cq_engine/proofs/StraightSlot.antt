@@ -64,10 +64,9 @@ no_cell lists empty i = grind (arith, common_steps, get_or_past, cases_lt)
 rests_alone : (buffers : List (List Queued)) (gone : List (Option Queued)) → length gone ≡ length buffers →
     All (λ cells. cells ≡ []) buffers → buffers ≡ rests (map alone gone)
 rests_alone buffers gone long empty =
-    let nil = [] in
-    let rest = get_or-map {B = List Queued} (λ xs. drop 1 xs) (map alone gone) in
-    ext_get_or nil buffers (rests (map alone gone)) (grind (arith, common_steps, length-map)) (λ j below.
-    search (rules, no_cell buffers empty, rest j nil, get_or-map alone gone j None))
+    ext_get_or [] buffers (rests (map alone gone)) (grind (arith, common_steps, length-map)) (λ j below.
+    let rest = get_or-map {B = List Queued} (λ xs. drop 1 xs) (map alone gone) j [] in
+    search (rules, no_cell buffers empty, rest, get_or-map alone gone j None))
 
 -- ## What is noted, input by input
 
@@ -268,8 +267,7 @@ module _ {ms : List Machine} {slot : ℕ} {q : Queues} {ranks0 : List (List ℕ)
       Whole ms slot cells x y (fabric_of q ranks0) (fabric_of q ranks2) known.ideal gone (crossings slot n came)
   whole_straight room x up looks seen ranks2 told y counts =
       let fronts_are = fronts_alone gone in
-      let notes : transfers_of pairs lists slot 1 ++ transfers_of nobody q.inputs slot 2 ≡ crossings slot n came =
-      rw (nothing_noted (ports (orders_of q.inputs)) q.inputs slot 2, append-nil) all_noted in
+      let none = nothing_noted (ports (orders_of q.inputs)) q.inputs slot 2 in
       let long = whole_slot x up known arrived room crossed (sent ranks2 told) crossed_again looks seen y
       (search (arith, rules, counted_passed looks x.inputs)) in
-      rw (fronts_are, notes) at long
+      rw (fronts_are, none, append-nil, all_noted) at long

@@ -15,9 +15,7 @@ output_counted-counted-requires c = still_few c.outputs.invariant (λ (y : Outpu
 
 pub outputs-preserved : goal.outputs-preserved
 outputs-preserved c =
-    let changed = next_changed c.outputs.invariant none in
-    let kept = next_kept c.outputs.invariant none in
-    search (arith, rules, changed, kept, nothing_counted)
+    search (arith, rules, next_changed, next_kept c.outputs.invariant none, nothing_counted)
 
 pub returns : goal.returns
 returns c = all_changed c.outputs.invariant (omega arith)

@@ -10,9 +10,7 @@ input_passed-counted-requires c =
 
 pub inputs-preserved : goal.inputs-preserved
 inputs-preserved c =
-    let changed = next_changed c.inputs.invariant none in
-    let kept = next_kept c.inputs.invariant none in
-    search (arith, rules, changed, kept)
+    search (arith, rules, next_changed, next_kept c.inputs.invariant none)
 
 pub returns : goal.returns
 returns c = all_changed c.inputs.invariant (omega arith)

@@ -26,13 +26,9 @@ module _ (inputs outputs : ℕ) (came gone : List (Option Queued)) (sent : AreSe
   sent_more : (c : Queued) → came_to came inputs ≡ Some c → came_to gone c.cell.output ≡ None →
       c.cell.output < length gone → AreSent (inputs + 1) outputs came (slice_set gone c.cell.output (Some c))
   sent_more c at free inside =
-      let none : Option Queued = None in
-      let other = get_or-set_other gone c.cell.output in
-      let here = get_or-set_same gone c.cell.output in
       record {
         each = search (arith, rules, get_or-set_other, not_for, same_Some, get_or-set_same, cases_lt);
-        only = λ j d j_in there.
-            grind (arith, common_steps, other j, here, sent.only j d j_in);
+        only = λ j d j_in there. grind (arith, common_steps, get_or-set_other, get_or-set_same, sent.only j d j_in);
       }
 
   sent_past : came_to came inputs ≡ None → AreSent (inputs + 1) outputs came gone
@@ -50,10 +46,9 @@ pub returns-then-is_some-clause-apart : goal.returns-then-is_some-clause-apart
 returns-then-is_some-clause-apart c =
     let queued = c.in-Some.queued in
     let there = some_of (came_to c.inputs.gone queued.cell.output) (search (arith, rules)) in
-    let at = sym c.at.ensures ∙ c.in-Some.is in
     let never = not_apart c.inputs.input c.args.ports c.args.came.now c.inputs.gone c.inputs.invariant.sent
-    c.args.ports queued there.0 at there.1 (c.requires.outputs c.inputs.input queued at) c.inputs-test.true in
-    (λ no. absurd (let P : ⊥ = cc no in P), λ apart. absurd (never apart))
+    c.args.ports queued there.0 in
+    (λ no. cc no, search (arith, rules, never, there, c.requires.outputs))
 
 pub inputs-preserved : goal.inputs-preserved
 inputs-preserved c =
