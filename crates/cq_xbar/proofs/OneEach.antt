@@ -1,7 +1,7 @@
 -- At most one cell leaves each list and at most one comes to each buffer: a list loses its first cell for its partner
 -- or nothing, and a buffer has a partner's cell put in or is as before. And two transfers of one input, or of one
 -- output, are of one input, so they are one.
-use Rattle.cq_xbar.proofs.Terms.{common_steps, rules, ◌≡◌, ℕ, zero, suc, ◌+◌, ◌<◌, ◌⊎◌, inl, inr, false, List, [], ◌∷◌, length, map, Option, Some, None, refl, ap, ◌∙◌, ⊎_elim, arith, nat_eq, range_with_len, filter_map, AllByRecursion, IsDistinct, cond_both, cases_Bool, cases_eq, eqb-true, Queued, Transfer, without_first, list_of, Moves, list_taken, noted, transfers_of, Partners, partner_of, ArePairs, IsFreeOutput, HaveCells, IsSameOrNext, MovesOneEach, NotesOneEach, length_put}
+use Rattle.cq_xbar.proofs.Terms.{common_steps, rules, ◌≡◌, ℕ, zero, suc, ◌+◌, ◌<◌, ◌⊎◌, inl, inr, false, List, [], ◌∷◌, length, map, Option, Some, refl, ⊎_elim, arith, nat_eq, range_with_len, filter_map, AllByRecursion, IsDistinct, cond_both, cases_Bool, eqb-true, Queued, Transfer, without_first, Moves, list_taken, noted, transfers_of, Partners, partner_of, ArePairs, IsFreeOutput, HaveCells, IsSameOrNext, MovesOneEach, NotesOneEach, length_put}
 
 -- ## Cells
 
@@ -19,12 +19,10 @@ partner_or_free (p ∷ m) j = ⊎_elim (λ r. inl (suc r.0, r.1))
     (λ free. ⊎_elim (λ e. inl (zero, e)) (λ ne. inr (at_none p ne free)) (first p)) (partner_or_free m j)
   where
     first : (q : Option ℕ) → (q ≡ Some j) ⊎ (q ≡ Some j → ⊥)
-    first None = inr (λ e. cc)
-    first (Some k) = grind (arith, common_steps, cases_eq k j)
+    first q = grind (arith, common_steps)
 
     at_none : (q : Option ℕ) → (q ≡ Some j → ⊥) → IsFreeOutput m j → IsFreeOutput (q ∷ m) j
-    at_none q ne free zero e = ne e
-    at_none q ne free (suc i) e = free i e
+    at_none q ne free i e = search (rules, ne, free)
 
 pub moves_one_each : (m : Partners) (lists buffers lists' buffers' : List (List Queued)) → HaveCells m lists →
     Moves m lists buffers lists' buffers' → MovesOneEach lists buffers lists' buffers'

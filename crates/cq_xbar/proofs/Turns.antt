@@ -1,7 +1,7 @@
 -- The transfer of a matching, input by input. Once the inputs below n had their turn, their lists are without their
 -- first cells for their partners, the buffers of these partners have the cells, and all else is as before. No output
 -- has two partners, so the buffer that the next cell comes to is as before.
-use Rattle.cq_xbar.proofs.Terms.{common_steps, rules, ◌≡◌, ◌≢◌, ℕ, ◌+◌, ◌-◌, ◌<◌, ◌≤◌, cond, List, [], length, map, get_or, set, Option, Some, None, refl, sym, ap, ◌∙◌, subst, arith, is_some, cases_lt, same_Some, length-map, length-set, get_or_past, get_or-set_same, get_or-set_other, get_or_default, ext_get_or, Queued, HasOtherKey, put, first_for, without_first, Waiting, cells_of, Buffered, cells_in, list_of, HasCellFor, Moves, Partners, partner_of, ArePairs, HaveCells, KeysAreNew, HaveRoom, MovesRoom, list_spare, buffer_spare}
+use Rattle.cq_xbar.proofs.Terms.{common_steps, rules, ◌≡◌, ◌≢◌, ℕ, ◌+◌, ◌-◌, ◌<◌, ◌≤◌, cond, List, [], length, map, get_or, set, Option, Some, None, ◌∙◌, subst, arith, is_some, cases_lt, same_Some, length-map, length-set, get_or_past, get_or-set_same, get_or-set_other, get_or_default, ext_get_or, Queued, HasOtherKey, put, first_for, without_first, Waiting, cells_of, Buffered, cells_in, list_of, HasCellFor, Moves, Partners, partner_of, ArePairs, HaveCells, KeysAreNew, HaveRoom, MovesRoom, list_spare, buffer_spare}
 use Rattle.std.proofs.Math.ListN.{get_or-map}
 
 -- ## The lists and the buffers
@@ -40,11 +40,6 @@ list_spare-at lists i = get_or-map (λ (w : Waiting). w.spare) lists i no_list
 
 buffer_spare-at : (buffers : List Buffered) (j : ℕ) → buffer_spare buffers j ≡ (buffer_at buffers j).spare
 buffer_spare-at buffers j = get_or-map (λ (b : Buffered). b.spare) buffers j no_buffer
-
--- an input with a partner has a cell for it
-cell_there : (m : Partners) (lists : List Waiting) (n j : ℕ) → HaveCells m (cells_of lists) →
-    partner_of m n ≡ Some j → HasCellFor (list_at lists n).cells j
-cell_there m lists n j have p = let found = have n j p in (found.0, ap (first_for j) (sym (cells-at lists n)) ∙ found.1)
 
 -- ## Input by input
 
@@ -119,14 +114,6 @@ module _ {m : Partners} {lists : List Waiting} {buffers : List Buffered} {n : �
 
 -- ## After the last input
 
--- who has a partner is an input
-partner_inside : (m : Partners) (i j : ℕ) → partner_of m i ≡ Some j → i < length m
-partner_inside m i j p = grind (arith, common_steps, get_or_past, cases_lt)
-
-outputs_left : (p : Option ℕ) (w : Waiting) → (list_left p w).outputs ≡ w.outputs
-outputs_left None w = refl
-outputs_left (Some j) w = refl
-
 module _ {m : Partners} {lists : List Waiting} {buffers : List Buffered} {lists' : List Waiting}
     {buffers' : List Buffered} {n : ℕ} (until : Crossed m lists buffers n lists' buffers') (end : n ≡ length m) where
   x : Crossed m lists buffers (length m) lists' buffers'
@@ -136,15 +123,15 @@ module _ {m : Partners} {lists : List Waiting} {buffers : List Buffered} {lists'
   taken_at i = grind (arith, common_steps, get_or_past, cases_lt)
 
   pub crossed_moves : Moves m (cells_of lists) (cells_in buffers) (cells_of lists') (cells_in buffers')
-  crossed_moves = search (arith, rules, length-map, cells-at, taken_at, cells_in-at, partner_inside)
+  crossed_moves = search (arith, rules, length-map, cells-at, taken_at, cells_in-at, get_or_past)
 
   pub crossed_room : HaveCells m (cells_of lists) → HaveRoom m buffers → MovesRoom m lists buffers lists' buffers'
   crossed_room have room =
       record {
         gained = λ i. grind (arith, common_steps, list_spare-at, taken_at i);
         lost = λ i j p.
-            let cell = cell_there m lists i j have p in
-            grind (arith, common_steps, room i j p, buffer_spare-at, x.given i j cell.0 (partner_inside m i j p) p);
+            let given = x.given i j (have i j p).0 in
+            grind (arith, common_steps, room i j p, have i j p, cells-at, buffer_spare-at, given, get_or_past);
         kept = search (arith, rules, buffer_spare-at);
       }
 
@@ -152,4 +139,4 @@ module _ {m : Partners} {lists : List Waiting} {buffers : List Buffered} {lists'
   crossed_outputs =
       let out : Waiting → ℕ = λ w. w.outputs in
       ext_get_or 0 (map out lists') (map out lists) (search (rules, length-map)) (λ i l.
-      search (rules, get_or-map out lists' i no_list, get_or-map out lists i no_list, taken_at i, outputs_left))
+      grind (arith, common_steps, get_or-map out lists' i no_list, get_or-map out lists i no_list, taken_at i))

@@ -1,4 +1,4 @@
-use Rattle.cq_xbar.proofs.Terms.{rules, ◌∙◌, ◌≡◌, ◌<◌, length, refl, sym, subst, arith, IsSome, append-nil, append_assoc, length-append, cells_of, transfers_of}
+use Rattle.cq_xbar.proofs.Terms.{rules, ◌∙◌, ◌≡◌, ◌<◌, length, sym, arith, append-nil, append_assoc, length-append, cells_of, transfers_of}
 use Rattle.cq_xbar.proofs.Turns.{crossed_none, crossed_past, crossed_more, first_crosses, cell_next, room_next, key_next, crossed_moves, crossed_room, crossed_outputs}
 use Rattle.cq_xbar.proofs.Noting.{kept_few, noted_one, noted_past}
 use Rattle.cq_xbar.proofs.crossing.transfer.Goals as goal
@@ -9,10 +9,7 @@ loop-input-init c = search (arith, rules, crossed_none, append-nil, c.args.note.
 
 pub unwrap-queued-requires : goal.unwrap-queued-requires
 unwrap-queued-requires c =
-    let p = sym c.partner_of.ensures.partner ∙ c.in-Some.is in
-    let cell = cell_next c.loop-input.invariant.crossed c.in-Some.output c.index-lists-input.result c.requires.cells p
-    (omega arith) in
-    subst IsSome (sym (c.take.ensures.first ∙ cell.1)) refl
+    search (arith, rules, cell_next c.loop-input.invariant.crossed c.in-Some.output c.index-lists-input.result)
 
 pub put-requires-clause-spare : goal.put-requires-clause-spare
 put-requires-clause-spare c = search (arith, rules, room_next)
@@ -35,14 +32,12 @@ loop-input-preserved c =
           let q = w.unwrap-queued.result in
           let p = sym c.partner_of.ensures.partner ∙ w.in-Some.is in
           let inside : n < length c.args.lists.now = omega arith in
+          let crossed = crossed_more inv.crossed j w.index-buffers-output.result pairs p c.requires.buffers
+          w.index-lists-input.result _ q inside w.take.ensures.first w.unwrap-queued.ensures in
           let found = first_crosses inv.crossed j w.index-buffers-output.result pairs p c.requires.buffers
           w.index-lists-input.result _ q inside w.take.ensures.first w.unwrap-queued.ensures in
-          let crossed = crossed_more inv.crossed j w.index-buffers-output.result pairs p c.requires.buffers
-          w.index-lists-input.result _ q inside w.take.ensures.first w.unwrap-queued.ensures w.take.new.self
-          w.put.new.self w.take.ensures.cells w.take.ensures.outputs w.take.ensures.spare w.put.ensures.cells
-          w.put.ensures.spare in
           let one = noted_one c.args.matching.now lists c.args.slot c.args.phase n j q p found in
-          rw (w.lists-is, w.buffers-is, w.note-is) (search (arith, rules, append_assoc, length-append))
+          rw (w.lists-is, w.buffers-is, w.note-is) (search (arith, rules, crossed, append_assoc, length-append))
       | in_default w ↦
           let none = sym c.partner_of.ensures.partner ∙ w.in_default.is in
           let past = noted_past c.args.matching.now lists c.args.slot c.args.phase n none in
@@ -54,7 +49,4 @@ unfolding transfers_of
 returns c =
     let crossed = c.loop-input.invariant.crossed in
     let end : c.loop-input.input ≡ length c.args.matching.now = omega arith in
-    let moves = crossed_moves crossed end in
-    let room = crossed_room crossed end c.requires.cells c.requires.room in
-    let outputs = crossed_outputs crossed end in
-    search (arith, rules)
+    search (arith, rules, crossed_moves crossed end, crossed_room crossed end, crossed_outputs crossed end)

@@ -16,9 +16,8 @@ insert-requires-clause-room c =
 pub invariant_of-self : goal.invariant_of-self
 invariant_of-self c =
     let w = kept c.self.invariant.0 c.self.view_is in
-    let k = changed w c.args.block c.requires.block c.number_at-number.ensures c.insert.new.self _
-    (count_first c.args.self.now.blocks _ c.args.block _ (as_many_counts w) c.if-block-eq0.true) in
-    (k.placed, omega (arith, length-set {A = List Queued}))
+    let first = count_first c.args.self.now.blocks c.insert.new.self c.args.block _ (as_many_counts w) in
+    search (arith, rules, changed w c.args.block, first, length-set)
 
 pub returns-then-block-eq0-clause-blocks : goal.returns-then-block-eq0-clause-blocks
 returns-then-block-eq0-clause-blocks c =
