@@ -1,5 +1,5 @@
 -- Lists that are new up to a place, and old from it on.
-use Rattle.cq_fabric.proofs.Terms.{common_steps, rules, ◌≡◌, ℕ, ◌+◌, ◌<◌, ◌≤◌, List, length, map, get_or, set, drop, Some, ap, ◌∙◌, arith, slice_get, enumerate_from, length-enumerate_from, get_or-enumerate_from, slice_get-get_or, at_end, at_place, changed_to, next_place, drop-drop, drop-set-lt, get_or-map, length-map, length-set, set-get_or}
+use Rattle.cq_fabric.proofs.Terms.{common_steps, rules, ◌≡◌, ℕ, ◌+◌, ◌<◌, ◌≤◌, List, length, map, get_or, set, drop, Some, ◌∙◌, arith, slice_get, enumerate_from, length-enumerate_from, get_or-enumerate_from, slice_get-get_or, at_end, at_place, changed_to, next_place, drop-drop, drop-set-lt, get_or-map, length-map, length-set, set-get_or}
 
 -- one item more is written, and those behind it are as they were
 pub still_behind : {X : Type 0} (now old : List X) (j : ℕ) (y : X) → drop j now ≡ drop j old →

@@ -1,7 +1,7 @@
 -- Cells that come into an empty list or an empty buffer in the order in which they are to stand. Each finds those
 -- ahead of it alone: in a list all more urgent cells for its output stand there, and no less urgent one, so that it
 -- goes in at the end; in a buffer all have lesser keys.
-use Rattle.cq_fabric.proofs.Terms.{rules, ◌≡◌, ◌≢◌, ℕ, zero, suc, ◌+◌, ◌<◌, ◌≤◌, false, List, [], ◌∷◌, ◌++◌, length, map, get_or, take, refl, ap, ◌∙◌, arith, common_steps, ◌&&◌, AllByRecursion, and_left, and_right, cases_Bool, eqb-true, drop_all, get_or-map, get_or_read, length-map, length-take-le, take_all, take_more, All-from_recursion, Queued, is_before, EachPair, HasOtherKey, IsBefore, IsRising, MoreUrgentAhead, is_for, place_of_later, put, with_arrival, key_laws, ahead_of_end, first_later, Waiting, list_of, map_next, map_same, take_next, not_before_itself, AreFilled, IsFilled}
+use Rattle.cq_fabric.proofs.Terms.{rules, ◌≡◌, ◌≢◌, ℕ, zero, suc, ◌+◌, ◌<◌, ◌≤◌, List, [], ◌∷◌, ◌++◌, length, map, get_or, take, refl, ap, ◌∙◌, arith, common_steps, AllByRecursion, eqb-true, drop_all, get_or-map, get_or_read, length-map, length-take-le, take_all, take_more, All-from_recursion, Queued, EachPair, HasOtherKey, IsBefore, IsRising, MoreUrgentAhead, place_of_later, put, with_arrival, key_laws, ahead_of_end, first_later, Waiting, list_of, map_next, map_same, take_next, not_before_itself, AreFilled, IsFilled}
 use Rattle.cq_fabric.specs.Holding.{CanWait}
 
 -- ## A cell behind those that stand before its place

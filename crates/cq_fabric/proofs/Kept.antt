@@ -1,6 +1,6 @@
 -- How many cells for an output there are. An arrival brings one more, a transfer moves one from the inputs to the
 -- output's buffer, and a departure takes one away. So it is in each slot with stable matchings, whoever found them.
-use Rattle.cq_fabric.proofs.Terms.{rules, ◌≡◌, ℕ, zero, suc, ◌+◌, ◌≤◌, eqb, Bool, List, [], ◌∷◌, length, Option, Some, None, refl, ap, ⊎_elim, arith, common_steps, if◌then◌else◌, is_some, filter, insert, cond_both, length-drop, length-insert, Cell, Queued, arrival_at, place_of_arrival, is_for, first_for, without_first, put, Machine, list_of, HasCellFor, orders_of, output_order, list_taken, Partners, partner_of, IsMatching, IsStable, partner_or_free, length_put, Fabric, input, buffer, cushion_of, list_arrived, Transfers, SlotRecord, FabricSlot, came_cell, rest_of, Admission, Marked, admission, count_for, each_once, LimitedFabricSlot, LimitedRecord, fabric_held, waiting_for, held_for, is_output_order, admitted_at, get_or_past, drop}
+use Rattle.cq_fabric.proofs.Terms.{rules, ◌≡◌, ℕ, zero, suc, ◌+◌, ◌≤◌, eqb, Bool, List, [], ◌∷◌, length, Option, Some, None, refl, ap, ⊎_elim, arith, common_steps, if◌then◌else◌, is_some, filter, insert, cond_both, length-drop, length-insert, Cell, Queued, arrival_at, is_for, first_for, without_first, Machine, list_of, HasCellFor, orders_of, output_order, list_taken, Partners, partner_of, IsMatching, IsStable, partner_or_free, length_put, Fabric, input, buffer, list_arrived, Transfers, SlotRecord, FabricSlot, came_cell, rest_of, Marked, admission, count_for, each_once, LimitedFabricSlot, LimitedRecord, waiting_for, held_for, is_output_order, admitted_at, get_or_past, drop}
 use Rattle.std.proofs.Math.ListN.{get_or-map}
 
 abbrev bit : Bool → ℕ

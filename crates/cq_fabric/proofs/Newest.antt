@@ -1,6 +1,6 @@
 -- The cell that arrived last in a list. All others arrived in slots before, so its slot finds it; and the cells for its
 -- output that stand ahead of it are more urgent, so its key finds it too.
-use Rattle.cq_fabric.proofs.Terms.{common_steps, rules, ◌≡◌, ◌≢◌, ℕ, zero, suc, ◌<◌, ◌≤◌, eqb, Bool, true, false, not, List, [], ◌∷◌, length, Some, refl, arith, ◌&&◌, insert, slice_get, position_or_len, eq-eqb, ne_eqb, cases_eq, same_Some, Queued, is_before, KeepsOrder, ArrivedBefore, is_for, place_of_arrival, with_arrival, key_laws, all_at, first_here, first_later, IsNewest}
+use Rattle.cq_fabric.proofs.Terms.{common_steps, rules, ◌≡◌, ℕ, zero, suc, ◌<◌, ◌≤◌, eqb, Bool, true, false, not, List, [], ◌∷◌, length, Some, arith, ◌&&◌, insert, slice_get, position_or_len, eq-eqb, ne_eqb, cases_eq, same_Some, Queued, is_before, KeepsOrder, ArrivedBefore, is_for, place_of_arrival, with_arrival, key_laws, all_at, first_here, first_later, IsNewest}
 
 -- an older cell ahead
 newest_later : (y c : Queued) (xs : List Queued) → y.key.slot < c.key.slot → IsNewest c xs → IsNewest c (y ∷ xs)

@@ -1,5 +1,5 @@
 -- How many cells buffers can hold: so many that a number of 64 bits counts them.
-use Rattle.cq_fabric.proofs.Terms.{common_steps, ◌≡◌, ℕ, ◌+◌, ◌^◌, ◌<◌, List, [], ◌∷◌, ◌++◌, length, map, get_or, take, replicate, arith, ap, All, cases_lt, get_or_past, take_more, All-push, map_next, map_same, Buffered, cells_in, buffer_room, Queued}
+use Rattle.cq_fabric.proofs.Terms.{common_steps, ◌≡◌, ℕ, ◌+◌, ◌^◌, ◌<◌, List, [], ◌∷◌, ◌++◌, length, map, get_or, take, replicate, arith, All, cases_lt, get_or_past, take_more, All-push, map_next, map_same, Buffered, cells_in, buffer_room}
 
 pub rooms_fit : (rooms : List ℕ) → All (λ room. room < 2 ^ 64) rooms → (j : ℕ) → get_or rooms j 0 < 2 ^ 64
 rooms_fit rooms all j = grind (arith, common_steps, get_or_past, cases_lt)

@@ -1,4 +1,4 @@
-use Rattle.cq_fabric.proofs.Terms.{rules, arith, List, get_or, subst, Queued, IsFilled}
+use Rattle.cq_fabric.proofs.Terms.{rules, arith, get_or}
 use Rattle.cq_fabric.proofs.Filling.{given_at, one_filled}
 use Rattle.cq_fabric.proofs.standing.filled_each.Goals as goal
 

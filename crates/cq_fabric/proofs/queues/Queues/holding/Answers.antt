@@ -1,4 +1,4 @@
-use Rattle.cq_fabric.proofs.Terms.{arith, rules, [], length, sym, ap, ◌∙◌, get_or_default, length-map, length-replicate, length-take-le, take_all, Waiting, Buffered, ports, AreSquare, buffer_room, list_room, AreFilled}
+use Rattle.cq_fabric.proofs.Terms.{arith, rules, length, get_or_default, length-map, length-replicate, length-take-le, take_all, Waiting, Buffered, ports, AreSquare, buffer_room, list_room, AreFilled}
 use Rattle.cq_fabric.proofs.Queued.{new_square}
 use Rattle.cq_fabric.proofs.Offered.{as_offered}
 use Rattle.cq_fabric.proofs.queues.Queues.holding.Goals as goal
