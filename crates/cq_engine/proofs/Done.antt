@@ -1,5 +1,5 @@
 -- A slot that is done, as clauses see it: what is seen of the parts of the engine before it and after it.
-use Rattle.cq_engine.proofs.Terms.{rules, ◌≡◌, ◌+◌, ◌++◌, ℕ, Bool, List, Option, length, map, ap, ◌∙◌, arith, RoomView, Cell, Queued, Transfer, Figures, Machine, admitted, marks_after, refused, HaveLeft, IdealState, departures_in, LimiterView, HoldsFabric, Queues, fabric_of, admits_are, EngineView, SlotDone, Departure, with_refused, by_marks, HasReleased}
+use Rattle.cq_engine.proofs.Terms.{rules, ◌≡◌, ◌+◌, ◌++◌, ℕ, Bool, List, Option, length, map, ◌∙◌, arith, RoomView, Cell, Queued, Transfer, Figures, Machine, admitted, marks_after, refused, HaveLeft, IdealState, LimiterView, HoldsFabric, Queues, fabric_of, admits_are, EngineView, SlotDone, Departure, with_refused, by_marks, HasReleased}
 use Rattle.cq_engine.proofs.Shown.{seen}
 use Rattle.cq_engine.proofs.Slot.{Whole}
 

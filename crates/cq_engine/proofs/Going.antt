@@ -2,7 +2,7 @@
 -- in lists and buffers of their rooms: no two cells of a list have one key, since no two places have. By the law on
 -- sound fabrics it is in step with the ideal switch of its cells. Of the slacks nothing is claimed, since the first
 -- slot looks at all of them.
-use Rattle.cq_engine.proofs.Terms.{rules, ◌≡◌, ◌≢◌, ℕ, zero, suc, ◌<◌, List, [], ◌∷◌, length, Option, Some, refl, arith, common_steps, slice_get, Queued, Figures, InputFigures, OutputFigures, EachPair, KeysDiffer, LimiterView, Machine, AreForOneSwitch, Fabric, input, fabric_in, fabric_held, Queues, fabric_of, CanGoOn, IsRunning, NoKeyTwice, Waiting, Frozen, agrees_of, CanHold, all_from_has, slice_get-get_or}
+use Rattle.cq_engine.proofs.Terms.{rules, ◌≡◌, ℕ, ◌<◌, List, length, Option, arith, common_steps, Figures, InputFigures, OutputFigures, KeysDiffer, LimiterView, Machine, AreForOneSwitch, Fabric, input, fabric_in, fabric_held, Queues, fabric_of, CanGoOn, IsRunning, NoKeyTwice, Waiting, Frozen, agrees_of, CanHold, all_from_has, slice_get-get_or}
 use Rattle.cq_engine.specs.declared.measure.Look.TheVariants as look
 use Rattle.cq_base.proofs.Pooled.{each_pair}
 

@@ -1,6 +1,6 @@
 -- Where nothing is offered the empty matching is the best for the inputs, and no proposal is made: no offered pair is
 -- left out, and no input has an order to go down. It moves no cell, and nothing is noted of it.
-use Rattle.cq_engine.proofs.Terms.{rules, ◌≡◌, ℕ, List, [], ◌∷◌, replicate, Option, None, refl, arith, common_steps, filter_map, sum_by, append-nil, length-replicate, sum-map, sum_by-cons, Queued, Transfer, RoomView, Queues, orders_of, Moves, transfers_of, Orders, ports, outputs_of, proposals, IsInputBest}
+use Rattle.cq_engine.proofs.Terms.{rules, ◌≡◌, ℕ, List, [], ◌∷◌, replicate, Option, None, refl, arith, common_steps, filter_map, sum_by, append-nil, length-replicate, sum-map, Queued, Transfer, RoomView, Queues, orders_of, Moves, transfers_of, Orders, ports, outputs_of, proposals, IsInputBest}
 use Rattle.cq_prefs.proofs.Pairs.{nobody}
 use Rattle.cq_engine.specs.Crossing.{HasCrossed}
 use Rattle.std.proofs.lemmas.List.Sums.{sum_by-le}

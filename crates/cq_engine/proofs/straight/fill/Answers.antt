@@ -1,6 +1,6 @@
 -- The cells that came, put at the places of their outputs. Two of them are for one output where the place is taken by
 -- one that came before.
-use Rattle.cq_engine.proofs.Terms.{rules, ◌∙◌, sym, arith, length-set, came_to, common_steps, ◌≡◌, ℕ, ◌+◌, ◌<◌, List, length, Option, Some, None, is_some, slice_set, true, false, cases_lt, get_or-set_other, get_or-set_same, same_Some, Queued, some_of, AreApart, AreSent}
+use Rattle.cq_engine.proofs.Terms.{rules, arith, length-set, came_to, common_steps, ◌≡◌, ℕ, ◌+◌, ◌<◌, List, length, Option, Some, None, is_some, slice_set, false, cases_lt, get_or-set_other, get_or-set_same, same_Some, Queued, some_of, AreApart, AreSent}
 use Rattle.cq_engine.proofs.straight.fill.Goals as goal
 
 free_of : (o : Option Queued) → is_some o ≡ false → o ≡ None

@@ -1,4 +1,4 @@
-use Rattle.cq_engine.proofs.Terms.{arith, rules, ◌≡◌, List, length, map, ◌∙◌, sym, length-map}
+use Rattle.cq_engine.proofs.Terms.{arith, rules, map, length-map}
 use Rattle.cq_engine.proofs.Going.{can_hold, goes_on}
 use Rattle.cq_engine.proofs.Shown.{seen}
 use Rattle.cq_engine.proofs.engine.Engine.thaw.Goals as goal
