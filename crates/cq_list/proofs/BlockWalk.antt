@@ -1,6 +1,6 @@
 -- A walk along the blocks, from the first on or from the last back. The places ahead of the block behind a block are
 -- those ahead of it and its own; so what is counted grows by a block's numbers, or shrinks by them.
-use Rattle.cq_list.proofs.Terms.{take-append-add, cases_lt, rules, ◌≡◌, ℕ, ◌+◌, ◌-◌, ◌<◌, ◌≤◌, Bool, List, [], ◌∷◌, ◌++◌, length, get_or, take, drop, sym, ap, ◌∙◌, arith, length-append, take-append-drop, common_steps, filter, concat, get_or_read, length-drop, length-take-le, take-append-le, drop_more, take_more, append-nil, filter-append, concat-append, place_of_nth, is_output, count_of, IsSpot, IsAhead, few_kept}
+use Rattle.cq_list.proofs.Terms.{take-append-add, cases_lt, rules, ◌≡◌, ℕ, ◌+◌, ◌-◌, ◌<◌, ◌≤◌, Bool, List, [], ◌∷◌, ◌++◌, length, get_or, take, drop, ap, arith, length-append, take-append-drop, common_steps, filter, concat, get_or_read, length-drop, length-take-le, take-append-le, drop_more, take_more, append-nil, filter-append, concat-append, place_of_nth, is_output, count_of, IsSpot, IsAhead, few_kept}
 use Rattle.std.proofs.lemmas.List.{same_from_push}
 use Rattle.cq_list.proofs.Nth.{nth_inside, nth_in_front, nth_behind}
 use Rattle.cq_list.proofs.Blocks.{ahead_more, whole_is}

@@ -5,7 +5,7 @@
 -- cells of other queues are for other outputs.
 --
 -- A node that is linked in behind another one goes into the chain behind it, for it leads on to where that one led.
-use Rattle.cq_list.proofs.Terms.{common_steps, rules, ◌≡◌, ◌≢◌, ℕ, zero, suc, List, ◌∷◌, length, Some, refl, ap, subst, arith, insert, slice_get, AllByRecursion, same_Some, slice_get-map, Queued, IsBefore, IsRising, key_laws, all_at, Node, Nodes, followed, chain, cells, all_weaker}
+use Rattle.cq_list.proofs.Terms.{common_steps, rules, ◌≡◌, ◌≢◌, ℕ, zero, suc, ◌∷◌, length, Some, refl, ap, arith, insert, slice_get, AllByRecursion, same_Some, slice_get-map, Queued, IsBefore, IsRising, key_laws, all_at, Node, Nodes, followed, chain, cells, all_weaker}
 
 -- a chain that is whole begins with a node
 pub begins : (nodes : Nodes) (n place : ℕ) → length (chain nodes (suc n) place) ≡ suc n →

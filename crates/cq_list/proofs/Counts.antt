@@ -1,6 +1,6 @@
 -- The counts of a block, where a place is put in or taken out: the count of its output changes by one, and the others
 -- stay. A place that is taken out can be put back, so the one follows from the other.
-use Rattle.cq_list.proofs.Terms.{all_at, common_steps, rules, ◌≡◌, ◌≢◌, ℕ, zero, suc, ◌+◌, ◌-◌, ◌<◌, ◌≤◌, List, [], ◌∷◌, ◌++◌, length, replicate, get_or, set, refl, ap, arith, length-set, length-append, get_or-set_same, get_or-set_other, Some, insert, remove, slice_get, slice_get-get_or, AllByRecursion, eq-eqb, ne_eqb, cases_eq, get_or-replicate, length-replicate, length-insert, length-remove, is_output, count_of, most_ports, most_places, get_or_from_slice_get, take_more, take_all, append_assoc, few_kept}
+use Rattle.cq_list.proofs.Terms.{all_at, common_steps, rules, ◌≡◌, ℕ, ◌+◌, ◌-◌, ◌<◌, ◌≤◌, List, [], ◌∷◌, ◌++◌, length, replicate, get_or, set, refl, arith, length-set, length-append, get_or-set_same, get_or-set_other, Some, insert, remove, slice_get, slice_get-get_or, AllByRecursion, eq-eqb, ne_eqb, cases_eq, get_or-replicate, length-replicate, length-insert, is_output, count_of, most_ports, most_places, get_or_from_slice_get, take_more, take_all, append_assoc, few_kept}
 use Rattle.cq_list.specs.Block.{AreCounts}
 use Rattle.cq_list.proofs.Nth.{fails}
 use Rattle.cq_list.proofs.Split.{filter-insert, filter-insert-other, filter-parts}

@@ -1,4 +1,4 @@
-use Rattle.cq_list.proofs.Terms.{rules, arith, ◌≡◌, ◌+◌, ◌-◌, ◌<◌, ◌∙◌, ⊎_elim, length, take_all, concat, IsAhead}
+use Rattle.cq_list.proofs.Terms.{rules, arith, ◌≡◌, ◌<◌, ◌∙◌, length, take_all, concat}
 use Rattle.std.specs.VecDeque.Iter.{deque_iter_rest}
 use Rattle.cq_list.proofs.BlockWalk.{AreMet, ahead_fits, are_met, both_left, nth_found}
 use Rattle.cq_list.proofs.places.find_from_ends.Goals as goal

@@ -1,4 +1,4 @@
-use Rattle.cq_list.proofs.Terms.{rules, arith, ap, insert, insert-append_right}
+use Rattle.cq_list.proofs.Terms.{rules, arith, insert-append_right}
 use Rattle.cq_list.proofs.places.insert_and_split.Goals as goal
 
 pub returns-else-place-lt-HALF_PLACES-clause-whole : goal.returns-else-place-lt-HALF_PLACES-clause-whole

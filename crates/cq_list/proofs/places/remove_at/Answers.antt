@@ -1,4 +1,4 @@
-use Rattle.cq_list.proofs.Terms.{rules, [], ap, length, arith, get_or_read, length-remove}
+use Rattle.cq_list.proofs.Terms.{rules, arith, get_or_read, length-remove}
 use Rattle.cq_list.proofs.Blocks.{remove_in}
 use Rattle.cq_list.proofs.Filled.{filled_set}
 use Rattle.cq_list.proofs.places.remove_at.Goals as goal

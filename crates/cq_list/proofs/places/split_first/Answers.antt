@@ -1,4 +1,4 @@
-use Rattle.cq_list.proofs.Terms.{rules, arith, ap, ◌++◌, ◌∙◌, sym, concat, append_assoc, insert-append_left}
+use Rattle.cq_list.proofs.Terms.{rules, arith, append_assoc, insert-append_left}
 use Rattle.cq_list.proofs.Filled.{room_for_block}
 use Rattle.cq_list.proofs.places.split_first.Goals as goal
 

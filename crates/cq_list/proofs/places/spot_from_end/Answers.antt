@@ -1,4 +1,4 @@
-use Rattle.cq_list.proofs.Terms.{rules, ◌-◌, arith, ◌≡◌, ◌+◌, ◌<◌, length, take, ap, take_all, concat}
+use Rattle.cq_list.proofs.Terms.{rules, ◌-◌, arith, ◌≡◌, ◌+◌, length, take_all}
 use Rattle.cq_list.proofs.BlockWalk.{starts_back, spot_back}
 use Rattle.cq_list.proofs.places.spot_from_end.Goals as goal
 

@@ -1,4 +1,4 @@
-use Rattle.cq_urgency.proofs.Terms.{◌-◌, drop, arith, ◌≡◌, ◌+◌, ◌∙◌, take, ap, take_all, length-drop, take-paste, copy_within, most_cells, rules}
+use Rattle.cq_urgency.proofs.Terms.{drop, arith, take_all, length-drop, take-paste, rules}
 use Rattle.cq_urgency.proofs.block.move_front.Goals as goal
 
 pub returns-clause-front : goal.returns-clause-front

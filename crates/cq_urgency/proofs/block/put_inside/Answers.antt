@@ -1,4 +1,4 @@
-use Rattle.cq_urgency.proofs.Terms.{rules, ◌-◌, arith, take-take, take_all, length-drop}
+use Rattle.cq_urgency.proofs.Terms.{rules, arith, take-take, take_all, length-drop}
 use Rattle.cq_urgency.proofs.Pieces.{length_piece, put_on, put_on_front}
 use Rattle.cq_urgency.proofs.block.put_inside.Goals as goal
 

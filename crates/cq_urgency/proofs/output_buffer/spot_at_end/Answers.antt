@@ -1,4 +1,4 @@
-use Rattle.cq_urgency.proofs.Terms.{rules, ◌<◌, ◌∙◌, ◌-◌, sym, arith}
+use Rattle.cq_urgency.proofs.Terms.{rules, ◌<◌, arith}
 use Rattle.cq_urgency.proofs.Spots.{some_at, spot_end}
 use Rattle.cq_urgency.proofs.output_buffer.spot_at_end.Goals as goal
 use Rattle.cq_urgency.proofs.output_buffer.spot_at_end.Goals.{After-len-within}

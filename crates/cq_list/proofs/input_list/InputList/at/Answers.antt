@@ -1,4 +1,4 @@
-use Rattle.cq_list.proofs.Terms.{arith, rules, ◌<◌, sym, length, subst, ℕ, slice_get_within, queue_of}
+use Rattle.cq_list.proofs.Terms.{arith, rules, slice_get_within}
 use Rattle.cq_list.proofs.Kept.{shown}
 use Rattle.cq_list.proofs.input_list.InputList.at.Goals as goal
 

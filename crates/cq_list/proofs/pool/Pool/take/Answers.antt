@@ -1,4 +1,4 @@
-use Rattle.cq_list.proofs.Terms.{rules, ap, sym, drop, is_some, arith, ◌<◌, ℕ, List, subst, Queued, AreFingers, PoolView, places}
+use Rattle.cq_list.proofs.Terms.{rules, ap, sym, drop, arith, ◌<◌, ℕ, List, subst, Queued, AreFingers, PoolView, places}
 use Rattle.cq_list.proofs.Linked.{rest_stay, links_less, linked_less, cells_less}
 use Rattle.cq_list.proofs.Queues.{read_of, fingers_read, as_many, inside_some, is_pool_changed, view_changed}
 use Rattle.cq_list.proofs.Walk.{head_there, head_shown}

@@ -1,4 +1,4 @@
-use Rattle.cq_urgency.proofs.Terms.{rules, ◌-◌, arith}
+use Rattle.cq_urgency.proofs.Terms.{rules, arith}
 use Rattle.cq_urgency.proofs.Pieces.{length_piece, popped}
 use Rattle.cq_urgency.proofs.block.Block.pop.Goals as goal
 

@@ -1,4 +1,4 @@
-use Rattle.cq_urgency.proofs.Terms.{◌-◌, ap, List, ℕ, sum_by, arith, take_all, rules}
+use Rattle.cq_urgency.proofs.Terms.{◌-◌, arith, take_all, rules}
 use Rattle.cq_urgency.proofs.Placed.{kept, as_many_counts, counts_ahead, counts_all}
 use Rattle.cq_urgency.proofs.blocks.Blocks.ahead.Goals as goal
 

@@ -1,4 +1,4 @@
-use Rattle.cq_urgency.proofs.Terms.{◌+◌, ◌∙◌, ap, length, rules, arith}
+use Rattle.cq_urgency.proofs.Terms.{◌+◌, rules, arith}
 use Rattle.cq_urgency.proofs.Flattened.{length-flattened, shown_in, some_blocks}
 use Rattle.cq_urgency.proofs.Placed.{kept, as_many_counts, counts_ahead, counts_all, count_there}
 use Rattle.cq_urgency.proofs.blocks.Blocks.at.Goals as goal

@@ -1,4 +1,4 @@
-use Rattle.cq_urgency.proofs.Terms.{arith, common_steps, rules, ◌≡◌, sym, length, get_or_past}
+use Rattle.cq_urgency.proofs.Terms.{arith, common_steps, rules, ◌≡◌, length, get_or_past}
 use Rattle.cq_urgency.proofs.Placed.{kept, freed}
 use Rattle.cq_urgency.proofs.blocks.Blocks.free_first.Goals as goal
 

@@ -1,4 +1,4 @@
-use Rattle.cq_urgency.proofs.Terms.{◌+◌, ◌-◌, ◌∙◌, arith, rules, refl, ap, List, length, length-set, length-insert, Queued}
+use Rattle.cq_urgency.proofs.Terms.{◌+◌, ◌-◌, arith, rules, refl, ap, List, length, length-set, length-insert, Queued}
 use Rattle.cq_urgency.proofs.Placed.{kept, as_many_counts, in_pool, read_is, changed, count_is, count_first, count_behind}
 use Rattle.cq_urgency.proofs.blocks.Blocks.insert.Goals as goal
 

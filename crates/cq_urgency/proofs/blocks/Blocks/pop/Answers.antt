@@ -1,4 +1,4 @@
-use Rattle.cq_urgency.proofs.Terms.{◌∙◌, length, ap, drop, length-drop, length-set, arith, List, Queued, rules}
+use Rattle.cq_urgency.proofs.Terms.{length-drop, length-set, arith, rules}
 use Rattle.cq_urgency.proofs.Placed.{kept, in_pool, read_is, read_set, popped, emptied, without_cell}
 use Rattle.cq_urgency.proofs.blocks.Blocks.pop.Goals as goal
 

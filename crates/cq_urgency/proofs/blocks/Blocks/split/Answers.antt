@@ -1,4 +1,4 @@
-use Rattle.cq_urgency.proofs.Terms.{common_steps, cases_lt, ◌∙◌, ◌-◌, length, ap, length-set, arith, BlocksView, rules}
+use Rattle.cq_urgency.proofs.Terms.{◌∙◌, ◌-◌, length, ap, length-set, arith, rules}
 use Rattle.cq_urgency.proofs.Placed.{kept, as_many, as_many_counts, in_pool, not_freed, block_same, split, count_halved, count_halved_behind}
 use Rattle.cq_urgency.proofs.blocks.Blocks.split.Goals as goal
 

@@ -1,4 +1,4 @@
-use Rattle.cq_urgency.proofs.Terms.{ap, arith, common_steps, cases_lt, BlocksView, rules}
+use Rattle.cq_urgency.proofs.Terms.{ap, arith, common_steps, cases_lt, BlocksView}
 use Rattle.cq_urgency.proofs.Placed.{kept, started}
 use Rattle.cq_urgency.proofs.blocks.Blocks.start.Goals as goal
 
