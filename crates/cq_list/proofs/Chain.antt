@@ -57,6 +57,5 @@ module _ {old new : Nodes} {a k : ℕ} {ahead : Node} {c : Queued} (b : IsBehind
       search (arith, rules, chain-at, same_Some, seen, stays, rest_whole, all_weaker, differs)
   chain_behind (suc n) first (suc p) whole rising at =
       let node : Node = (begins old n first whole).0 in
-      let seen = chain-at old n first node (begins old n first whole).1 in
       let later = all_at (IsBefore node.queued) (cells (chain old n node.next)) p ahead.queued in
       search (arith, rules, other_cell, differs, rest_whole, slice_get-map, later, chain-at, chain_behind n node.next p)

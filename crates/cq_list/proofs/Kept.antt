@@ -120,7 +120,6 @@ module _ {outputs : ℕ} {places : PlacesView} {pool : PoolView} {w : Waiting}
       let outputs = slice_get-map (λ (c : Queued). c.cell.output) w.cells i in
       ⊎_elim (λ seen.
       let own : j ≡ seen.0.cell.output = let e = seen.2 in cc in
-      let queued = cell_at places.outputs (queue_of pool.queues) w.cells i seen.0 had.split seen.2 in
-      (seen.0, ap (λ k. slice_get (queue_of pool.queues k) (count_of k (take i places.outputs))) own ∙ queued, seen.2))
-      (λ past. absurd (let inside = slice_get_within places.outputs i j at in let many = as_many in omega arith))
+      (seen.0, rw own (cell_at places.outputs (queue_of pool.queues) w.cells i seen.0 had.split seen.2), seen.2))
+      (λ past. absurd (omega (arith, slice_get_within places.outputs i j at, as_many)))
       (slice_get_cases w.cells i).1

@@ -2,7 +2,7 @@
 -- has a lesser key, all cells before it have one too. The test is thus passed by the first cells and by no others, and
 -- halving finds the point where they end. As many cells pass as stand before the point.
 -- A cell goes in behind the cells of lesser key, and the list stays in the order of keys.
-use Rattle.cq_urgency.proofs.Terms.{common_steps, rules, ◌≡◌, ℕ, zero, suc, ◌+◌, ◌≤◌, Bool, true, false, List, [], ◌∷◌, ◌++◌, length, filter, refl, sym, ap, length-append, arith, IsPartitionPoint, IsPartitionedBy, cases_eq, cond_both, filter-append, slice_get-get_or, Key, Queued, is_before, IsBefore, IsRising, cushion, key_laws, each_pair_at, insert, HasOtherKey, put, after_other, before_all, all_weaker, filter_none}
+use Rattle.cq_urgency.proofs.Terms.{common_steps, rules, ◌≡◌, ℕ, zero, suc, ◌+◌, ◌≤◌, Bool, true, false, List, [], ◌∷◌, ◌++◌, length, filter, refl, sym, ap, length-append, arith, IsPartitionPoint, IsPartitionedBy, cases_eq, cond_both, filter-append, slice_get-get_or, Key, Queued, is_before, IsRising, cushion, key_laws, each_pair_at, insert, HasOtherKey, put, after_other, before_all, all_weaker, filter_none}
 use Rattle.std.proofs.lemmas.List.Elements.{recursion_from_All}
 
 -- the cells of lesser key stand first
@@ -34,5 +34,4 @@ pub put_is : (c : Queued) (xs : List Queued) → IsRising xs → HasOtherKey c x
     insert xs (cushion c.key xs) c ≡ put c xs
 put_is c [] r other = refl
 put_is c (x ∷ xs) r other =
-    let after = all_weaker (IsBefore c) (λ y. is_before y.key c.key ≡ false) (λ y. key_laws.one_way c.key y.key) in
-    search (arith, rules, cond_both, filter_none, after (x ∷ xs), before_all, after_other, put_is c xs r.1 other.1)
+    search (rules, cond_both, filter_none, all_weaker, key_laws.one_way, before_all, after_other, put_is c xs)

@@ -185,10 +185,8 @@ count_halved_behind [] counts i behind is full e = absurd (omega arith)
 count_halved_behind (b ∷ bs) counts zero behind is full e = absurd (omega arith)
 count_halved_behind (b ∷ bs) counts (suc n) behind is full e =
     let same : behind ≡ n = omega arith in
-    let add : suc n ≡ n + 1 = omega arith in
     let next : suc n + 1 ≡ suc (n + 1) = omega arith in
-    let front_long = length-take 32 (block_at bs n) in
-    search (arith, rules, length-drop 32 (block_at bs n), map-insert, map-set)
+    search (arith, rules, length-take 32 (block_at bs n), length-drop 32 (block_at bs n), map-insert, map-set)
 
 -- ## The upper half of a block goes over to one that came in
 
@@ -229,9 +227,8 @@ module _ (pool pool' : List (List Queued)) (from to place : ℕ) (inside : from 
       let half = drop 32 (block_at pool from) in
       let here = get_or_from_slice_get block (place + 32) x x at in
       let there = get_or-drop 32 (block_at pool from) place x in
-      let more = take_more half place x in
       let size = length-drop 32 (block_at pool from) in
-      grind (arith, common_steps, here, there, more, size, read_from, read_to, set-set, insert_end)
+      grind (arith, common_steps, here, there, take_more half place x, size, read_from, read_to, set-set, insert_end)
 
   pub moved_all : (block front : List Queued) → place ≡ 32 → block ≡ get_or pool' from block → front ≡ take 32 block →
       set pool' from front ≡ parted pool from to

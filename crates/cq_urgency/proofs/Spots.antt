@@ -54,8 +54,7 @@ cushion_in : (key : Key) (blocks : List (List Queued)) (i : ℕ) → IsRising (f
     length (flattened (take i blocks)) + cushion key (block_at blocks i) ≡ cushion key (flattened blocks)
 cushion_in key [] i r some inside e behind = absurd (omega arith)
 cushion_in key (b ∷ bs) zero r some inside e behind =
-    let both = cushion-append key b (flattened bs) in
-    let rest = none_behind key bs (rising_parts b (flattened bs) r).1 some.1 (λ l. behind (omega arith)) in omega arith
+    search (arith, rules, none_behind key bs, rising_parts b (flattened bs) r, behind, cushion-append)
 cushion_in key (b ∷ bs) (suc i) r some inside e behind =
     let parts = rising_parts b (flattened bs) r in
     search (arith, rules, length-append, filter_all, all_weaker, lesser_ahead, cushion_in key bs i, cushion-append)
