@@ -1,7 +1,7 @@
 -- Of a text there is one answer. A text of a state in range is that of no other such state, and each of its lines is
 -- allowed. So the text tells the state, whether that has the switch's shape, and which clauses hold of it; and of two
 -- clauses that are the first to fail neither is before the other.
-use Rattle.cq_resume.proofs.Terms.{◌≡◌, ◌≢◌, ℕ, zero, suc, ◌≤◌, List, refl, sym, ◌∙◌, ⊎_elim, arith, cases_lt, Clause, IsFirstUnsound, IsSound, HasShape, Switch, IsInRange, State, Taken, StateRefusal, rules}
+use Rattle.cq_resume.proofs.Terms.{◌≡◌, ◌≢◌, ℕ, zero, suc, List, refl, sym, ◌∙◌, arith, cases_lt, Clause, IsSound, HasShape, Switch, IsInRange, State, Taken, StateRefusal, rules}
 use Rattle.cq_resume.specs.Reading.{HasOtherShape, IsRead, IsReadExact, IsRefusal}
 use Rattle.cq_resume.specs.declared.refusal.StateRefusal.TheVariants as refusal
 use Rattle.cq_state.proofs.{OneReading.state_is_exact, OneText.have_one_text}
@@ -17,34 +17,23 @@ each_clause w s sound (suc (suc (suc (suc (suc zero))))) = sound.flows
 each_clause w s sound (suc (suc (suc (suc (suc (suc zero)))))) = sound.floors
 each_clause w s sound k = tt
 
-no_later : (w : Switch) (s : State) (j k : ℕ) → IsFirstUnsound w s j → IsFirstUnsound w s k → j ≤ k
-no_later w s j k a b = ⊎_elim (λ lt. absurd (b.fails (a.before k lt))) (λ le. le) (cases_lt k j)
-
-one_first : (w : Switch) (s : State) (j k : ℕ) → IsFirstUnsound w s j → IsFirstUnsound w s k → j ≡ k
-one_first w s j k a b = let le : j ≤ k = no_later w s j k a b in let ge : k ≤ j = no_later w s k j b a in omega arith
-
 module _ (w : Switch) (text : List ℕ) where
-  one_state : (s t : State) → IsInRange s → IsInRange t → state_text s ≡ text → state_text t ≡ text → s ≡ t
-  one_state s t a b e f = have_one_text.one_state s t a b (e ∙ sym f)
-
   no_fault : (s : State) (line : ℕ) → IsInRange s → state_text s ≡ text → IsStateFault text line → ⊥
   no_fault s line a e fault =
       state_is_exact.never_both (state_lines s) text line (rw e at (have_one_text.allowed s a)) fault
 
   no_other : (s : State) → IsInRange s → state_text s ≡ text → HasShape w s → HasOtherShape w text → ⊥
-  no_other s a e shape o = o.other (rw (one_state o.state s o.in_range a o.spelled e) shape)
+  no_other s a e shape o = o.other (rw (have_one_text.one_state o.state s o.in_range a (o.spelled ∙ sym e)) shape)
 
   one_read : (x y : Taken) → IsRead w text x → IsRead w text y → x ≡ y
-  one_read x y r s =
-      let a = r.comes in
-      let b = s.comes in cc (one_state r.state s.state a.in_range b.in_range r.spelled s.spelled)
+  one_read x y r s = search (arith, rules, have_one_text.one_state)
 
   never_refused : (x : Taken) (r : StateRefusal) → IsRead w text x → IsRefusal w text r → r ≡ refusal.NoMemory
   never_refused x (refusal.Text line) read fault = absurd (search (arith, rules, no_fault read.state))
   never_refused x refusal.Shape read other = absurd (search (arith, rules, no_other read.state))
   never_refused x (refusal.Unsound k) read first =
-      let same = one_state first.state read.state first.in_range read.comes.in_range first.spelled read.spelled in
-      absurd (first.unsound.fails (each_clause w first.state (rw same read.comes.sound) k))
+      let same = have_one_text.one_state first.state read.state in
+      absurd (search (arith, rules, first.unsound.fails, each_clause w first.state))
   never_refused x refusal.NoMemory read memory = refl
 
   one_refusal : (r s : StateRefusal) → r ≢ refusal.NoMemory → s ≢ refusal.NoMemory → IsRefusal w text r →
@@ -58,8 +47,7 @@ module _ (w : Switch) (text : List ℕ) where
   one_refusal (refusal.Unsound j) (refusal.Text n) some other r s = absurd (no_fault r.state n r.in_range r.spelled s)
   one_refusal (refusal.Unsound j) refusal.Shape some other r s = absurd (search (rules, no_other r.state))
   one_refusal (refusal.Unsound j) (refusal.Unsound k) some other r s =
-      let same = one_state s.state r.state s.in_range r.in_range s.spelled r.spelled in
-      cc (one_first w r.state j k r.unsound (rw same at s.unsound))
+      search (arith, rules, have_one_text.one_state s.state r.state, cases_lt j k, cases_lt k j)
   one_refusal refusal.NoMemory s some other _ _ = absurd (some refl)
   one_refusal r refusal.NoMemory some other _ _ = absurd (other refl)
 
