@@ -3,12 +3,12 @@
 -- and nothing comes, and the slots behind the end add nothing. A tag fault of the run comes behind the slots that were
 -- done, for these had none. A run that goes on to an end has a first slot at which it is over, maybe one of those that
 -- were done, and the whole run ends there.
-use Rattle.cq_resume.proofs.Terms.{common_steps, rules, ◌≡◌, ℕ, zero, suc, ◌+◌, ◌-◌, ◌<◌, ◌≤◌, Bool, List, [], ◌∷◌, ◌++◌, length, take, drop, Option, refl, ◌⊎◌, inl, inr, replicate, ⊎_elim, append_assoc, length-drop, arith, cases_lt, append-nil, length-map, map-append, take-append-drop, take_all, flat_map-append, All-replicate, end_of, Cell, arriving_from, refused_in, all_counted_both, none_counted, Fabric, IsEmptyFabric, empty_fabric, marked_in, Machine, Switch, Taken, no_arrivals, TagFault, no_arrivals_refuse_none, arriving_length, arriving_parts, quiet_from, FabricSlot, SlotRecord, IsLimitedFault, LimitedFabricSlot, LimitedRecord, admissions_in, slots_in, quiet_limited_slots, idled, idled_for, quiet_slots, GoOn, IsOneRun, RunBy, StopBy, all_go_on, departures_on, transfers_both, none_come, run_with, only_limited_run, parts, run_length, arriving, empty_is, quiet_departures, quiet_figures_of_run, quiet_run, quiet_transfers_of_run, IsInputBest}
+use Rattle.cq_resume.proofs.Terms.{common_steps, rules, ◌≡◌, ℕ, zero, suc, ◌+◌, ◌-◌, ◌<◌, ◌≤◌, Bool, List, [], ◌∷◌, ◌++◌, length, take, drop, Option, refl, ◌⊎◌, replicate, append_assoc, length-drop, arith, cases_lt, append-nil, length-map, map-append, take-append-drop, take_all, flat_map-append, All-replicate, end_of, Cell, arriving_from, refused_in, all_counted_both, none_counted, Fabric, IsEmptyFabric, empty_fabric, marked_in, Machine, Switch, Taken, no_arrivals, TagFault, no_arrivals_refuse_none, arriving_length, arriving_parts, quiet_from, IsLimitedFault, LimitedFabricSlot, LimitedRecord, admissions_in, slots_in, quiet_limited_slots, idled, idled_for, quiet_slots, GoOn, IsOneRun, RunBy, StopBy, all_go_on, departures_on, transfers_both, none_come, run_with, only_limited_run, parts, run_length, arriving, empty_is, quiet_departures, quiet_figures_of_run, quiet_run, quiet_transfers_of_run, IsInputBest}
 use Rattle.cq_ideal.specs.Admission.{Marked, marked}
 use Rattle.cq_ideal.proofs.Ends.{none_waits, nothing_left}
 use Rattle.cq_ideal.proofs.Waiting.{waiting}
 use Rattle.std.proofs.Math.Seq.{take-add}
-use Rattle.cq_resume.specs.Parts.{IsOneParted, IsParted, IsPartedFault, IsWhole, IsWholeFault, PartsJoin, nothing_kept, opening}
+use Rattle.cq_resume.specs.Parts.{IsOneParted, IsParted, IsWhole, IsWholeFault, PartsJoin, nothing_kept, opening}
 use Rattle.cq_resume.specs.Resumed.{AfterFrom, IsOneResumed, IsResumed, IsResumedFault, Kept, RunsOn, kept_in, kept_on}
 
 -- ## What is kept
@@ -22,24 +22,18 @@ kept_both k first next rs ss long = grind (arith, common_steps, kept)
 
 module _ (ms : List Machine) (n : ℕ) (marks : List Bool) where
   quiet_records : (count slot : ℕ) (ranks : List (List ℕ)) →
-      slots_in (quiet_limited_slots ms count slot n ranks marks) ≡ quiet_slots ms count slot n ranks
-  quiet_records zero slot ranks = refl
+      (slots_in (quiet_limited_slots ms count slot n ranks marks) ≡ quiet_slots ms count slot n ranks)
+      × (refused_in (admissions_in (quiet_limited_slots ms count slot n ranks marks)) ≡ [])
+  quiet_records zero slot ranks = (refl, refl)
   quiet_records (suc count) slot ranks = search (rules, quiet_records count (slot + 1) (idled ms n ranks))
-
-  none_refused : (count slot : ℕ) (ranks : List (List ℕ)) →
-      refused_in (admissions_in (quiet_limited_slots ms count slot n ranks marks)) ≡ []
-  none_refused zero slot ranks = refl
-  none_refused (suc count) slot ranks = none_refused count (slot + 1) (idled ms n ranks)
 
   -- they add nothing
   kept_quiet : (k : Kept) (count slot : ℕ) (ranks : List (List ℕ)) →
       kept_on k slot (quiet_limited_slots ms count slot n ranks marks) ≡ k
   kept_quiet k count slot ranks =
-      let same = quiet_records count slot ranks in
-      let departures = quiet_departures ms n count slot ranks in
-      let transfers = quiet_transfers_of_run ms n count slot ranks in
       let figures = quiet_figures_of_run ms n count slot ranks k.figures in
-      search (arith, rules, same, departures, transfers, figures, append-nil, none_counted, none_refused)
+      let transfers = quiet_transfers_of_run ms n count slot ranks in
+      search (arith, rules, quiet_records, quiet_departures, transfers, figures, append-nil, none_counted)
 
 -- ## From a slot on
 
@@ -51,18 +45,12 @@ module _ (w : Switch) where
   Fault = IsLimitedFault w.limits w.machines
 
   -- a square fabric stays one
-  slot_square : (cells : List (Option Cell)) (slot : ℕ) (f g : Fabric) (r : SlotRecord) →
-      FabricSlot IsInputBest w.machines slot cells f r g → length f.buffers ≡ length f.inputs →
-      length g.buffers ≡ length g.inputs
-  slot_square cells slot f g r x square = grind (arith, common_steps, length-map)
-
   run_square : (slot : ℕ) (traffic : List (List (Option Cell))) (f g : Marked Fabric) (rs : List LimitedRecord) →
       RunBy Step slot traffic f rs g → length f.state.buffers ≡ length f.state.inputs →
       length g.state.buffers ≡ length g.state.inputs
-  run_square slot [] f g [] x square = search (arith, rules)
   run_square slot (cells ∷ traffic) f g (r ∷ rs) x square =
-      grind (arith, common_steps, slot_square, run_square (slot + 1) traffic x.0 g rs)
-  run_square slot traffic f g rs x square = absurd x
+      grind (arith, common_steps, length-map, run_square (slot + 1) traffic x.0 g rs)
+  run_square slot traffic f g rs x square = grind (arith, common_steps)
 
   one : IsOneRun Step Fault
   one = only_limited_run w.machines w.limits
@@ -83,11 +71,8 @@ module _ (w : Switch) where
   goes_past next n k all at start middle end ps rs many there x y =
       let cut = arriving_parts w.came next at n k all there many in
       let long = arriving_length w.came next n in
-      let p = parts Step next (arriving_from w.came next n) (arriving_from w.came at k) start end rs
-      (rw (← cut) at y) in
-      let same = one.run next (arriving_from w.came next n) start p.middle middle (take n rs) ps
-      (rw long at p.first) x in
-      (same.0, rw (long, ← there, same.1) at p.second)
+      let p = parts Step next (arriving_from w.came next n) (arriving_from w.came at k) start end rs in
+      search (arith, rules, one.run)
 
   -- one that stops does so behind what another has done
   stops_past : (slot n count at : ℕ) (f middle : Marked Fabric) (ps rs : List LimitedRecord) (fault : TagFault) →
@@ -100,51 +85,37 @@ module _ (w : Switch) where
   stops_past slot (suc n) zero at f middle ps rs fault there x y = absurd y
   stops_past slot (suc n) (suc count) at f middle (p ∷ ps) [] fault there x y = absurd (search (arith, rules))
   stops_past slot (suc n) (suc count) at f middle (p ∷ ps) (r ∷ rs) fault there x y =
-      let same = one.slot slot (arriving w.came slot) f x.0 y.0 p r x.1 y.1 in
-      stops_past (slot + 1) n count at x.0 middle ps rs fault (omega arith) x.2 (rw (← same.1) at y.2)
+      search (arith, rules, one.slot slot, stops_past (slot + 1) n count at)
   stops_past slot n count at f middle ps rs fault there x y = absurd x
 
   -- of two runs to their ends neither is shorter
   no_longer : (next : ℕ) (start g h : Marked Fabric) (rs ss : List LimitedRecord) → RunsOn w next start rs g →
       RunsOn w next start ss h → length rs ≤ length ss
-  no_longer next start g h rs ss r s = ⊎_elim (λ (lt : length ss < length rs).
-      let same = goes_past next (length ss) (length rs - length ss) (length rs) _ start h g ss rs (omega arith)
-      refl (whole_run next start h ss s) (whole_run next start g rs r) in
-      search (arith, rules, r.first, whole_run next start h ss s)) (λ ge. ge) (cases_lt (length ss) (length rs))
+  no_longer next start g h rs ss r s =
+      let same = goes_past next (length ss) (length rs - length ss) (length rs) (next + length ss) start h g ss rs in
+      grind (arith, common_steps, r.first, whole_run, cases_lt (length ss) (length rs))
 
   one_on : (next : ℕ) (start g h : Marked Fabric) (rs ss : List LimitedRecord) → RunsOn w next start rs g →
       RunsOn w next start ss h → rs ≡ ss
-  one_on next start g h rs ss r s =
-      let le = no_longer next start g h rs ss r s in
-      let ge = no_longer next start h g ss rs s r in
-      grind (arith, common_steps, one.run, whole_run next start g rs r, whole_run next start h ss s)
+  one_on next start g h rs ss r s = grind (arith, common_steps, one.run, whole_run, no_longer)
 
   -- ## There is one answer
 
   -- a stop is one of more traffic too
-  still_stops : (slot : ℕ) (before after : List (List (Option Cell))) (f : Marked Fabric) (rs : List LimitedRecord)
-      (fault : TagFault) → StopBy Step Fault slot before f rs fault →
-      StopBy Step Fault slot (before ++ after) f rs fault
-  still_stops slot [] after f rs fault x = absurd x
-  still_stops slot (cells ∷ before) after f [] fault x = x
-  still_stops slot (cells ∷ before) after f (r ∷ rs) fault x =
-      (x.0, x.1, still_stops (slot + 1) before after x.0 rs fault x.2)
-
-  stops_later : (slot a b all : ℕ) (f : Marked Fabric) (rs : List LimitedRecord) (fault : TagFault) → all ≡ a + b →
+  stops_later : (slot a all : ℕ) (f : Marked Fabric) (rs : List LimitedRecord) (fault : TagFault) → a ≤ all →
       StopBy Step Fault slot (arriving_from w.came slot a) f rs fault →
       StopBy Step Fault slot (arriving_from w.came slot all) f rs fault
-  stops_later slot a b all f rs fault many x =
-      let cut = arriving_parts w.came slot (slot + a) a b all refl many in
-      rw cut at (still_stops slot (arriving_from w.came slot a) (arriving_from w.came (slot + a) b) f rs fault x)
+  unfolding arriving_from
+  stops_later slot (suc a) (suc all) f [] fault le x = x
+  stops_later slot (suc a) (suc all) f (r ∷ rs) fault le x =
+      (x.0, x.1, stops_later (slot + 1) a all x.0 rs fault (omega arith) x.2)
+  stops_later slot a all f rs fault le x = grind (arith, common_steps)
 
   one_fault : (from : Taken) (u v : TagFault) → IsResumedFault w from u → IsResumedFault w from v → u ≡ v
   one_fault from u v x y =
-      let next = from.frozen.next in
-      let start = marked_in from.frozen in
       let all = x.count + y.count in
-      (one.stop next (arriving_from w.came next all) start x.records y.records u v
-      (stops_later next x.count y.count all start x.records u refl x.stops)
-      (stops_later next y.count x.count all start y.records v (omega arith) y.stops)).1
+      let first = stops_later from.frozen.next x.count all in
+      search (arith, rules, first, stops_later from.frozen.next y.count all, one.stop)
 
   -- where nothing comes no rank is a tag fault
   quiet_stop : (count slot : ℕ) (f : Marked Fabric) (rs : List LimitedRecord) (fault : TagFault) →
@@ -159,23 +130,10 @@ module _ (w : Switch) where
       let end = from.frozen.next + n in
       let past = stops_past from.frozen.next n y.count end (marked_in from.frozen) x.end x.records y.records fault refl
       (whole_run from.frozen.next (marked_in from.frozen) x.end x.records x.runs) y.stops in
-      quiet_stop past.0 end x.end past.1 fault (rw (quiet_from w.came past.0 end x.runs.all_came) at past.2)
+      search (arith, rules, quiet_stop, quiet_from w.came past.0 end x.runs.all_came)
 
   one_kept : (from : Taken) (k l : Kept) → IsResumed w from k → IsResumed w from l → k ≡ l
   one_kept from k l x y = grind (arith, common_steps, one_on)
-
-  -- one that is stopped stands in one state, or met one tag fault
-  one_parted : (ranks : List (List ℕ)) (slots : ℕ) (a b : Taken) → IsParted w ranks slots a →
-      IsParted w ranks slots b → a ≡ b
-  one_parted ranks slots a b x y =
-      let same = one.run 0 (arriving_from w.came 0 slots) (opening w ranks) (marked_in a.frozen) (marked_in b.frozen)
-      x.records y.records x.runs y.runs in
-      grind (arith, common_steps)
-
-  one_parted_fault : (ranks : List (List ℕ)) (slots : ℕ) (u v : TagFault) → IsPartedFault w ranks slots u →
-      IsPartedFault w ranks slots v → u ≡ v
-  one_parted_fault ranks slots u v x y =
-      (one.stop 0 (arriving_from w.came 0 slots) (opening w ranks) x.0 y.0 u v x.1 y.1).1
 
   -- ## Where a run is over
 
@@ -188,17 +146,8 @@ module _ (w : Switch) where
   over_or_not : (next : ℕ) (f : Fabric) →
       ((end_of w.came ≤ next) × IsEmptyFabric f) ⊎ (end_of w.came ≤ next → IsEmptyFabric f → ⊥)
   over_or_not next f =
-      ⊎_elim (λ (lt : 0 < (end_of w.came - next) + waiting f.inputs + waiting f.buffers). inr (λ late empty.
-      let none = none_waits f.inputs empty.inputs in
-      let gone = none_waits f.buffers empty.buffers in omega arith))
-      (λ (le : (end_of w.came - next) + waiting f.inputs + waiting f.buffers ≤ 0). inl (
-        omega arith,
-        record {
-          inputs = nothing_left f.inputs (omega arith);
-          buffers = nothing_left f.buffers (omega arith);
-        },
-      ))
-      (cases_lt 0 ((end_of w.came - next) + waiting f.inputs + waiting f.buffers))
+      let waits = cases_lt 0 ((end_of w.came - next) + waiting f.inputs + waiting f.buffers) in
+      search (arith, rules, none_waits, nothing_left, waits)
 
   -- a run to its end, with a slot ahead of it before which it was not over
   module _ (next : ℕ) (start middle end : Marked Fabric) (r : LimitedRecord) (rs : List LimitedRecord)
@@ -208,33 +157,22 @@ module _ (w : Switch) where
         IsEmptyFabric s.state → suc (length rs) ≤ m
     unfolding arriving_from
     no_sooner zero s after late empty = absurd (more (omega arith) (rw after at empty))
-    no_sooner (suc m) s after late empty =
-        let same = one.slot next (arriving w.came next) start after.0 middle r r after.1 step in
-        let le : length rs ≤ m = on.first m s (rw same.1 at after.2) (omega arith) empty in omega arith
+    no_sooner (suc m) s after late empty = grind (arith, common_steps, one.slot, on.first)
 
     slot_ahead : RunsOn w next start (r ∷ rs) end
     unfolding arriving_from
     slot_ahead = grind (arith, common_steps, no_sooner)
 
   -- a run that is over somewhere has an end
-  record Ends (next : ℕ) (start : Marked Fabric) : Type 0 where
-    records : List LimitedRecord
-    end : Marked Fabric
-    runs : RunsOn w next start records end
-
   ends : (n next : ℕ) (start over : Marked Fabric) (rs : List LimitedRecord) →
       RunBy Step next (arriving_from w.came next n) start rs over → end_of w.came ≤ next + n →
-      IsEmptyFabric over.state → Ends next start
+      IsEmptyFabric over.state →
+      (records : List LimitedRecord) × (end : Marked Fabric) × RunsOn w next start records end
   unfolding arriving_from
   ends zero next start over [] run late empty = grind (arith, common_steps, over_at)
   ends (suc n) next start over (r ∷ rs) run late empty =
       let rest = ends n (next + 1) run.0 over rs run.2 (omega arith) empty in
-      ⊎_elim (λ now. record { records = []; end = start; runs = over_at next start now.0 now.1 })
-      (λ more. record {
-        records = r ∷ rest.records;
-        end = rest.end;
-        runs = slot_ahead next start run.0 rest.end r rest.records run.1 rest.runs more;
-      }) (over_or_not next start.state)
+      search (arith, rules, over_at, slot_ahead, over_or_not next start.state)
   ends n next start over rs run late empty = absurd run
 
   -- ## A run that was stopped
@@ -246,26 +184,18 @@ module _ (w : Switch) where
     abbrev there : Marked Fabric
     there = marked_in at.frozen
 
-    many : length part.records ≡ slots
-    many = grind (arith, common_steps, run_length, arriving_length)
-
-    begins : 0 + length (arriving_from w.came 0 slots) ≡ slots
-    begins = let long = arriving_length w.came 0 slots in omega arith
-
     -- what goes on from there is one run with what was done
     join : (n : ℕ) (rs : List LimitedRecord) (end : Marked Fabric) →
         RunBy Step slots (arriving_from w.came slots n) there rs end →
         RunBy Step 0 (arriving_from w.came 0 (slots + n)) start (part.records ++ rs) end
     join n rs end run =
-        let cut = arriving_parts w.came 0 slots slots n (slots + n) (omega arith) refl in
-        let both = on.run 0 (arriving_from w.came 0 slots) (arriving_from w.came slots n) start there end part.records
-        rs part.runs in
-        search (arith, rules, begins)
+        let first = on.run 0 (arriving_from w.came 0 slots) in
+        search (arith, rules, arriving_length, arriving_parts w.came 0 slots slots n, first)
 
     -- what is kept of both
     kept_joined : (rs : List LimitedRecord) →
         kept_on (nothing_kept w) 0 (part.records ++ rs) ≡ kept_on (kept_in at) slots rs
-    kept_joined rs = grind (arith, common_steps, many, kept_both (nothing_kept w) 0 slots part.records rs)
+    kept_joined rs = grind (arith, common_steps, run_length, arriving_length, kept_both (nothing_kept w) 0 slots)
 
     module _ (rs : List LimitedRecord) (end : Marked Fabric) (runs : RunsOn w 0 start rs end) where
       -- stopped no later than at its end
@@ -275,16 +205,10 @@ module _ (w : Switch) where
             let past = goes_past 0 slots (length rs - slots) (length rs) slots start there end part.records rs
             (omega arith) (omega arith) part.runs (whole_run 0 start end rs runs) in
             let more : length (drop slots rs) ≡ length rs - slots = omega (arith, length-drop slots rs) in
-            let late = runs.all_came in (
-              record {
-                after = search (arith, rules, take_all);
-                all_came = omega arith;
-                empty = runs.empty;
-                first = λ m s after came_all none.
-                    search (arith, rules, take-add slots m rs, join m (take m (drop slots rs)) s after);
-              },
-              search (arith, rules, take-append-drop),
-            )
+            let first : (m : ℕ) (s : Marked Fabric) → AfterFrom w slots there (drop slots rs) m s →
+            end_of w.came ≤ slots + m → IsEmptyFabric s.state → length (drop slots rs) ≤ m =
+            λ m s after came_all none. search (arith, rules, take-add slots m rs, join m) in
+            (search (arith, rules, take_all, runs.all_came), search (arith, rules, take-append-drop))
 
       -- stopped behind its end
       module _ (behind : length rs < slots) where
@@ -310,14 +234,12 @@ module _ (w : Switch) where
             let past = goes_past 0 n more slots n start end there rs part.records (omega arith) (omega arith)
             (whole_run 0 start end rs runs) part.runs in
             let none = quiet_from w.came more n (omega arith) in
-            let is_empty = empty_is end.state runs.empty square in
             let come = none_come IsInputBest w.limits w.machines end.marks more in
             let still = run_with IsInputBest w.limits w.machines end.marks n _ _ _ _ come
             (quiet_run w.machines more n ports end.state.ranks) in
-            let from_end : RunBy Step n (arriving_from w.came n more) end quiet resting = search (arith, rules) in
-            let both = one.run n (arriving_from w.came n more) end there resting (drop n part.records) quiet
-            past.1 from_end in
-            let whole = take-append-drop n part.records in (cc, both.1)
+            let from_end : RunBy Step n (arriving_from w.came n more) end quiet resting =
+            search (arith, rules, empty_is, square) in
+            grind (arith, common_steps, take-append-drop n part.records, one.run)
 
         rests : RunsOn w slots there [] there
         rests = grind (arith, common_steps, All-replicate, over, over_at)
@@ -325,21 +247,17 @@ module _ (w : Switch) where
         kept_over : kept_on (nothing_kept w) 0 rs ≡ kept_on (kept_in at) slots []
         unfolding quiet
         kept_over =
-            let same = over in
-            cc (
-              kept_quiet w.machines ports end.marks (kept_on (nothing_kept w) 0 rs) more (length rs)
-                  end.state.ranks,
-              kept_quiet w.machines ports end.marks (kept_in at) 0 slots end.state.ranks,
-              kept_both (nothing_kept w) 0 (length rs) rs quiet (omega arith),
-            )
+            let ranks = end.state.ranks in
+            let first = kept_quiet w.machines ports end.marks (kept_on (nothing_kept w) 0 rs) more (length rs) ranks in
+            let then = kept_quiet w.machines ports end.marks (kept_in at) 0 slots ranks in
+            grind (arith, common_steps, over, kept_both (nothing_kept w) 0 (length rs) rs quiet)
 
     -- ## The laws
 
     pub part_resumes : (whole : Kept) → IsWhole w ranks whole → IsResumed w at whole
     part_resumes whole is =
-        let over-here = rests is.records is.end is.runs in
-        let rest-here = rest is.records is.end is.runs in
-        search (arith, rules, kept_joined (drop slots is.records), kept_over is.records is.end is.runs)
+        let goes = rest is.records is.end is.runs in
+        search (arith, rules, rests is.records is.end is.runs, goes, kept_joined, kept_over is.records is.end is.runs)
 
     pub part_is_run : (kept whole : Kept) → IsResumed w at kept → IsWhole w ranks whole → kept ≡ whole
     part_is_run kept whole resumed is = one_kept at kept whole resumed (part_resumes whole is)
@@ -348,22 +266,17 @@ module _ (w : Switch) where
     part_is_whole kept resumed =
         let n = length resumed.records in
         let goes = whole_run at.frozen.next there resumed.end resumed.records resumed.runs in
-        let all = join n resumed.records resumed.end (rw part.next at goes) in
-        let it = ends (slots + n) 0 start resumed.end (part.records ++ resumed.records) all (omega arith)
-        resumed.runs.empty in search (arith, rules, part_is_run)
+        search (arith, rules, part_is_run, join n, ends (slots + n) 0 start resumed.end)
 
     -- a fault that is met later is met from there
     pub part_fault : (fault : TagFault) → IsWholeFault w ranks fault → IsResumedFault w at fault
-    part_fault fault is =
-        let it = stops_past 0 slots is.count at.frozen.next start there part.records is.records fault
-        (omega (arith, part.next)) part.runs is.stops in
-        record { count = it.0; records = it.1; stops = it.2 }
+    part_fault fault is = search (arith, rules, stops_past 0 slots is.count at.frozen.next start there part.records)
 
     pub part_fault_back : (fault : TagFault) → IsResumedFault w at fault → IsWholeFault w ranks fault
     part_fault_back fault is =
         let cut = arriving_parts w.came 0 slots slots is.count (slots + is.count) (omega arith) refl in
         let both = on.stop 0 (arriving_from w.came 0 slots) (arriving_from w.came slots is.count) start there
-        part.records is.records fault part.runs in search (arith, rules, begins)
+        part.records is.records fault part.runs in search (arith, rules, arriving_length)
 
 pub parts_join : PartsJoin
 parts_join = search (rules, part_is_run, part_resumes, part_is_whole, part_fault, part_fault_back)
@@ -373,8 +286,7 @@ one_resumed = record { kept = one_kept; fault = one_fault; never_both = never_bo
 
 pub one_part : IsOneParted
 one_part = record {
-  at = one_parted;
-  fault = one_parted_fault;
-  never_both = λ w ranks slots at fault x y. (one w).never_both 0 (arriving_from w.came 0 slots) (opening w ranks)
-      (marked_in at.frozen) x.records y.0 fault x.runs y.1;
+  at = λ w ranks slots a b x y. search (arith, rules, (one w).run);
+  fault = λ w ranks slots u v x y. search (rules, (one w).stop);
+  never_both = λ w ranks slots at fault x y. search (rules, (one w).never_both);
 }
