@@ -8,8 +8,9 @@
 -- stand by input and then by slot. It is compared with the last one of its flow, for which a place is kept. And how
 -- many cells stand ahead of each in its input's list, counted on from one cell to the next. Where an input begins,
 -- none stands ahead, since the cells before it are of earlier inputs.
-use Rattle.cq_resume.proofs.Terms.{common_steps, rules, ◌≡◌, ◌≢◌, ℕ, ◌+◌, ◌-◌, ◌<◌, ◌≤◌, ◌⊎◌, ◌↔◌, Bool, true, false, List, length, map, get_or, set, replicate, Option, None, Some, refl, sym, ◌∙◌, inl, inr, arith, ltb, ◌*◌, IfSome, ◌&&◌, AllPairs, AllByRecursion, cases_eq, cases_lt, and_from, lt-ltb, get_or-replicate, get_or-set_other, get_or-set_same, get_or_default, get_or_past, length-replicate, length-set, get_or_read, begins_at, FlowsStand, InOneFlow, IsNameBefore, IsNoLaterInput, Leaves, IsBefore, Queued, Name, length-append, slice_get, ne_eqb, get_or-take, SlackStands, cushion_in, thread_in, filter_more, get_or_from_slice_get, slice_get-get_or, slice_get_within, key_laws, most_classes, All-from_recursion, zero, suc, [], ◌∷◌, AllAdjacentBelow}
+use Rattle.cq_resume.proofs.Terms.{common_steps, rules, ◌≡◌, ◌≢◌, ℕ, ◌+◌, ◌-◌, ◌<◌, ◌≤◌, ◌⊎◌, ◌↔◌, Bool, true, false, List, length, map, get_or, set, replicate, Option, None, Some, refl, inl, inr, arith, ltb, ◌*◌, IfSome, ◌&&◌, AllPairs, AllByRecursion, cases_eq, cases_lt, and_from, lt-ltb, get_or-replicate, get_or-set_other, get_or-set_same, get_or_default, get_or_past, length-replicate, length-set, get_or_read, begins_at, FlowsStand, IsNameBefore, IsNoLaterInput, Leaves, IsBefore, Queued, Name, length-append, slice_get, ne_eqb, get_or-take, SlackStands, cushion_in, thread_in, filter_more, get_or_from_slice_get, slice_get-get_or, key_laws, most_classes, All-from_recursion, zero, suc, AllAdjacentBelow}
 use Rattle.cq_resume.specs.Neighbours.{IsOfNeighbours}
+use Rattle.cq_base.proofs.Each.{one_there}
 use Rattle.cq_resume.proofs.Cut.{none_kept}
 
 -- it holds of each and each later one below a place
@@ -30,45 +31,28 @@ module _ {X : Type 0} (R : X → X → Type 0) (xs : List X) where
 
   pub next_found : (n : ℕ) (x y : X) → 1 ≤ n → n < length xs → x ≡ get_or xs (n - 1) x → y ≡ get_or xs n y → R x y →
       (k : ℕ) × (k + 1 < length xs) × ((d : X) → R (get_or xs k d) (get_or xs (k + 1) d))
-  next_found n x y one inside first second next =
-      (n - 1, omega arith, λ d. next_at n x y inside first second next (n - 1) d (omega arith))
+  next_found n x y one inside first second next = (n - 1, omega arith, λ d. grind (arith, common_steps, get_or_default))
 
   module _ (goes_on : (a b c : X) → R a b → R b c → R a c) where
-    reached : AllAdjacentBelow R xs (length xs) → (m i j : ℕ) (d : X) → j ≡ i + m + 1 → j < length xs →
-        R (get_or xs i d) (get_or xs j d)
-    reached all zero i j d e inside = grind (arith, common_steps)
-    reached all (suc m) i j d e inside = grind (arith, common_steps, reached all m i (j - 1) d)
-
     pub next_pairs : AllAdjacentBelow R xs (length xs) → AllPairs R xs
-    next_pairs all i j d lt inside = reached all ((j - i) - 1) i j d (omega arith) inside
+    next_pairs all i zero d lt inside = absurd (omega arith)
+    next_pairs all i (suc j) d lt inside = grind (arith, common_steps, cases_eq i j, next_pairs all i j d)
 
     -- the answer of a test that decides the relation, asked of each and the next one
     pub neighbours_decide : {Test : X → X → Bool → Type 0} {r : Bool} → IsOfNeighbours Test xs r →
         ((a b : X) (r : Bool) → Test a b r → (r ≡ true) ↔ R a b) → (r ≡ true) ↔ AllPairs R xs
     neighbours_decide {r = true} answer decides = grind (arith, common_steps, next_pairs, decides, answer.each)
-    neighbours_decide {r = false} answer decides = (
-      (λ clash. absurd (let P : ⊥ = cc in P)),
-      (λ pairs.
-          let failed = answer.each in
-          let inside = failed.1 in
-          let d = some_item xs (omega arith) in
-          (decides _ _ false (failed.2 d)).1 (pairs failed.0 (failed.0 + 1) d (omega arith) inside)),
-    )
-      where
-        some_item : (ys : List X) → 0 < length ys → X
-        some_item [] inside = absurd (omega arith)
-        some_item (y ∷ ys) inside = y
+    neighbours_decide {r = false} answer decides =
+        let failed = answer.each in
+        let inside = failed.1 in
+        let d = (one_there xs failed.0 (omega arith)).0 in
+        let told = decides _ _ false (failed.2 d) in search (arith, rules)
 
 -- ## Lanes
 
 module _ {X : Type 0} (input : X → ℕ) (xs : List X) (n : ℕ) (d : X) (inside : n < length xs) where
   begins_test : begins_at (map input xs) n ≡ (ltb 0 n && ltb (input (get_or xs (n - 1) d)) (input (get_or xs n d)))
   begins_test = grind (arith, common_steps)
-
-  -- where none begins the one before it is of its input
-  same_there : AllPairs (λ a b. input a ≤ input b) xs → begins_at (map input xs) n ≡ false →
-      input (get_or xs (n - 1) d) ≡ input (get_or xs n d)
-  same_there rising is = search (arith, rules, begins_test, and_from, lt-ltb, cases_eq, cases_lt)
 
   -- what was kept for the input of the one before it, or is begun with where another input begins, is for its input
   pub known_here : {Y : Type 0} (P : ℕ → Y → Type 0) (none last now : Y) (begun : Bool) →
@@ -77,10 +61,10 @@ module _ {X : Type 0} (input : X → ℕ) (xs : List X) (n : ℕ) (d : X) (insid
       AllPairs (λ a b. input a ≤ input b) xs → begun ≡ begins_at (map input xs) n →
       ((begun ≡ true) × (now ≡ none)) ⊎ ((begun ≡ false) × (now ≡ last)) → P (input (get_or xs n d)) now
   known_here P none last now begun known fresh rising is (inl begins) =
-      rw begins.1 (fresh (input (get_or xs n d)) (λ k e lt own.
-      let le = rising k (n - 1) e in
-      let there = get_or_default xs (n - 1) e d in grind (arith, common_steps, cases_eq k (n - 1))))
-  known_here P none last now begun known fresh rising is (inr goes) = grind (arith, common_steps, same_there)
+      rw begins.1 (fresh _ (λ k e lt own. let le = rising k (n - 1) e in
+      grind (arith, common_steps, get_or_default, cases_eq k (n - 1))))
+  known_here P none last now begun known fresh rising is (inr goes) =
+      grind (arith, common_steps, begins_test, and_from, lt-ltb, cases_eq, cases_lt)
 
 module _ {X : Type 0} (input lane : X → ℕ) (R : X → X → Type 0) where
   -- it holds of two items of one lane
@@ -149,9 +133,6 @@ module _ {X : Type 0} (input lane : X → ℕ) (R : X → X → Type 0) where
     read_here : get_or then (lane here) None ≡ Some here
     read_here = let inside = within in grind (arith, common_steps, get_or-set_same)
 
-    read_other : (l : ℕ) → (l ≡ lane here → ⊥) → get_or then l None ≡ get_or now l None
-    read_other l other = get_or-set_other now (lane here) l (Some here) None other
-
     -- whether its item may come behind the last one of its lane
     module _ (read : Option X) (own : lane here < length now → read ≡ get_or now (lane here) read) (may : Bool)
         (test : (may ≡ true) ↔ IfSome read (λ y. R y here)) where
@@ -160,59 +141,41 @@ module _ {X : Type 0} (input lane : X → ℕ) (R : X → X → Type 0) where
 
       -- one that may come behind the last one of its lane stands behind all of the lane, and is the last one then
       module _ (goes_on : (a b c : X) → R a b → R b c → R a c) (comes : may ≡ true) where
-        behind : (k : ℕ) (d : X) → k < n → InLane (get_or xs k d) here
-        behind k d lt same own =
-            let it = are.each k d lt same in
-            let shown : get_or now (lane here) None ≡ Some it.0 = rw own at it.1 in
-            let follows : R it.0 here = rw shown at (test_there.0 comes) in
-            grind (arith, common_steps, goes_on (get_or xs k d) it.0 here)
-
         last_then : AreLast xs (n + 1) (input here) then
         last_then = record {
           some = λ l y shown. elim (cases_eq l (lane here)) [
             | inl same ↦
                 let own : here ≡ y = cc read_here in
-                record {
-                  place = n;
-                  below = omega arith;
-                  stands = search (arith, rules, get_or_default);
-                  own = cc;
-                  in_lane = cc;
-                }
-            | inr other ↦ let it = are.some l y (sym (read_other l other) ∙ shown) in search (arith, rules)
+                let there : (d : X) → get_or xs n d ≡ y = search (arith, rules, get_or_default) in
+                record { place = n; below = omega arith; stands = there; own = cc; in_lane = cc }
+            | inr other ↦ search (arith, rules, are.some l y, get_or-set_other)
           ];
           each = λ k d lt own. elim (cases_eq k n) [
             | inl same ↦
                 let its : get_or xs k d ≡ here = grind (arith, common_steps, get_or_default) in
-                (here, (rw its read_here), inl its)
-            | inr before ↦ elim (cases_eq (lane (get_or xs k d)) (lane here)) [
-              | inl same ↦ (here, (rw same read_here), inr (behind k d (omega arith) own same))
-              | inr other ↦
-                  let it = are.each k d (omega arith) own in (search (arith, rules, read_other))
-            ]
+                rw its (here, read_here, inl refl)
+            | inr before ↦
+                let it = are.each k d (omega arith) own in
+                let follows = goes_on (get_or xs k d) it.0 here in
+                let same_lane = cases_eq (lane (get_or xs k d)) (lane here) in
+                search (arith, rules, get_or-set_other, read_here, test_there, same_lane)
           ];
         }
 
         -- one item more
         pub lanes_next : Lanes xs lanes (n + 1) then
-        lanes_next = search (rules, cases_eq, behind, get_or_default, last_then, length-set, long_now, place)
+        lanes_next =
+            search
+            (rules, cases_eq, are.each, goes_on, test_there, get_or_default, last_then, length-set, long_now, place)
 
       -- one that stands behind all of its lane may come
       pub lanes_stop : may ≡ false → (false ≡ true) ↔ AllPairs InLane xs
-      lanes_stop not_so = (
-        (λ clash. absurd (let P : ⊥ = cc in P)),
-        (λ pairs. let may = test_there.1 (follows pairs (get_or now (lane here) None) refl) in cc),
-      )
+      lanes_stop not_so = search (arith, rules, test_there, follows)
         where
           follows : AllPairs InLane xs → (o : Option X) → get_or now (lane here) None ≡ o → IfSome o (λ y. R y here)
           follows pairs None shown = tt
           follows pairs (Some y) shown =
-              let it = are.some (lane here) y shown in
-              grind (arith, common_steps, it.stands e, pairs it.place n e it.below place.inside)
-
-  pub lanes_hold : (xs : List X) (lanes n : ℕ) (last : List (Option X)) → Lanes xs lanes n last → length xs ≤ n →
-      (true ≡ true) ↔ AllPairs InLane xs
-  lanes_hold xs lanes n last known past = grind (arith, common_steps, known.pairs)
+              let it = are.some (lane here) y shown in search (arith, rules, pairs it.place n e, place.inside)
 
 pub urgent_on : (a b c : Queued) → IsBefore a b → IsBefore b c → IsBefore a c
 urgent_on a b c = key_laws.on a.key b.key c.key
@@ -239,22 +202,10 @@ flow_of n = n.queued.cell.output * most_classes + n.queued.cell.class
 abbrev pub input_of : Name → ℕ
 input_of n = n.queued.key.input
 
-one_flow : (a b : Name) → a.queued.cell.class < most_classes → b.queued.cell.class < most_classes →
-    flow_of a ≡ flow_of b →
-    (a.queued.cell.output ≡ b.queued.cell.output) × (a.queued.cell.class ≡ b.queued.cell.class)
-one_flow a b low high same = (omega arith, omega arith)
-
-flow_number : (a b : Name) → InOneFlow a b → flow_of a ≡ flow_of b
-flow_number a b one = let output = one.output in let class = one.class in omega arith
-
 pub flows_as_lanes : (ports : ℕ) (xs : List Name) →
     AllByRecursion (λ n. (n.queued.cell.output < ports) × (n.queued.cell.class < most_classes)) xs →
     AllPairs (InLane input_of flow_of LeavesFirst) xs ↔ FlowsStand xs
-flows_as_lanes ports xs each =
-    grind (arith, common_steps, All-from_recursion _ xs each, one_flow, flow_number)
-
-pub through : {A B C : Type 0} → A ↔ B → B ↔ C → A ↔ C
-through ab bc = ((λ a. bc.0 (ab.0 a)), (λ c. ab.1 (bc.1 c)))
+flows_as_lanes ports xs each = grind (arith, common_steps, All-from_recursion _ xs each)
 
 -- ## Threads
 
@@ -264,13 +215,6 @@ pub record Threads (listed buffered : List Queued) (n thread : ℕ) : Type 0 whe
   pub few : thread ≤ n
   pub stand : (place : ℕ) (t : Queued) → place < n → slice_get listed place ≡ Some t →
       length (thread_in listed place t.key.input) < length (cushion_in buffered t)
-
-pub threads_first : (listed buffered : List Queued) → Threads listed buffered 0 0
-threads_first listed buffered = grind (arith, common_steps)
-
-pub threads_hold : (listed buffered : List Queued) (n thread : ℕ) → Threads listed buffered n thread →
-    length listed ≤ n → (true ≡ true) ↔ SlackStands listed buffered
-threads_hold listed buffered n thread known past = grind (arith, common_steps, slice_get_within, known.stand)
 
 -- what is known at a place: whether an input begins there
 pub record At (listed buffered : List Queued) (n thread now : ℕ) (e : Queued) (begun : Bool) : Type 0 where

@@ -1,5 +1,5 @@
 use Rattle.cq_resume.proofs.Terms.{rules, ℕ, ◌<◌, get_or_default, arith, IsBefore, Queued, most_ports, All-from_recursion}
-use Rattle.cq_resume.proofs.Lanes.{Place, lanes_first, lanes_hold, lanes_next, lanes_stop, urgent_on}
+use Rattle.cq_resume.proofs.Lanes.{Place, lanes_first, lanes_next, lanes_stop, urgent_on}
 use Rattle.cq_resume.proofs.order.keys_in_order.Goals.{After-may_follow}
 use Rattle.cq_resume.proofs.order.keys_in_order.Goals as goal
 
@@ -13,9 +13,8 @@ here : (c : After-may_follow) (e : Queued) → Place of_input of_output IsBefore
     c.places.at e
     c.places.last c.if-begins.last c.begins.result
 here c e =
-    let inside = c.places-test.true in
-    let own = All-from_recursion (λ (q : Queued). q.cell.output < most_ports) c.args.listed.now c.requires.outputs
-    c.places.at e (omega arith) in search (arith, rules)
+    let own = All-from_recursion (λ (q : Queued). q.cell.output < most_ports) c.args.listed.now c.requires.outputs in
+    search (arith, rules, own c.places.at e)
 
 pub places-init : goal.places-init
 places-init c = rw c.none_seen-last.ensures (lanes_first of_input of_output IsBefore c.args.listed.now most_ports)
@@ -33,4 +32,4 @@ pub bounds-last-output : goal.bounds-last-output
 bounds-last-output c = search (arith, rules, All-from_recursion)
 
 pub returns : goal.returns
-returns c = search (arith, rules, lanes_hold)
+returns c = search (arith, rules, c.places.invariant.pairs)

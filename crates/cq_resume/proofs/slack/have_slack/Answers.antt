@@ -1,5 +1,5 @@
-use Rattle.cq_resume.proofs.Terms.{rules, arith, Queued}
-use Rattle.cq_resume.proofs.Lanes.{At, threads_first, threads_hold, threads_next, threads_stop}
+use Rattle.cq_resume.proofs.Terms.{slice_get_within, common_steps, rules, arith, Queued}
+use Rattle.cq_resume.proofs.Lanes.{At, threads_next, threads_stop}
 use Rattle.cq_resume.proofs.slack.have_slack.Goals.{After-cushion_of-cushion}
 use Rattle.cq_resume.proofs.slack.have_slack.Goals as goal
 
@@ -8,7 +8,7 @@ here : (c : After-cushion_of-cushion) (e : Queued) →
 here c e = search (arith, rules)
 
 pub places-init : goal.places-init
-places-init c = threads_first c.args.listed.now c.args.buffered.now
+places-init c = grind (arith, common_steps)
 
 pub places-preserved : goal.places-preserved
 places-preserved c = threads_next (here (goal.at.places-preserved c).After-cushion_of-cushion _)
@@ -19,4 +19,4 @@ returns-then-cushion-thread c = threads_stop (here (goal.at.returns-then-cushion
     c.cushion_of-cushion.result c.cushion_of-cushion.ensures c.if-cushion-thread.true
 
 pub returns : goal.returns
-returns c = search (arith, rules, threads_hold)
+returns c = grind (arith, common_steps, slice_get_within, c.places.invariant.stand)
