@@ -4,7 +4,7 @@
 -- which stand by their keys. What the items of a list come to with their places, item by item. The departures of the
 -- cells that were sent stand by slot, and are before the next one. The figures of the outputs change departure by
 -- departure, each those of its own output. And the slots of a run: departures that stand by slot end with the last.
-use Rattle.cq_resume.proofs.Terms.{◌&&◌, rules, ◌≡◌, ℕ, ◌+◌, ◌-◌, ◌<◌, ◌≤◌, eqb, leb, ltb, Bool, true, false, List, [], ◌∷◌, length, get_or, take, drop, refl, ap, ◌∙◌, length-drop, Bor, arith, ◌++◌, map, common_steps, filter, Called, ComputesKey, Mut, IsPartitionPoint, IsNonDecreasingBy, always_returns_same, append-nil, get_or-drop, get_or-take, length-take-le, take-append-drop, map-append, take_more, filter-append, eq-eqb, leb-false, leb-true, ltb-false, ltb-true, ne_eqb, cases_eq, eqb-true, AllPairs, range_with_len, enumerate_from, IsRising, Queued, BuffersStand, IsBufferedBefore, ◌^◌, set, length-append, AllByRecursion, Departure, OutputFigures, output_told, IsSentBefore, IsTimely, departed, with_departure, Gone, recursion_from_All, filter_all, filter_none, cases_Bool, get_or-map-range_with_len, set_one, slots_of, all_weaker, of_images, few_kept, all_of_has, all_from_has, kept_has, each_pair, all_pairs, EachPair, pairs_mapped, All-from_recursion}
+use Rattle.cq_resume.proofs.Terms.{IsBefore, pairs_kept_with, ◌&&◌, rules, ◌≡◌, ℕ, ◌+◌, ◌-◌, ◌<◌, ◌≤◌, eqb, leb, ltb, Bool, true, false, List, [], ◌∷◌, length, get_or, take, drop, refl, ap, ◌∙◌, length-drop, Bor, arith, ◌++◌, map, common_steps, filter, Called, ComputesKey, Mut, IsPartitionPoint, IsNonDecreasingBy, always_returns_same, append-nil, get_or-drop, get_or-take, length-take-le, take-append-drop, map-append, take_more, filter-append, eq-eqb, leb-false, leb-true, ltb-false, ltb-true, ne_eqb, cases_eq, eqb-true, AllPairs, range_with_len, enumerate_from, IsRising, Queued, IsBufferedBefore, ◌^◌, set, length-append, AllByRecursion, Departure, OutputFigures, output_told, IsSentBefore, IsTimely, departed, with_departure, Gone, recursion_from_All, filter_all, filter_none, cases_Bool, get_or-map-range_with_len, set_one, slots_of, all_weaker, of_images, few_kept, each_pair, all_pairs, EachPair, pairs_mapped, All-from_recursion}
 use Rattle.std.proofs.lemmas.List.{take_rest}
 
 -- a test computes what each of its calls answers
@@ -41,10 +41,9 @@ module _ {X : Type 0} (key : X → ℕ) (t start end : ℕ) (xs upto : List X) (
 
   pub cut_at : take (length upto - start) (drop start upto) ≡ filter (λ x. eqb (key x) t) xs
   cut_at =
-      let rest = take_rest upto start in
       let outer = take-append-drop end xs in
       let inner = take-append-drop start upto in
-      search (arith, rules, behind_none, before_none, inner_all, filter-append, append-nil)
+      search (arith, rules, take_rest, behind_none, before_none, inner_all, filter-append, append-nil)
 
 -- items of which each later one has no lesser number do not fall
 pub not_falling : {X : Type 0} (R : X → X → Type 0) (key : X → ℕ) → ((a b : X) → R a b → key a ≤ key b) →
@@ -55,14 +54,10 @@ not_falling R key no_less xs pairs i j d le inside =
 pub output_no_less : (a b : Queued) → IsBufferedBefore a b → a.cell.output ≤ b.cell.output
 output_no_less a b before = grind (arith, common_steps)
 
-module _ (j : ℕ) where
-  -- of each pair the first is the more urgent where both are for this output
-  rising_kept : (xs : List Queued) → EachPair IsBufferedBefore xs → IsRising (filter (λ q. eqb q.cell.output j) xs)
-  rising_kept [] pairs = tt
-  rising_kept (x ∷ xs) pairs = grind (arith, common_steps, all_from_has, kept_has, eqb-true, all_of_has, rising_kept xs)
-
-  pub buffer_rises : (xs : List Queued) → BuffersStand xs → IsRising (filter (λ q. eqb q.cell.output j) xs)
-  buffer_rises xs stand = rising_kept xs (each_pair IsBufferedBefore xs stand)
+-- of cells for one output the first is the more urgent
+pub rising_kept : (j : ℕ) (xs : List Queued) → EachPair IsBufferedBefore xs →
+    IsRising (filter (λ q. eqb q.cell.output j) xs)
+rising_kept j = pairs_kept_with IsBufferedBefore IsBefore (λ q. eqb q.cell.output j) (search (arith, rules, eqb-true))
 
 -- the cells of an input, and those for an output
 abbrev pub listed_at : List Queued → ℕ → List Queued
@@ -76,28 +71,21 @@ enumerate_put : {X : Type 0} (n : ℕ) (xs : List X) (x : X) →
 enumerate_put {X} n [] x = grind (arith, common_steps)
 enumerate_put {X} n (y ∷ xs) x = grind (arith, common_steps, enumerate_put (n + 1) xs x)
 
-module _ {X Y : Type 0} (f : ℕ → X → Y) (xs : List X) where
-  pub placed_more : (i : ℕ) (d : X) (y : Y) (now new : List Y) → i < length xs →
-      now ≡ map (λ at. f at.0 at.1) (enumerate_from 0 (take i xs)) → y ≡ f i (get_or xs i d) → new ≡ now ++ y ∷ [] →
-      new ≡ map (λ at. f at.0 at.1) (enumerate_from 0 (take (i + 1) xs))
-  placed_more i d y now new inside so_far is more =
-      grind (arith, common_steps, length-take-le, take_more, enumerate_put, map-append)
+pub placed_more : {X Y : Type 0} (f : ℕ → X → Y) (xs : List X) (i : ℕ) (d : X) (y : Y) (now new : List Y) →
+    i < length xs → now ≡ map (λ at. f at.0 at.1) (enumerate_from 0 (take i xs)) → y ≡ f i (get_or xs i d) →
+    new ≡ now ++ y ∷ [] → new ≡ map (λ at. f at.0 at.1) (enumerate_from 0 (take (i + 1) xs))
+placed_more f xs i d y now new inside so_far is more =
+    grind (arith, common_steps, length-take-le, take_more, enumerate_put, map-append)
 
 -- two tests one after the other are one
-module _ {X : Type 0} (p q : X → Bool) where
-  pub filter_both : (xs : List X) → filter p (filter q xs) ≡ filter (λ x. q x && p x) xs
-  filter_both [] = refl
-  filter_both (x ∷ xs) = grind (arith, common_steps, filter_both xs)
+pub filter_both : {X : Type 0} (p q : X → Bool) (xs : List X) → filter p (filter q xs) ≡ filter (λ x. q x && p x) xs
+filter_both p q [] = refl
+filter_both p q (x ∷ xs) = grind (arith, common_steps, filter_both p q xs)
 
 -- ## Slots
 
 abbrev pub IsNoLater : Departure → Departure → Type 0
 IsNoLater d e = d.slot ≤ e.slot
-
-least_of : (d : Departure) (sent : List Departure) → AllByRecursion (IsNoLater d) sent → 0 < length sent →
-    d.slot + 1 ≤ slots_of sent
-least_of d [] all some = absurd (omega arith)
-least_of d (e ∷ sent) all some = let later = all.0 in omega arith
 
 pub slots_last : (sent : List Departure) (d : Departure) → EachPair IsNoLater sent → 0 < length sent →
     (get_or sent (length sent - 1) d).slot + 1 ≡ slots_of sent
@@ -122,16 +110,13 @@ module _ (sent : List Departure) (ports i : ℕ) (e : Departure) (now : List Out
   abbrev here : Departure
   here = get_or sent i e
 
-  own : here.output < ports
-  own = All-from_recursion (λ (d : Departure). d.output < ports) sent all i e inside
-
   outputs_more : (x : OutputFigures) → x ≡ with_departure here.output (output_told (take i sent) here.output) here →
       set now here.output x ≡ map (output_told (take (i + 1) sent)) (range_with_len 0 ports)
-  outputs_more x is = let its = own in grind (arith, common_steps, read_on)
+  outputs_more x is = grind (arith, common_steps, read_on, All-from_recursion _ sent all i e inside)
 
   module _ (read : OutputFigures) (is : read ≡ get_or now here.output read) where
     there : read ≡ output_told (take i sent) here.output
-    there = let its = own in grind (arith, common_steps, get_or-map-range_with_len)
+    there = grind (arith, common_steps, get_or-map-range_with_len, All-from_recursion _ sent all i e inside)
 
     -- it has sent no more cells than there are departures before this one
     pub fewer_sent : read.cells ≤ i

@@ -1,8 +1,9 @@
 -- What a run goes on from. The cells that a sound state names are different arrivals before its next slot. So the
 -- fabric that it tells of stands in order, no key is in it twice, and in each list, for each output and in each count
 -- there are no more cells than came, and none has more than there were slots.
-use Rattle.cq_resume.proofs.Terms.{common_steps, rules, ◌≡◌, ◌≢◌, ℕ, zero, suc, ◌+◌, ◌<◌, ◌≤◌, ◌^◌, Bool, true, List, [], ◌∷◌, length, get_or, map, Option, None, Some, refl, ap, arith, length-append, ◌==◌, IsSome, filter, nat_lt, slice_get, AllByRecursion, enumerate_from, filter_map, range_with_len, option_map, cases_lt, eq-eqb, eqb-true, lt-ltb, ne_eqb, get_or_past, length-map, filter-append, get_or-map-range_with_len, length-enumerate_from, length-map-range_with_len, Arrival, IsBefore, is_for, Cell, Departure, Queued, OutputFigures, IsTraffic, is_from, is_to, number_of, cells_refused, packets_refused, refused_at, refused_counts, Refused, Fabric, buffer, input, AreCountsOf, AreOwn, HasPorts, IsSoundFabric, fabric_in, departure_of, figures_told, frozen_told, refused_arrivals, sent_told, IsSound, HasShape, Switch, arriving_cell, buffer_told, fabric_told, is_ahead, key_of, list_told, named_in, output_in, output_of, queued_in, queued_of, IsInRange, Named, Sent, State, few_kept, InputFigures, Key, held_for, waiting_for, Apart, Early, all_before, differ_from, IsFabric, ListsKeepOrder, Frozen, AreSized, all_of_has, all_from_has, all_has, has_left, has_right, has_kept, kept_has, Has, AreApart, Stands, no_more, each_pair, pairs_left, pairs_cross, pairs_kept_with, looked_up, pairs_looked_up, kept_few, looked_few, image_at, numbers_few, EachPair}
+use Rattle.cq_resume.proofs.Terms.{common_steps, rules, ◌≡◌, ◌≢◌, ℕ, zero, suc, ◌+◌, ◌<◌, ◌≤◌, ◌^◌, Bool, true, List, [], ◌∷◌, length, get_or, map, Option, None, Some, refl, ap, arith, length-append, ◌==◌, IsSome, filter, nat_lt, slice_get, AllByRecursion, enumerate_from, filter_map, range_with_len, option_map, cases_lt, eq-eqb, eqb-true, lt-ltb, ne_eqb, get_or_past, length-map, filter-append, get_or-map-range_with_len, length-enumerate_from, length-map-range_with_len, Arrival, IsBefore, is_for, Cell, Departure, Queued, OutputFigures, IsTraffic, is_from, is_to, number_of, cells_refused, packets_refused, refused_at, refused_counts, Refused, Fabric, buffer, input, AreCountsOf, AreOwn, HasPorts, IsSoundFabric, fabric_in, departure_of, figures_told, frozen_told, sent_told, IsSound, HasShape, Switch, arriving_cell, buffer_told, fabric_told, is_ahead, key_of, list_told, named_in, output_in, output_of, queued_in, queued_of, IsInRange, Named, Sent, State, few_kept, InputFigures, Key, held_for, waiting_for, Apart, Early, all_before, differ_from, IsFabric, ListsKeepOrder, Frozen, AreSized, all_of_has, all_from_has, all_has, has_left, has_right, has_kept, kept_has, Has, AreApart, no_more, each_pair, pairs_left, pairs_cross, pairs_kept_with, looked_up, pairs_looked_up, kept_few, looked_few, image_at, numbers_few, EachPair}
 use Rattle.cq_ideal.proofs.Waiting.{total, total_more, total_none}
+use Rattle.cq_resume.proofs.Cut.{rising_kept}
 pub use Rattle.cq_resume.proofs.Coming.{FoundAt, found_at}
 pub use Rattle.cq_resume.proofs.Zipped.{Differ, sifted}
 use Rattle.cq_resume.specs.Sound.{IsBufferedBefore, IsSentBefore}
@@ -30,12 +31,10 @@ pub record GoesOn (w : Switch) (x : Frozen) : Type 0 where
 -- ## What is told for each number
 
 module _ (told : ℕ → List Queued) (many : ℕ) where
-  told_at : (i : ℕ) → i < many → get_or (map told (range_with_len 0 many)) i [] ≡ told i
-  told_at i inside = get_or-map-range_with_len told 0 many i i [] inside (omega arith)
-
   of_told : (P : List Queued → Type 0) → P [] → (i : ℕ) → P (told i) →
       P (get_or (map told (range_with_len 0 many)) i [])
-  of_told P none i here = grind (arith, common_steps, told_at, length-map-range_with_len, get_or_past, cases_lt)
+  of_told P none i here =
+      grind (arith, common_steps, get_or-map-range_with_len, length-map-range_with_len, get_or_past, cases_lt)
 
 -- ## A name and its arrival
 
@@ -65,26 +64,19 @@ names_few : (test : Arrival → Bool) (next : ℕ) (came : List Arrival) (p : Na
     ((c : Named) (a : Arrival) → p c ≡ true → arriving_cell came c ≡ Some a.cell → a.cell.id.input ≡ c.input →
     test a ≡ true) → length (filter p names) ≤ number_of test (came_before next came)
 names_few test next came p names pairs arrive passes =
-    no_more IsOfArrival (filter p names) (filter test (came_before next came)) (pairs_kept_with Differ
-    (AreApart IsOfArrival) p (λ c d _ _ differ a first second. search (arith, rules, differ)) names pairs)
-    (all_from_has (Stands IsOfArrival (filter test (came_before next came))) (filter p names)
-    (λ c has. let kept = kept_has p names c has in
+    let apart = pairs_kept_with Differ (AreApart IsOfArrival) p
+    (λ c d _ _ differ a first second. search (arith, rules, differ)) names pairs in
+    no_more IsOfArrival (filter p names) (filter test (came_before next came)) apart
+    (all_from_has _ _ (λ c has. let kept = kept_has p names c has in
     let some = some_cell (arriving_cell came c) (arrive c kept.0).1 in
     search (arith, rules, arrive c, found_at came c.slot c.input some.0, lt-ltb, has_kept)))
 
 -- ## Counts of what was refused
 
--- an output and its limit, as a count tells them, and alone
-abbrev counted_at : Refused → ℕ × ℕ
-counted_at r = (r.output, r.limit)
-
-abbrev limit_at : ℕ → ℕ → ℕ × ℕ
-limit_at j limit = (j, limit)
-
 same_outputs : (limits : List (Option ℕ)) (cells : List Cell) (j : ℕ) →
-    map counted_at
+    map {B = ℕ × ℕ} (λ (r : Refused). (r.output, r.limit))
     (filter_map (λ (at : ℕ × Option ℕ). option_map (refused_at cells at.0) at.1) (enumerate_from j limits))
-    ≡ filter_map (λ (at : ℕ × Option ℕ). option_map (limit_at at.0) at.1) (enumerate_from j limits)
+    ≡ filter_map (λ (at : ℕ × Option ℕ). option_map (λ (n : ℕ). (at.0, n)) at.1) (enumerate_from j limits)
 same_outputs [] cells j = refl
 same_outputs (limit ∷ limits) cells j = grind (arith, common_steps, same_outputs limits cells (j + 1))
 
@@ -111,10 +103,6 @@ module _ (w : Switch) (s : State) (in_range : IsInRange s) (shape : HasShape w s
   pub ports_are : s.head.ports ≡ length w.machines
   ports_are = shape.head.ports
 
-  -- the names
-  abbrev sent_names : List Named
-  sent_names = map (λ (d : Sent). d.cell) s.sent
-
   abbrev pub Comes : Named → Type 0
   Comes c = (c.slot < s.head.next) × IsSome (arriving_cell w.came c)
 
@@ -125,13 +113,10 @@ module _ (w : Switch) (s : State) (in_range : IsInRange s) (shape : HasShape w s
   differ = each_pair Differ (named_in s) sound.arrivals.once
 
   pub queued_differ : EachPair Differ (queued_in s)
-  queued_differ = pairs_left Differ (queued_in s) sent_names differ
-
-  listed_differ : EachPair Differ s.listed
-  listed_differ = pairs_left Differ s.listed s.buffered queued_differ
+  queued_differ = pairs_left Differ (queued_in s) _ differ
 
   pub queued_named : (c : Named) → Has (queued_in s) c → Has (named_in s) c
-  queued_named c has = has_left (queued_in s) sent_names c has
+  queued_named c has = has_left (queued_in s) _ c has
 
   -- what the traffic says of a cell
   pub record OfTraffic (c : Named) (q : Queued) : Type 0 where
@@ -167,11 +152,11 @@ module _ (w : Switch) (s : State) (in_range : IsInRange s) (shape : HasShape w s
   -- the list of an input and the buffer of an output
   pub list_is : (i : ℕ) → i < s.head.ports → input f i ≡ list_told w.came s i
   unfolding fabric_told
-  list_is = told_at (list_told w.came s) s.head.ports
+  list_is = search (arith, rules, get_or-map-range_with_len)
 
   pub buffer_is : (j : ℕ) → j < s.head.ports → buffer f j ≡ buffer_told w.came s j
   unfolding fabric_told
-  buffer_is = told_at (buffer_told w.came s) s.head.ports
+  buffer_is = search (arith, rules, get_or-map-range_with_len)
 
   -- what holds of the one that is told, and of none, holds of each
   of_list : (P : List Queued → Type 0) → P [] → (i : ℕ) → P (list_told w.came s i) → P (input f i)
@@ -216,39 +201,30 @@ module _ (w : Switch) (s : State) (in_range : IsInRange s) (shape : HasShape w s
   abbrev Leads : Queued → Queued → Type 0
   Leads a b = a.cell.output ≡ b.cell.output → IsBefore a b
 
-  list_stands : (i : ℕ) → EachPair Leads (list_told w.came s i)
-  list_stands i = pairs_looked_up t IsFirst Leads
-      (λ c d q r ahead first second same. search (arith, rules, in_order, its_output)) (filter (at_input i) s.listed)
-      (pairs_kept_with IsFirstThere IsFirst (at_input i) (λ c d one two ahead. search (arith, rules, eqb-true)) s.listed
-      (each_pair IsFirstThere s.listed sound.order.keys))
-
   buffer_stands : (j : ℕ) → EachPair IsBefore (buffer_told w.came s j)
-  buffer_stands j = pairs_kept_with IsFoundBefore IsBefore (is_for j)
-      (λ a b one two ahead. grind (arith, common_steps, eqb-true)) (filter_map t s.buffered)
+  buffer_stands j = rising_kept j (filter_map t s.buffered)
       (search (arith, rules, pairs_looked_up t (IsBufferedBefore w.came) IsFoundBefore, each_pair))
 
   apart : Apart f
   apart = search (rules, in_list, its_input, one_cell, in_buffer, one_arrival, pairs_cross, Differ, queued_differ)
 
   early : Early s.head.next f
-  early = record {
-    waiting = λ i c a. let one = in_list i c a in
-        search (arith, rules, its_slot, comes one.name (has_left _ _ one.name (has_left _ _ one.name one.has)));
-    crossed = λ j c a. let one = in_buffer j c a in
-        search (arith, rules, its_slot, comes one.name (has_left _ _ one.name (has_right s.listed _ one.name one.has)));
-  }
+  early =
+      let all_come = λ (c : Named) (has : Has (queued_in s) c). comes c (queued_named c has) in
+      search (arith, rules, its_slot, all_come, has_left, has_right, in_list, in_buffer)
 
   sides : (length f.inputs ≡ length w.machines) × (length f.buffers ≡ length f.inputs)
   unfolding fabric_told
   sides = grind (arith, common_steps, length-map-range_with_len, ports_are)
 
   is_fabric : IsFabric f
-  is_fabric =
-      let rising = of_buffer (EachPair IsBefore) tt in
-      search (arith, rules, sides, of_traffic, in_list, in_buffer, rising, buffer_stands)
+  is_fabric = search (arith, rules, sides, of_traffic, in_list, in_buffer, of_buffer (EachPair IsBefore), buffer_stands)
 
   keep_order : ListsKeepOrder f
-  keep_order i = of_list (EachPair Leads) tt i (list_stands i)
+  keep_order i =
+      let kept = pairs_kept_with IsFirstThere IsFirst (at_input i) in
+      let ahead = pairs_looked_up t IsFirst Leads in
+      of_list (EachPair Leads) tt i (search (arith, rules, ahead, in_order, its_output, kept, each_pair, eqb-true))
 
   is_sound : IsSoundFabric s.head.next f
   is_sound = search (rules, is_fabric, keep_order, sound.slack, differ_from, apart, all_before, early)
@@ -260,18 +236,14 @@ module _ (w : Switch) (s : State) (in_range : IsInRange s) (shape : HasShape w s
 
   lists_few : (i : ℕ) → length (input f i) ≤ number_of (is_from i) (came_before s.head.next w.came)
   lists_few i =
-      let few = names_few (is_from i) s.head.next w.came (at_input i) s.listed listed_differ
-      (λ c has. comes c (has_left _ _ c (has_left _ _ c has)))
-      (λ c a own arrives input. search (arith, rules, eq-eqb, eqb-true)) in
-      of_list (λ (l : List Queued). length l ≤ number_of (is_from i) (came_before s.head.next w.came)) (omega arith) i
+      let few = names_few (is_from i) s.head.next w.came (at_input i) s.listed (pairs_left _ _ _ queued_differ)
+      (search (arith, rules, comes, has_left)) (search (arith, rules, eq-eqb, eqb-true)) in
+      of_list (λ l. length l ≤ number_of (is_from i) (came_before s.head.next w.came)) (omega arith) i
       (omega (arith, looked_few t (filter (at_input i) s.listed)))
 
   module _ (j : ℕ) where
     abbrev for_it : Named → Bool
     for_it c = output_of w.came c == j
-
-    its_for : (c : Named) (q : Queued) → t c ≡ Some q → is_for j q ≡ true → for_it c ≡ true
-    its_for c q is passes = search (arith, rules, eq-eqb, its_output, eqb-true)
 
     -- how many cells of an input's list are for the output
     abbrev listed_for : List Named → ℕ → ℕ
@@ -280,9 +252,8 @@ module _ (w : Switch) (s : State) (in_range : IsInRange s) (shape : HasShape w s
     spread : (names : List Named) (n : ℕ) → total (listed_for names) 0 n ≤ length (filter for_it names)
     spread [] n = omega (arith, total_none (listed_for []) 0 n (λ i. refl))
     spread (c ∷ names) n =
-        let more : total (listed_for (c ∷ names)) 0 n ≤ total (listed_for names) 0 n + length (filter for_it (c ∷ [])) =
-        total_more _ _ c.input _ 0 n (λ i ne. grind (arith, common_steps, ne_eqb))
-        (grind (arith, common_steps, eq-eqb)) in
+        let more = total_more (listed_for (c ∷ names)) (listed_for names) c.input (length (filter for_it (c ∷ []))) 0 n
+        (λ i ne. grind (arith, common_steps, ne_eqb)) (grind (arith, common_steps, eq-eqb)) in
         grind (arith, common_steps, spread names n)
 
     waiting_is : (a n : ℕ) →
@@ -293,46 +264,37 @@ module _ (w : Switch) (s : State) (in_range : IsInRange s) (shape : HasShape w s
 
     buffered_few : length (buffer f j) ≤ length (filter for_it s.buffered)
     buffered_few = of_buffer (λ (l : List Queued). length l ≤ length (filter for_it s.buffered)) (omega arith) j
-        (kept_few t (is_for j) for_it its_for s.buffered)
+        (kept_few t (is_for j) for_it (search (arith, rules, eq-eqb, its_output, eqb-true)) s.buffered)
 
     held_few : held_for j f ≤ number_of (is_to j) (came_before s.head.next w.came)
     unfolding fabric_told
     held_few =
-        let both : length (filter for_it (queued_in s)) ≡ length (filter for_it s.listed) + length
-        (filter for_it s.buffered)
-        = search (arith, rules, filter-append, length-append) in
         let few = names_few (is_to j) s.head.next w.came for_it (queued_in s) queued_differ
-        (λ c has. comes c (queued_named c has)) (λ c a own arrives input. search (arith, rules, eq-eqb, eqb-true)) in
-        omega (arith, waiting_is 0 s.head.ports, spread s.listed s.head.ports, buffered_few)
+        (search (rules, comes, queued_named)) (search (arith, rules, eq-eqb, eqb-true)) in
+        let waiting = waiting_is 0 s.head.ports in
+        grind (arith, common_steps, filter-append, length-append, waiting, spread s.listed s.head.ports, buffered_few)
 
   -- ## No more were counted than there were slots
 
   input_counts : (i : ℕ) → length (filter (at_input i) (named_in s)) ≤ s.head.next
-  input_counts i = numbers_few (λ (c : Named). c.slot) (filter (at_input i) (named_in s)) s.head.next
-      (pairs_kept_with Differ (λ (c d : Named). c.slot ≢ d.slot) (at_input i)
-      (λ c d one two differ same. search (arith, rules, eqb-true)) (named_in s) differ)
-      (all_from_has _ _ (λ c has. (comes c (kept_has (at_input i) (named_in s) c has).0).0))
+  input_counts i = numbers_few (λ (c : Named). c.slot) _ s.head.next
+      (pairs_kept_with Differ (λ c d. c.slot ≢ d.slot) (at_input i) (search (arith, rules, eqb-true)) _ differ)
+      (search (arith, rules, all_from_has, comes, kept_has (at_input i)))
 
   -- a departure's output
   abbrev sent_to : ℕ → Sent → Bool
   sent_to j d = output_of w.came d.cell == j
 
-  abbrev IsTimely : Sent → Type 0
-  IsTimely d = (d.cell.slot ≤ d.slot) × (d.slot < s.head.next)
-
   output_counts : (j : ℕ) → length (filter (λ (d : Departure). d.output == j) (sent_told w.came s)) ≤ s.head.next
   output_counts j =
       let told = kept_few (departure_of w.came) (λ (d : Departure). d.output == j) (sent_to j)
       (λ d x is passes. grind (arith, common_steps, eqb-true, eq-eqb)) s.sent in
+      let timely = all_has (λ (d : Sent). (d.cell.slot ≤ d.slot) × (d.slot < s.head.next)) s.sent in
       let few = numbers_few (λ (d : Sent). d.slot) (filter (sent_to j) s.sent) s.head.next
       (pairs_kept_with (IsSentBefore w.came) (λ (d e : Sent). d.slot ≢ e.slot) (sent_to j)
-      (λ d e one two before same. search (arith, rules, eqb-true)) s.sent
-      (each_pair (IsSentBefore w.came) s.sent sound.order.sent))
-      (search (arith, rules, all_from_has, all_has IsTimely s.sent, kept_has (sent_to j) s.sent)) in
+      (search (arith, rules, eqb-true)) s.sent (each_pair (IsSentBefore w.came) s.sent sound.order.sent))
+      (search (arith, rules, all_from_has, timely, kept_has)) in
       omega arith
-
-  lost_few : length (map (λ (a : Arrival). a.cell) (refused_arrivals w.came s)) ≤ length w.came
-  lost_few = grind (arith, common_steps, length-map, few_kept)
 
   -- ## Together
 
@@ -340,12 +302,9 @@ module _ (w : Switch) (s : State) (in_range : IsInRange s) (shape : HasShape w s
   unfolding frozen_told fabric_told figures_told
   has_ports = grind (arith, common_steps, length-map-range_with_len, ports_are, length-map, length-enumerate_from)
 
-  ruleset its_parts = (has_ports, is_sound, are_own, input_counts, output_counts, lists_few, held_few)
+  ruleset its_parts = (has_ports, is_sound, are_own, input_counts, output_counts, lists_few, held_few, counts_few)
 
   pub goes_on : GoesOn w (frozen_told w s)
   unfolding frozen_told fabric_told figures_told refused_counts
   goes_on =
-      let refused = map (λ (a : Arrival). a.cell) (refused_arrivals w.came s) in
-      let lost = counts_few w.limits refused 0 (length w.came) lost_few in
-      let counts = same_outputs w.limits refused 0 in
-      search (rules, its_parts, in_range.head, shape.ranks, counts, lost, image_at)
+      search (arith, rules, its_parts, in_range.head, shape.ranks, same_outputs, length-map, few_kept, image_at)

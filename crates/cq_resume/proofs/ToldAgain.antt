@@ -84,8 +84,7 @@ module _ (w : Switch) (s : State) (in_range : IsInRange s) (shape : HasShape w s
     again : map named_as (flat_map (λ l. l) (map told (range_with_len 0 s.head.ports))) ≡ xs
     again = rw (end_on_end number told (filter_map cell_of xs) s.head.ports is
         (pairs_looked_up cell_of R (λ q r. number q ≤ number r) no_less xs (each_pair R xs pairs))
-        (all_from_has (λ q. number q < s.head.ports) (filter_map cell_of xs) (λ q has.
-        let it = looked_up cell_of xs q has in low it.origin q it.has it.is)))
+        (search (arith, rules, all_from_has, looked_up, low)))
         (told_again cell_of named_as xs
         (λ c has. let some = arrives c (named c has) in grind (arith, common_steps)))
 
