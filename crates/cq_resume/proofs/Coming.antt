@@ -1,6 +1,6 @@
 -- The cells that arrive at one input, from a slot on. They rise by slot, so the next slot with an arrival is that of
 -- the first of them, and behind it are those from the slot after that on.
-use Rattle.cq_resume.proofs.Terms.{common_steps, rules, ◌≡◌, ℕ, ◌+◌, ◌<◌, ◌≤◌, leb, ltb, Bool, List, [], ◌∷◌, None, Some, refl, inl, inr, arith, ◌&&◌, filter, AllByRecursion, and_parts, eqb-true, and_from, and_left, eq-eqb, le-leb, lt-leb, lt-ltb, cases_lt, Arrival, arriving_at, Cell, is_from, ComeBehind, IsLine, coming, ArrivesIn, IsNextArrival, all_of_has, has_kept, Has, EachPair, filter_none, all_weaker, false}
+use Rattle.cq_resume.proofs.Terms.{and_right, le-ltb, common_steps, rules, ◌≡◌, ℕ, ◌+◌, ◌<◌, ◌≤◌, leb, ltb, Bool, List, [], ◌∷◌, None, Some, refl, inl, inr, arith, ◌&&◌, filter, AllByRecursion, and_parts, eqb-true, and_from, and_left, eq-eqb, le-leb, lt-leb, lt-ltb, Arrival, arriving_at, Cell, is_from, ComeBehind, IsLine, coming, ArrivesIn, IsNextArrival, all_of_has, has_kept, Has, EachPair, filter_none, all_weaker}
 
 -- ## What arrives in a slot at an input
 
@@ -17,7 +17,7 @@ found_at [] t i cell is = absurd (let P : ⊥ = cc in P)
 found_at (a ∷ came) t i cell is = grind (arith, common_steps, and_parts, eqb-true, found_at came t i cell)
 
 -- one that arrives there is found
-found_there : (slot input : ℕ) (came : List Arrival) → ArrivesIn slot (filter (is_from input) came) →
+pub found_there : (slot input : ℕ) (came : List Arrival) → ArrivesIn slot (filter (is_from input) came) →
     arriving_at came slot input ≡ None → ⊥
 found_there slot input [] arrives none = arrives
 found_there slot input (a ∷ came) arrives none = grind (arith, common_steps, eq-eqb, found_there slot input came)
@@ -41,10 +41,6 @@ line_rising (a ∷ line) is = behind_rising a line is.1
 abbrev pub is_between : ℕ → ℕ → Arrival → Bool
 is_between from next a = leb from a.slot && ltb a.slot next
 
-not_between : (from next slot : ℕ) (a : Arrival) → next ≤ slot → (from ≤ a.slot → slot ≤ a.slot) →
-    is_between from next a ≡ false
-not_between from next slot a le late = grind (arith, common_steps)
-
 -- those behind a slot are those from the next one on
 behind_same : (from next slot : ℕ) (line : List Arrival) → from ≤ slot → AllByRecursion (λ b. slot < b.slot) line →
     filter (is_between from next) line ≡ filter (is_between (slot + 1) next) line
@@ -61,8 +57,7 @@ next_in from next slot x (a ∷ line) rising (inl same) at le lt all =
     let rest = behind_same from next slot line le (rw here at rising.0) in
     grind (arith, common_steps, and_from, le-leb, lt-ltb, and_left, lt-leb)
 next_in from next slot x (a ∷ line) rising (inr has) at le lt all =
-    let before = all_of_has (IsEarlier a) line x rising.0 has in
-    search (arith, rules, and_left, lt-leb, cases_lt, next_in from next slot x line rising.1 has at le lt all.1)
+    grind (arith, common_steps, all_of_has (IsEarlier a), and_left, lt-leb, next_in from next slot x line)
 
 -- ## At an input
 
@@ -72,13 +67,11 @@ module _ (input from next : ℕ) (came : List Arrival) where
 
   pub none_comes_yet : (slot : ℕ) → IsNextArrival (filter (is_from input) came) from (Some slot) → next ≤ slot →
       coming input from next came ≡ []
-  none_comes_yet slot is le = search (arith, rules, filter_none, all_weaker, not_between, is.none_before)
+  none_comes_yet slot is le =
+      search (arith, rules, filter_none, all_weaker, and_left, and_right, lt-leb, le-ltb, is.none_before)
 
   module _ (slot : ℕ) (is : IsNextArrival (filter (is_from input) came) from (Some slot)) (lt : slot < next)
       (whole : IsLine (filter (is_from input) came)) where
-    pub one_is_there : arriving_at came slot input ≡ None → ⊥
-    one_is_there = found_there slot input came is.arrives
-
     pub one_comes : (cell : Cell) → arriving_at came slot input ≡ Some cell →
         coming input from next came ≡ record { slot = slot; cell = cell } ∷ coming input (slot + 1) next came
     one_comes cell found =

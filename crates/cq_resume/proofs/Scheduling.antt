@@ -51,10 +51,7 @@ module _ (t : Tables) (captures : List (List Captured)) (input : ℕ) where
   come_behind k (suc m) a packet slot =
       let some = some_cells k in
       let many : cells t captures input k ≡ suc (cells t captures input k - 1) = omega arith in
-      rw many (
-        begins k a packet slot,
-        one_packet k (cells t captures input k - 1) (packets_from (k + 1) m) many (come_behind (k + 1) m),
-      )
+      rw many (begins k a packet slot, one_packet k (cells t captures input k - 1) _ many (come_behind (k + 1) m))
 
   line_of : (m : ℕ) → IsLine (packets_from 0 m)
   line_of zero = tt
@@ -66,12 +63,10 @@ module _ (t : Tables) (captures : List (List Captured)) (input : ℕ) where
   unfolding arrivals_at
   input_is_line = line_of (length (packets_of captures input))
 
-module _ (t : Tables) (captures : List (List Captured)) (tables : AreTables t)
-    (ports : length captures ≡ ports_of t.setup) where
-  by_input : arrivals t captures
-      ≡ flat_map (λ i. filter (is_from i) (arrivals t captures)) (range_with_len 0 (length captures))
-  unfolding arrivals
-  by_input = grind (arith, common_steps, flat_same, at_input)
+by_input : (t : Tables) (captures : List (List Captured)) → AreTables t → length captures ≡ ports_of t.setup →
+    arrivals t captures ≡ flat_map (λ i. filter (is_from i) (arrivals t captures)) (range_with_len 0 (length captures))
+unfolding arrivals
+by_input t captures tables ports = grind (arith, common_steps, flat_same, at_input)
 
 -- what is known of the schedule of tables
 pub record IsKnown (t : Tables) (s : Scheduled) : Type 0 where

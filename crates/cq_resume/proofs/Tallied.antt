@@ -4,7 +4,7 @@
 -- with a mark exactly where each packet that has begun is named whole, or not at all and its output has a limit.
 -- Cells of one packet come one behind the other, so each is compared with the one before it. The mark is up where the
 -- last cell is not named, which is of the packet that began last.
-use Rattle.cq_resume.proofs.Terms.{common_steps, rules, ◌≡◌, ℕ, ◌<◌, ◌≤◌, eqb, ltb, Bool, true, false, cond, List, [], ◌∷◌, fold, Option, Some, refl, sym, inl, inr, arith, None, ◌==◌, filter, not, AllByRecursion, and_from, and_parts, and_right, cases_Bool, cases_lt, eq-eqb, eqb-true, le-leb, le-ltb, lt-ltb, ltb-true, Arrival, latest, ArePackets, ComeBehind, IsLine, IsWholePacket, PacketsStand, coming, firsts_before, has_limit, has_name, is_left_out, mark_on, may_come, packet_before, Name, all_of_has, all_from_has, pair_of_has, has_kept, kept_has, Has, EachPair, any_alike}
+use Rattle.cq_resume.proofs.Terms.{common_steps, rules, ◌≡◌, ℕ, ◌<◌, ◌≤◌, eqb, ltb, Bool, true, false, cond, List, [], ◌∷◌, fold, Option, Some, refl, sym, inl, inr, arith, None, ◌==◌, filter, not, AllByRecursion, and_from, and_parts, and_right, cases_Bool, cases_lt, eq-eqb, eqb-true, le-leb, le-ltb, lt-ltb, ltb-true, Arrival, latest, ArePackets, ComeBehind, IsLine, PacketsStand, coming, firsts_before, has_limit, has_name, is_left_out, mark_on, may_come, packet_before, Name, all_of_has, all_from_has, pair_of_has, has_kept, kept_has, Has, EachPair, any_alike}
 use Rattle.cq_resume.proofs.Coming.{is_between}
 
 -- whether a cell is the first of its packet
@@ -48,18 +48,15 @@ module _ (named : Arrival → Bool) (limited : ℕ → Bool) where
   each_alike : (a : Arrival) (line : List Arrival) (m : Bool) → ComeBehind a line →
       mark_on named limited (not (named a)) line ≡ Some m → EachPair AlikeIn (a ∷ line)
   each_alike a [] m behind ends = (tt, tt)
-  each_alike a (b ∷ line) m behind ends = (
-    all_from_has (AlikeIn a) (b ∷ line) (λ c has. (behind_alike a (b ∷ line) m behind ends c has).1),
-    each_alike b line m behind.1 (one_step (not (named a)) m b line ends).1,
-  )
+  each_alike a (b ∷ line) m behind ends =
+      let all = all_from_has (AlikeIn a) (b ∷ line) in
+      search (arith, rules, all, behind_alike a (b ∷ line) m, one_step, each_alike b line m)
 
   pub line_stands : (line : List Arrival) (m : Bool) → IsLine line → mark_on named limited false line ≡ Some m →
       Stand line
   line_stands [] m is ends = record { alike = tt; allowed = tt }
   line_stands (a ∷ line) m is ends =
-      let step = one_step false m a line ends in
-      search
-      (arith, rules, each_alike a line m is.1 step.1, all_from_has IsAllowed line, behind_alike a line m is.1 step.1)
+      search (arith, rules, each_alike a line m, one_step, all_from_has IsAllowed, behind_alike a line m)
 
   -- ## The last first cell
 
@@ -151,18 +148,15 @@ module _ (limits : List (Option ℕ)) (ports next : ℕ) (came : List Arrival) (
   -- where all inputs stand so do all packets
   pub packets_stand : ((i : ℕ) → i < ports → LineStands i) → PacketsStand limits next came names
   packets_stand stand =
-      all_from_has (λ (a : Arrival). a.cell.id.index ≡ 0 → a.slot < next → IsWholePacket limits next came names a)
-      came (λ a has begins early. let in_packet-here = in_packet a in
-      let alike_there-here = alike_there a.cell.id.input in
-      search (arith, rules, cases_Bool (has_name names a), all_of_has, to_line, all_from_has))
+      all_from_has _ came (λ a has begins early. let alike = alike_there a.cell.id.input in
+      search (arith, rules, in_packet a, alike, cases_Bool (has_name names a), all_of_has, to_line, all_from_has))
 
   -- and the other way
   pub as_first : PacketsStand limits next came names → (i : ℕ) (f b : Arrival) → Has (coming i 0 next came) f →
       Has (coming i 0 next came) b → f.cell.id.index ≡ 0 → f.cell.id.packet ≡ b.cell.id.packet →
       (has_name names b ≡ has_name names f) × IsAllowed (has_name names) (has_limit limits) f
   as_first stand i f b first second begins packet =
-      let one = in_line i f first in
-      let two = in_line i b second in search (arith, rules, all_of_has, to_packet f f, to_packet f b)
+      search (arith, rules, in_line i, all_of_has, to_packet f f, to_packet f b)
 
   -- ## Marks
 
@@ -183,9 +177,6 @@ module _ (limits : List (Option ℕ)) (ports next : ℕ) (came : List Arrival) (
           let g = fold later_one a (filter is_first rest) in
           let there : Has (coming i 0 next came) g = rw is its.0 in
           let g_in = in_line i g there in
-          let alike = alike_there i stand g in
           let any = any_alike (has_name names) (has_name names g) (packet_before came next g) g
-          (to_packet g g g_in.0 refl refl g_in.2) (λ y has.
-          let own = in_packet g y has in
-          let there = to_line y own.0 own.3 in search (arith, rules)) in
+          (search (rules, to_packet)) (search (arith, rules, in_packet g, to_line, alike_there i stand g)) in
           grind (arith, common_steps, eq-eqb)

@@ -20,9 +20,8 @@ module _ (limits : List (Option ℕ)) (next : ℕ) (came : List Arrival) (names 
 
     mark_there : (i : ℕ) → i < ports → mark_at limits next came names i ≡ Some (get_or marks i false)
     mark_there i inside =
-        let size = many in
         let there = get_or-map-range_with_len (mark_at limits next came names) 0 ports i i None inside (omega arith) in
-        search (arith, rules, get_or-map)
+        search (arith, rules, get_or-map, many)
 
     stands : (i : ℕ) → i < ports → LineStands limits ports next came names are i
     stands i inside = search (rules, line_stands, whole, mark_there)
@@ -34,8 +33,7 @@ module _ (limits : List (Option ℕ)) (next : ℕ) (came : List Arrival) (names 
     told i = is_left_out names next came (latest (firsts_before i next came))
 
     pub all_marks : marks ≡ map told (range_with_len 0 ports)
-    all_marks = fill_by_all told marks ports false many (λ k low.
-        mark_is limits ports next came names are k low (stands k low) (get_or marks k false) (mark_there k low))
+    all_marks = fill_by_all told marks ports false many (λ k low. search (rules, mark_is, stands, mark_there))
 
     pub tallies_up : (x : Tally) → length limits ≡ ports → x.marks ≡ marks → x.refused ≡ refused →
         TalliesUp limits next came names x

@@ -36,8 +36,7 @@ module _ (input from next : ℕ) (came : List Arrival) {names : List Name} {limi
   its_name : is_told ≡ has_name names its
   its_name =
       let alike = any-filter_same (λ n. eqb n.queued.key.slot slot && eqb n.queued.key.input input)
-      (λ n. eqb n.queued.key.input input) true
-      (λ n holds. (and_parts (eqb n.queued.key.slot slot) (eqb n.queued.key.input input) holds).1) names in
+      (λ n. eqb n.queued.key.input input) true (search (arith, rules, and_parts)) names in
       grind (arith, common_steps, comes_from input from next came its rest splits)
 
   step : mark_on (has_name names) (has_limit limits) mark (coming input from next came)
@@ -47,9 +46,6 @@ module _ (input from next : ℕ) (came : List Arrival) {names : List Name} {limi
   -- it may not come
   pub walk_stops : may ≡ false → None ≡ mark_on (has_name names) (has_limit limits) false all
   walk_stops is = let on = step in let marks = known.marks in grind (arith, common_steps)
-
-  pub walk_counts : CanCount 1 now
-  walk_counts = search (arith, rules, fewer_left)
 
   size : length (coming input from next came) ≡ suc (length rest)
   size = ap (λ (l : List Arrival). length l) splits
@@ -66,5 +62,4 @@ module _ (input from next : ℕ) (came : List Arrival) {names : List Name} {limi
   pub walk_goes_on : (left : Bool) (after : List Refused) → may ≡ true → left ≡ not is_told →
       after ≡ with_refused (cond left (cell ∷ []) []) now → Walked names limits all rest left first after
   walk_goes_on left after is not_told counted =
-      let both = all_counted_both (cond left (cell ∷ []) []) (cells_in (unnamed names rest)) now in
-      search (arith, rules, one_left, step, fits)
+      let both = all_counted_both (cond left (cell ∷ []) []) in search (arith, rules, one_left, step, fits, both)

@@ -6,8 +6,7 @@ use Rattle.cq_resume.proofs.packets.tally_packets.Goals as goal
 use Rattle.cq_resume.proofs.packets.tally_packets.Goals.{After-of-2}
 
 pub inputs-init : goal.inputs-init
-inputs-init c = rw (c.new-marks.ensures.items, c.in_ok-refused.ensures)
-    (tallied_first c.args.limits.now c.args.next c.args.schedule.now.came c.args.names.now)
+inputs-init c = rw (c.new-marks.ensures.items, c.in_ok-refused.ensures) (tallied_first _ _ _ _)
 
 pub walk-requires-clause-room : goal.walk-requires-clause-room
 walk-requires-clause-room c =
@@ -15,8 +14,7 @@ walk-requires-clause-room c =
     let many = c.requires.limits in
     let few = c.total-total.ensures.few in
     let size = c.total-total.ensures.cells in
-    rw c.deref_mut.ensures.value
-    (tally_fits _ _ _ _ _ c.requires.packets _ _ _ c.inputs.invariant (omega arith) (omega arith))
+    search (arith, rules, tally_fits _ _ _ _ _ c.requires.packets _ _ _ c.inputs.invariant)
 
 pub inputs-preserved : goal.inputs-preserved
 inputs-preserved c =
