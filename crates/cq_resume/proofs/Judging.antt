@@ -5,35 +5,21 @@
 -- is counted among all buffered cells; and what is named is the same. Of any two names of one flow the one that
 -- arrived first leaves first. What a sound state comes to is said of found cells too. Where a step of judging fails it
 -- names the first clause that fails, since those before it are known; and a state is sound of which all are known.
-use Rattle.cq_resume.proofs.Terms.{common_steps, arith, rules, ◌≡◌, ◌<◌, ◌↔◌, ◌⊎◌, eqb, Bool, true, false, List, [], ◌∷◌, length, map, refl, ◌∙◌, ℕ, sym, ap, All, IsPermutation, ◌&&◌, filter, AllByRecursion, AllZip, list_any, enumerate_from, range_with_len, filter_agree, list_any-IsPermutation, sum_by-IsPermutation, Arrival, Queued, IsTally, figures_told, frozen_told, input_told, output_told, sent_told, taken_of, AreFound, IsWholePacket, PacketsStand, TalliesUp, has_name, names_of, IsFound, AllNamed, AreWholePackets, NoneNamed, HasLimit, Switch, is_named, named_in, packet_before, buffer_told, fabric_told, Gone, Name, Tally, State, length-filter, slots_of, departed, figures_at_input, Found, Taken, Seen, ◌++◌, get_or, ◌≤◌, AllPairs, cases_order, map-append, All-permutation, IsPermutation-sym, IsBefore, FlowsStand, IsGone, IsNameBefore, IsTold, InOneFlow, Leaves, LeavesEarlier, sent_name, waiting_name, IsFoundBefore, IsListedBefore, IsNoLaterInput, IsGoneBefore, IsTimely, StandsBelow, StandBelow, AreOrdered, AreArrivals, KeepArrivalOrder, OfOneFlow, AreBelowFloors, IsBelowFloor, StandInOrder, is_ahead, queued_in, output_of, Named, Sent, All-from_recursion, recursion_from_All, Transfer, machines_of, None, Some, inl, inr, ⊎_elim, ◌-◌, zero, suc, take, ◌+◌, filter_map, slice_get, cases_Bool, cases_eq, cases_lt, eq-eqb, eqb-true, get_or_past, map-id, get_or-map-range_with_len, length-map-range_with_len, is_for, buffer, cushion_of, input, SlackStands, cushion_in, thread_in, HaveSlack, list_told, queued_of, length-map, Scheduled, AreCellsFor, AreNamesFor, HaveRoom, IsCellFor, IsFirstOfTwo, AreFoundIn, IsForPorts, Clause, IsFirstOf, IsFirstUnsound, IsSound, switch_of, CanTakeUp, classes_of, ports_of, Tables, machine_of, IsInRange, IsNamed, below_more, below_none, all_weaker, all_both, all_front, all_back, of_images, Setup, has_at, has_there, all_of_has, all_has, has_all, has_left, has_right, has_cases, has_image, image_has, pair_of_has, Has, each_pair, all_pairs, pairs_right, pairs_cross, EachPair, pairs_of_images, most_ports, StateRefusal}
-use Rattle.cq_resume.proofs.Zipped.{zip_by, same_mapped, IsOf, names_zip, sifted, told_is, told_facts, zip_both, zip_has, zip_mate, pairs_alike, all_alike, gone_for, told_for, Differ}
+use Rattle.cq_resume.proofs.Terms.{common_steps, arith, rules, ◌≡◌, ◌<◌, ◌↔◌, ◌⊎◌, eqb, Bool, true, false, List, [], ◌∷◌, length, map, refl, ◌∙◌, ℕ, sym, ap, All, IsPermutation, filter, AllByRecursion, AllZip, enumerate_from, range_with_len, list_any-IsPermutation, sum_by-IsPermutation, Arrival, Queued, IsTally, figures_told, frozen_told, input_told, output_told, sent_told, taken_of, AreFound, IsWholePacket, PacketsStand, TalliesUp, has_name, names_of, IsFound, AllNamed, AreWholePackets, NoneNamed, HasLimit, Switch, is_named, named_in, packet_before, buffer_told, fabric_told, Gone, Name, Tally, State, length-filter, slots_of, departed, figures_at_input, Found, Taken, Seen, ◌++◌, get_or, ◌≤◌, AllPairs, cases_order, map-append, All-permutation, IsPermutation-sym, IsBefore, FlowsStand, IsGone, IsNameBefore, IsTold, InOneFlow, Leaves, LeavesEarlier, sent_name, waiting_name, IsFoundBefore, IsListedBefore, IsNoLaterInput, IsGoneBefore, IsTimely, StandsBelow, StandBelow, AreOrdered, AreArrivals, KeepArrivalOrder, OfOneFlow, AreBelowFloors, IsBelowFloor, StandInOrder, is_ahead, queued_in, output_of, Named, Sent, All-from_recursion, recursion_from_All, Transfer, machines_of, None, Some, inl, inr, ◌-◌, zero, suc, take, ◌+◌, filter_map, slice_get, cases_Bool, cases_eq, cases_lt, eq-eqb, eqb-true, get_or_past, map-id, get_or-map-range_with_len, length-map-range_with_len, is_for, buffer, cushion_of, input, SlackStands, cushion_in, thread_in, HaveSlack, list_told, queued_of, length-map, Scheduled, AreCellsFor, AreNamesFor, HaveRoom, IsCellFor, IsFirstOfTwo, AreFoundIn, IsForPorts, Clause, IsFirstOf, IsFirstUnsound, IsSound, switch_of, CanTakeUp, classes_of, ports_of, Tables, machine_of, IsInRange, IsNamed, below_more, below_none, all_weaker, all_both, all_front, all_back, of_images, Setup, has_at, has_there, all_of_has, all_has, has_all, has_left, has_right, has_cases, has_image, image_has, pair_of_has, Has, each_pair, all_pairs, pairs_right, pairs_cross, EachPair, pairs_of_images, most_ports, StateRefusal}
+use Rattle.cq_resume.proofs.Zipped.{zip_by, same_mapped, IsOf, names_zip, sifted, told_facts, zip_both, zip_has, zip_mate, pairs_alike, all_alike, gone_for, told_for, Differ}
 use Rattle.cq_resume.proofs.Cut.{buffered_at, filter_both, listed_at}
 use Rattle.cq_resume.specs.Sound.{IsBufferedBefore, IsSentBefore}
-
-any_zip : {A B : Type 0} (R : A → B → Type 0) (p : A → Bool) (q : B → Bool) →
-    ((x : A) (y : B) → R x y → p x ≡ q y) → (xs : List A) (ys : List B) → AllZip R xs ys → list_any p xs ≡ list_any q ys
-any_zip R p q same = zip_by R (λ xs ys. list_any p xs ≡ list_any q ys) refl (search (arith, rules))
-
--- so many of two lists that belong together, and of two in another order, pass a test
-passed_zip : {A B : Type 0} (R : A → B → Type 0) (p : A → Bool) (q : B → Bool) →
-    ((x : A) (y : B) → R x y → p x ≡ q y) → (xs : List A) (ys : List B) → AllZip R xs ys →
-    length (filter p xs) ≡ length (filter q ys)
-passed_zip R p q same = zip_by R (λ xs ys. length (filter p xs) ≡ length (filter q ys)) refl (search (arith, rules))
 
 passed_moved : {X : Type 0} (p : X → Bool) (xs ys : List X) → IsPermutation xs ys →
     length (filter p xs) ≡ length (filter p ys)
 passed_moved p xs ys same = grind (arith, common_steps, length-filter, sum_by-IsPermutation)
 
-any_alike : {X : Type 0} (p q : X → Bool) → ((x : X) → p x ≡ q x) → (xs : List X) → list_any p xs ≡ list_any q xs
-any_alike {X} p q same xs = ap (λ (test : X → Bool). list_any test xs) (λ k x. same x k)
-
 -- what holds of both sides of a clause alike holds of all items alike
 all_same : {X : Type 0} (P Q : X → Type 0) → ((x : X) → P x ↔ Q x) → (xs : List X) → All P xs ↔ AllByRecursion Q xs
 all_same P Q same xs = grind (arith, common_steps, all_weaker, recursion_from_All, All-from_recursion)
 
-module _ {X Y : Type 0} (f g : X → Y) where
-  pub mapped_alike : ((x : X) → f x ≡ g x) → (xs : List X) → map f xs ≡ map g xs
-  mapped_alike same xs = ap (λ (h : X → Y). map h xs) (λ k x. same x k)
+mapped_alike : {X Y : Type 0} (f g : X → Y) → ((x : X) → f x ≡ g x) → (xs : List X) → map f xs ≡ map g xs
+mapped_alike {X} {Y} f g same xs = ap (λ (h : X → Y). map h xs) (λ k x. same x k)
 
 -- ## Names by input and slot
 
@@ -45,35 +31,16 @@ flows_hold : (names : List Name) → AllPairs IsNameBefore names → FlowsStand 
 flows_hold names rising flows m n first second before =
     let Both : Name → Name → Type 0 = λ a b. IsNameBefore a b × LeavesEarlier a b in
     let both = each_pair Both names (λ i j d lt inside. (rising i j d lt inside, flows i j d lt inside)) in
-    let ways = pair_of_has Both names m n both first second in grind (arith, common_steps)
+    grind (arith, common_steps, pair_of_has)
 
 has_moved : (xs ys : List Name) (m : Name) → IsPermutation ys xs → Has xs m → Has ys m
-has_moved xs ys m back has =
-    all_has (Has ys) xs m (All-permutation (Has ys) ys xs back (has_all (Has ys) ys (λ x own. own))) has
+has_moved xs ys m back has = search (rules, all_has (Has ys) xs, All-permutation (Has ys) ys, has_all (Has ys) ys)
 
 -- ## Two names and their cells
 
-module _ (came : List Arrival) (next : ℕ) (c d : Named) (q r : Queued) (first : IsTold came next c q)
-    (second : IsTold came next d r) where
-  pub same_ahead : (is_ahead c d ≡ true) ↔ IsBefore q r
-  same_ahead = grind (arith, common_steps, told_facts)
-
-  no_later : (c.input ≤ d.input) ↔ IsNoLaterInput q r
-  no_later = grind (arith, common_steps, told_facts)
-
-  listed : (c.input ≡ d.input → output_of came c ≡ output_of came d → is_ahead c d ≡ true) ↔ IsListedBefore q r
-  listed = grind (arith, common_steps, told_facts)
-
-  buffered : IsBufferedBefore came c d ↔ IsFoundBefore q r
-  buffered = grind (arith, common_steps, told_facts)
-
-sent : (came : List Arrival) (next : ℕ) (d e : Sent) (g h : Gone) → IsGone came next d g → IsGone came next e h →
-    IsSentBefore came d e ↔ IsGoneBefore g h
-sent came next d e g h first second = grind (arith, common_steps, told_facts)
-
-timely : (came : List Arrival) (next : ℕ) (d : Sent) (g : Gone) → IsGone came next d g →
-    ((d.cell.slot ≤ d.slot) × (d.slot < next)) ↔ IsTimely next g
-timely came next d g is = grind (arith, common_steps, told_facts)
+same_ahead : (came : List Arrival) (next : ℕ) (c d : Named) (q r : Queued) → IsTold came next c q →
+    IsTold came next d r → (is_ahead c d ≡ true) ↔ IsBefore q r
+same_ahead came next c d q r first second = grind (arith, common_steps, told_facts)
 
 turn : {came : List Arrival} {c d : Named} → OfOneFlow came c d → OfOneFlow came d c
 turn one = record { input = sym one.input; output = sym one.output; class = sym one.class }
@@ -133,13 +100,14 @@ module _ (w : Switch) (s : State) (names : List Name)
   alike t xs = search (rules, all_same, same)
 
   pub packets_alike : AreWholePackets w s ↔ PacketsStand w.limits s.head.next w.came names
-  packets_alike = all_same ByState ByNames (λ a.
-      let all = alike true (packet_before w.came s.head.next a) in
-      search (arith, rules, alike false (packet_before w.came s.head.next a))) w.came
+  packets_alike = all_same ByState ByNames (λ a. let before = packet_before w.came s.head.next a in
+      search (arith, rules, alike true before, alike false before)) w.came
 
   pub tally_is : (x : Tally) → length w.limits ≡ s.head.ports → TalliesUp w.limits s.head.next w.came names x →
       IsTally w s x
-  tally_is x many up = search (arith, rules, mapped_alike, any_alike, same, filter_agree)
+  tally_is x many up =
+      let as_one : is_named (named_in s) ≡ has_name names = λ k a. same a k in
+      search (arith, rules, mapped_alike, as_one)
 
 -- ## Of the cells that were found
 
@@ -154,43 +122,45 @@ module _ (w : Switch) (s : State) (f : Found) (found : IsFound w.came s f) where
   pub order_alike : StandInOrder w s ↔ AreOrdered f s.head.next s.moved
   order_alike =
       let next = s.head.next in
-      let lists = pairs_alike Told _ _ (no_later w.came next) s.listed f.listed.items found.listed in
-      let keys = pairs_alike Told _ _ (listed w.came next) s.listed f.listed.items found.listed in
-      let buffers = pairs_alike Told _ _ (buffered w.came next) s.buffered f.buffered.items found.buffered in
-      let sends = pairs_alike Left _ _ (sent w.came next) s.sent f.sent.items found.sent in
-      let times = all_alike Left _ _ (timely w.came next) s.sent f.sent.items found.sent in
-      let early = λ (t : Transfer). t.slot < next in (
+      let lists = pairs_alike Told (λ c d. c.input ≤ d.input) IsNoLaterInput
+      (λ c d q r first second. grind (arith, common_steps, told_facts)) s.listed f.listed.items found.listed in
+      let keys = pairs_alike Told
+      (λ c d. c.input ≡ d.input → output_of w.came c ≡ output_of w.came d → is_ahead c d ≡ true) IsListedBefore
+      (λ c d q r first second. grind (arith, common_steps, told_facts)) s.listed f.listed.items found.listed in
+      let buffers = pairs_alike Told (IsBufferedBefore w.came) IsFoundBefore
+      (λ c d q r first second. grind (arith, common_steps, told_facts)) s.buffered f.buffered.items found.buffered in
+      let sends = pairs_alike Left (IsSentBefore w.came) IsGoneBefore
+      (λ d e g h first second. grind (arith, common_steps, told_facts)) s.sent f.sent.items found.sent in
+      let times = all_alike Left (λ d. (d.cell.slot ≤ d.slot) × (d.slot < next)) (IsTimely next)
+      (λ d g is. grind (arith, common_steps, told_facts)) s.sent f.sent.items found.sent in
+      let moved = All-from_recursion (λ (t : Transfer). t.slot < next) s.moved in
+      let in_time = All-from_recursion (λ (d : Sent). (d.cell.slot ≤ d.slot) × (d.slot < next)) s.sent in (
         (λ stand. search (arith, rules, recursion_from_All)),
-        (λ is. let moved = All-from_recursion early s.moved is.4 in
-            let in_order = sends.1 is.2.ordered in
-            let in_time = All-from_recursion _ s.sent (times.1 is.2.timely) in search (arith, rules)),
+        (λ is. search (arith, rules, moved, in_time, sends.1 is.2.ordered, times.1 is.2.timely)),
       )
 
   -- ## Floors
 
-  module _ (setup : Setup) (own : w.machines ≡ machines_of setup) where
-    below : (c : Named) (q : Queued) → Told c q → IsBelowFloor w s c ↔ StandsBelow setup s.ranks q
-    below c q is = grind (arith, common_steps, told_facts)
-
-    pub floors_alike : AreBelowFloors w s ↔ StandBelow setup s.ranks f
-    floors_alike =
-        let lists = all_alike Told _ _ below s.listed f.listed.items found.listed in
-        let buffers = all_alike Told _ _ below s.buffered f.buffered.items found.buffered in
-        search (arith, rules, recursion_from_All, all_front, all_back, All-from_recursion, all_both)
-
-  -- ## Flows
-
   abbrev waiting : List Queued
   waiting = f.listed.items ++ f.buffered.items
+
+  zips : AllZip Told (queued_in s) waiting
+  zips = zip_both Told s.listed f.listed.items s.buffered f.buffered.items found.listed found.buffered
+
+  module _ (setup : Setup) (own : w.machines ≡ machines_of setup) where
+    pub floors_alike : AreBelowFloors w s ↔ StandBelow setup s.ranks f
+    floors_alike =
+        let both = all_alike Told (IsBelowFloor w s) (StandsBelow setup s.ranks)
+        (λ c q is. grind (arith, common_steps, told_facts)) (queued_in s) waiting zips in
+        search (arith, rules, recursion_from_All, All-from_recursion, all_both, all_front, all_back)
+
+  -- ## Flows
 
   abbrev told : List Name
   told = names_of f.listed.items f.buffered.items f.sent.items
 
   back : IsPermutation f.names.items told
   back = IsPermutation-sym told f.names.items found.same
-
-  zips : AllZip Told (queued_in s) waiting
-  zips = zip_both Told s.listed f.listed.items s.buffered f.buffered.items found.listed found.buffered
 
   -- by what name of the state a name was found: one that waits, or that of a departure
   record Entry (m : Name) : Type 0 where
@@ -204,27 +174,20 @@ module _ (w : Switch) (s : State) (f : Found) (found : IsFound w.came s f) where
   told_cases m has = grind (arith, common_steps, image_has, has_left, has_right, has_cases)
 
   entry : (m : Name) → Has f.names.items m → Entry m
-  entry m has = ⊎_elim (search (arith, rules, zip_has, zips))
-      (search (arith, rules, zip_has)) (told_cases m (has_moved f.names.items told m found.same has))
+  entry m has = search (arith, rules, told_cases, zip_has, zips, has_moved f.names.items told)
 
   waits : (c : Named) → Has (queued_in s) c → (m : Name) × Has f.names.items m × Told c m.queued × (m.sent ≡ None)
   waits c has =
       let by = zip_mate Told (queued_in s) waiting zips c has in
-      let among = rw (map-append waiting_name f.listed.items f.buffered.items) at
-      (has_image waiting_name waiting by.0 by.1) in
-      let here = has_left _ (map sent_name f.sent.items) (waiting_name by.0) among in
-      (waiting_name by.0, has_moved told f.names.items (waiting_name by.0) back here, by.2, refl)
+      let among = rw map-append at (has_image waiting_name waiting by.0 by.1) in
+      search (arith, rules, has_left, has_moved told f.names.items (waiting_name by.0) back)
 
   left : (d : Sent) → Has s.sent d → (m : Name) × Has f.names.items m × Told d.cell m.queued × (m.sent ≡ Some d.slot)
   left d has =
       let by = zip_mate Left s.sent f.sent.items found.sent d has in
-      let here = has_right (map waiting_name f.listed.items ++ map waiting_name f.buffered.items)
-      (map sent_name f.sent.items) (sent_name by.0) (has_image sent_name f.sent.items by.0 by.1) in (
-        sent_name by.0,
-        has_moved told f.names.items (sent_name by.0) back here,
-        by.2.1,
-        ap (λ (k : ℕ). Some k) by.2.0,
-      )
+      let here = has_right (map waiting_name f.listed.items ++ map waiting_name f.buffered.items) _ _
+      (has_image sent_name f.sent.items by.0 by.1) in
+      (sent_name by.0, has_moved told f.names.items (sent_name by.0) back here, by.2.1, cc)
 
   module _ (c d : Named) (m n : Name) (first : Told c m.queued) (second : Told d n.queued) where
     of_one : OfOneFlow w.came c d ↔ InOneFlow m n
@@ -268,14 +231,12 @@ module _ (w : Switch) (s : State) (f : Found) (found : IsFound w.came s f) where
       after = has_all BehindAll s.sent (λ d gone. has_all (Behind d) (queued_in s) (λ c has one.
           let a = waits c has in
           let b = left d gone in
-          let other = pairs_cross Differ (queued_in s) _ c d.cell differ has
-          (has_image (λ (x : Sent). x.cell) s.sent d gone) in
+          let other = pairs_cross Differ (queued_in s) _ c d.cell differ has (has_image _ s.sent d gone) in
           search (arith, rules, leave _ _ a.0 b.0 a.2 b.2 hold a.1 b.1, turn one, cases_order)));
       queued = has_all InTurnAll (queued_in s) (λ c first. has_all (InTurn c) (queued_in s) (λ d second one less.
           let a = waits c first in
           let b = waits d second in
-          (same_ahead w.came s.head.next c d a.0.queued b.0.queued a.2 b.2).1
-          (rw (a.3, b.3) at (leave c d a.0 b.0 a.2 b.2 hold a.1 b.1 one less))));
+          search (arith, rules, same_ahead w.came s.head.next c d, leave c d a.0 b.0 a.2 b.2 hold a.1 b.1)));
     }
 
     keep_flows : KeepArrivalOrder w s → FlowsHold f.names.items
@@ -285,30 +246,18 @@ module _ (w : Switch) (s : State) (f : Found) (found : IsFound w.came s f) where
         let flow = (of_one a.name b.name m n a.told_by b.told_by).1 one in
         let less = (earlier a.name b.name m n a.told_by b.told_by flow.input).1 before in
         let before_it = (same_ahead w.came s.head.next a.name b.name m.queued n.queued a.told_by b.told_by).0 in
+        let all_turn = all_has InTurnAll (queued_in s) a.name keep.queued in
+        let all_behind = λ (d : Sent). all_has (Behind d) (queued_in s) a.name in
         let Both : Sent → Sent → Type 0 = λ d e. IsSentBefore w.came d e
         × (OfOneFlow w.came d.cell e.cell → d.cell.slot < e.cell.slot) in
         let both = each_pair Both s.sent (λ i j d lt inside. (stand.sent i j d lt inside, keep.sent i j d lt inside)) in
-        elim a.stands [
-          | inl p ↦ elim b.stands [
-            | inl q ↦ rw (p.1, q.1) (before_it (all_has (InTurn a.name) (queued_in s) b.name
-                (all_has InTurnAll (queued_in s) a.name keep.queued p.0) q.0 flow less))
-            | inr q ↦
-                search (
-                  arith,
-                  rules,
-                  all_has (Behind q.0) (queued_in s) a.name,
-                  all_has BehindAll s.sent q.0 keep.after q.1,
-                )
-          ]
-          | inr p ↦ search (arith, rules, pair_of_has)
-        ]
+        let turns = all_has (InTurn a.name) (queued_in s) in
+        search (arith, rules, pair_of_has, all_turn, all_behind, turns, all_has BehindAll s.sent)
 
     -- the fifth clause, by the names that were found
     pub flows_alike : KeepArrivalOrder w s ↔ FlowsStand f.names.items
     flows_alike = (
-      (λ keep i j d lt inside. keep_flows keep (get_or f.names.items i d) (get_or f.names.items j d)
-          (has_at f.names.items i d (omega arith)) (has_at f.names.items j d inside)
-          (found.ordered i j d lt inside)),
+      (λ keep i j d lt inside. grind (arith, common_steps, keep_flows keep, has_at, found.ordered i j d)),
       (search (arith, rules, flows_keep, flows_hold)),
     )
 
@@ -338,25 +287,18 @@ module _ (w : Switch) (s : State) (f : Found) (found : IsFound w.came s f) where
 
   module _ (inputs : AllByRecursion (λ q. q.key.input < s.head.ports) f.listed.items)
       (outputs : AllByRecursion (λ q. q.cell.output < s.head.ports) f.listed.items) where
-    slack_found : HaveSlack w s → SlackStands f.listed.items f.buffered.items
-    slack_found have place t is =
-        let has = has_there f.listed.items place t is in
-        let low = all_of_has (λ (q : Queued). q.key.input < s.head.ports) f.listed.items t inputs has in
-        let to = all_of_has (λ (q : Queued). q.cell.output < s.head.ports) f.listed.items t outputs has in
-        let there = at_place t.key.input f.listed.items place t is refl in
-        let enough = have t.key.input (length (thread_in f.listed.items place t.key.input)) t in
-        grind (arith, common_steps, input_is, cushion_is)
-
-    slack_clause : SlackStands f.listed.items f.buffered.items → HaveSlack w s
-    slack_clause stands i thread c is = ⊎_elim (λ inside.
-        let it = at_thread i f.listed.items thread c (grind (arith, common_steps, input_is)) in
-        let has = has_there f.listed.items it.0 c it.1 in
-        let to = all_of_has (λ (q : Queued). q.cell.output < s.head.ports) f.listed.items c outputs has in
-        search (arith, rules, stands it.0 c it.1, cushion_is)) (λ past. search (arith, rules, no_input))
-        (cases_lt i s.head.ports)
-
     pub slack_alike : HaveSlack w s ↔ SlackStands f.listed.items f.buffered.items
-    slack_alike = (slack_found, slack_clause)
+    slack_alike = (
+      (λ have place t is.
+          let has = has_there f.listed.items place t is in
+          let enough = have t.key.input (length (thread_in f.listed.items place t.key.input)) t in
+          grind (arith, common_steps, input_is, cushion_is, all_of_has, at_place t.key.input f.listed.items place)),
+      (λ stands i thread c is.
+          let split = cases_lt i s.head.ports in
+          let it = at_thread i f.listed.items thread c (search (arith, rules, input_is, no_input)) in
+          let has = has_there f.listed.items it.0 c it.1 in
+          let enough = stands it.0 c it.1 in grind (arith, common_steps, cushion_is, all_of_has)),
+    )
 
   -- ## Names
 
@@ -364,29 +306,20 @@ module _ (w : Switch) (s : State) (f : Found) (found : IsFound w.came s f) where
   named_zips = names_zip w.came s f.listed.items f.buffered.items f.sent.items found.listed found.buffered found.sent
 
   one_named : (a : Arrival) → is_named (named_in s) a ≡ has_name f.names.items a
-  one_named a = any_zip (IsOf w.came s.head.next) (λ c. eqb c.slot a.slot && eqb c.input a.cell.id.input)
-      (λ n. eqb n.queued.key.slot a.slot && eqb n.queued.key.input a.cell.id.input) (λ c n is. search (arith, rules))
+  one_named a = zip_by (IsOf w.came s.head.next) (λ cs ns. is_named cs a ≡ has_name ns a) refl (search (arith, rules))
       (named_in s) _ named_zips ∙ list_any-IsPermutation _ _ f.names.items found.same
 
   -- ## Figures
 
   pub sent_is : sent_told w.came s ≡ map departed f.sent.items
-  sent_is = search (arith, rules, same_mapped, told_is)
+  sent_is = search (arith, rules, same_mapped, cases_Bool)
 
   figures_are : (i : ℕ) (x : Seen) → figures_at_input f.names.items i x ≡ input_told s i x
   figures_are i x =
-      let passed = passed_zip (IsOf w.came s.head.next) (λ c. eqb c.input i) (λ n. eqb n.queued.key.input i)
-      (λ c n is. search (arith, rules)) (named_in s) _ named_zips in
-      let moved = passed_moved (λ (n : Name). eqb n.queued.key.input i) _ f.names.items found.same in
-      grind (arith, common_steps)
-
-  lists_are : map (listed_at f.listed.items) (range_with_len 0 s.head.ports) ≡ (fabric_told w.came s).inputs
-  unfolding fabric_told
-  lists_are = grind (arith, common_steps, mapped_alike, listed_at, list_is)
-
-  buffers_are : map (buffered_at f.buffered.items) (range_with_len 0 s.head.ports) ≡ (fabric_told w.came s).buffers
-  unfolding fabric_told
-  buffers_are = sym (mapped_alike (buffer_told w.came s) (buffered_at f.buffered.items) buffer_is _)
+      let passed = zip_by (IsOf w.came s.head.next) (λ (cs : List Named) (ns : List Name).
+      length (filter (λ c. eqb c.input i) cs) ≡ length (filter (λ n. eqb n.queued.key.input i) ns)) refl
+      (search (arith, rules)) (named_in s) _ named_zips in
+      grind (arith, common_steps, passed_moved (λ (n : Name). eqb n.queued.key.input i) _ f.names.items found.same)
 
   -- what is taken up is what the state comes to, part by part
   pub taken_is : (x : Tally) (t : Taken) → IsTally w s x → t.frozen.next ≡ s.head.next →
@@ -398,11 +331,12 @@ module _ (w : Switch) (s : State) (f : Found) (found : IsFound w.came s f) where
       t.frozen.lists ≡ map (listed_at f.listed.items) (range_with_len 0 s.head.ports) →
       t.frozen.buffers ≡ map (buffered_at f.buffered.items) (range_with_len 0 s.head.ports) →
       t.sent ≡ map departed f.sent.items → t.note ≡ s.moved → t ≡ taken_of w s
-  unfolding frozen_told figures_told
+  unfolding frozen_told figures_told fabric_told
   taken_is x t tally next slots proposals most inputs outputs refused marks ranks lists buffers sent note =
-      let all_inputs = mapped_alike (λ (at : ℕ × Seen). figures_at_input f.names.items at.0 at.1)
-      (λ (at : ℕ × Seen). input_told s at.0 at.1) (λ at. figures_are at.0 at.1) (enumerate_from 0 s.inputs) in
-      search (arith, rules, sent_is, lists_are, buffers_are)
+      let inputs_are = mapped_alike _ _ (λ (at : ℕ × Seen). figures_are at.0 at.1) (enumerate_from 0 s.inputs) in
+      let lists_are = mapped_alike _ _ list_is (range_with_len 0 s.head.ports) in
+      let buffers_are = mapped_alike _ _ buffer_is (range_with_len 0 s.head.ports) in
+      search (arith, rules, sent_is)
 
 -- ## The inputs that are named
 
@@ -423,9 +357,6 @@ module _ (w : Switch) (s : State) where
   Before n = (k : ℕ) → k < n → Clause w s k
 
   module _ (n : ℕ) (before : Before n) where
-    pub first_fails : (Clause w s n → ⊥) → IsFirstUnsound w s n
-    first_fails fails = record { before = before; fails = fails }
-
     pub one_more : Clause w s n → Before (n + 1)
     one_more holds = below_more (Clause w s) n before holds
 
@@ -434,7 +365,7 @@ module _ (w : Switch) (s : State) where
     two_more both = one_more (n + 1) (one_more n before (first.1 both.0)) (second.1 both.1)
 
     pub two_refused : (r : StateRefusal) → IsFirstOfTwo n P Q r → IsFirstOf w s r
-    two_refused r why = grind (arith, common_steps, first_fails, one_more)
+    two_refused r why = grind (arith, common_steps, one_more)
 
 -- ## The found cells
 
@@ -447,9 +378,7 @@ module _ (t : Tables) (c : Scheduled) (s : State) (f : Found) (k : AreFoundIn t 
   few_ports = let most = k.tables.setup.ports in omega arith
 
   pub cells_for : AreCellsFor t.setup f
-  cells_for =
-      let told = told_for (ports_of t.setup) (classes_of t.setup) c.came k.traffic s.head.next in
-      (search (arith, rules))
+  cells_for = search (arith, rules, told_for (ports_of t.setup) (classes_of t.setup) c.came k.traffic s.head.next)
 
   sent_for : AllByRecursion (λ g. IsCellFor t.setup g.queued) f.sent.items
   sent_for =
@@ -461,9 +390,6 @@ module _ (t : Tables) (c : Scheduled) (s : State) (f : Found) (k : AreFoundIn t 
 
   -- ## In order
 
-  pub order_is : StandInOrder (switch_of t c) s ↔ AreOrdered f s.head.next s.moved
-  order_is = order_alike (switch_of t c) s f k.found
-
   -- what goes on needs of it
   pub can_take_up : AreOrdered f s.head.next s.moved → CanTakeUp s f
   can_take_up is = grind (arith, common_steps, ports_are, all_weaker, sent_for)
@@ -472,8 +398,7 @@ module _ (t : Tables) (c : Scheduled) (s : State) (f : Found) (k : AreFoundIn t 
 
   pub inputs_of_list : AllByRecursion (λ q. q.key.input < s.head.ports) f.listed.items
   inputs_of_list =
-      let low = all_weaker (IsNamed s.head.ports) (λ (n : Named). n.input < s.head.ports) (λ n is. is.input) s.listed
-      k.range.listed in
+      let low = all_weaker (IsNamed s.head.ports) (λ (n : Named). n.input < s.head.ports) (search rules) s.listed in
       search (arith, rules, all_alike (IsTold c.came s.head.next) (λ (n : Named). n.input < s.head.ports), told_facts)
 
   outputs_inside : AllByRecursion (λ q. q.cell.output < s.head.ports) f.listed.items
@@ -489,8 +414,7 @@ module _ (t : Tables) (c : Scheduled) (s : State) (f : Found) (k : AreFoundIn t 
 
   pub tally_from : (x : Tally) → TalliesUp t.limits s.head.next c.came f.names.items x → IsTally (switch_of t c) s x
   tally_from =
-      let tally = tally_is (switch_of t c) s f.names.items (one_named (switch_of t c) s f k.found) in
-      search (arith, rules, tally, ports_are)
+      search (arith, rules, tally_is (switch_of t c) s f.names.items (one_named (switch_of t c) s f k.found), ports_are)
 
   -- ## Flows
 
@@ -500,21 +424,14 @@ module _ (t : Tables) (c : Scheduled) (s : State) (f : Found) (k : AreFoundIn t 
   -- the output and the class of each name are in range
   pub names_for : AreNamesFor t.setup f
   names_for =
-      let waiting = of_images waiting_name IsNameFor f.listed.items cells_for.0 in
-      let crossed = of_images waiting_name IsNameFor f.buffered.items cells_for.1 in
       let gone = of_images sent_name IsNameFor f.sent.items sent_for in
       let all : AllByRecursion IsNameFor (names_of f.listed.items f.buffered.items f.sent.items) =
-      search (arith, rules, all_both) in
+      search (arith, rules, all_both, of_images waiting_name IsNameFor, cells_for) in
       let names = All-permutation IsNameFor _ f.names.items k.found.same (All-from_recursion IsNameFor _ all) in
       search (arith, rules, all_weaker IsNameFor, recursion_from_All IsNameFor f.names.items)
 
   pub flows_is : AreOrdered f s.head.next s.moved → KeepArrivalOrder (switch_of t c) s ↔ FlowsStand f.names.items
-  flows_is is = flows_alike (switch_of t c) s f k.found k.arrivals (order_is.1 is)
-
-  -- ## Floors
-
-  pub floors_is : AreBelowFloors (switch_of t c) s ↔ StandBelow t.setup s.ranks f
-  floors_is = floors_alike (switch_of t c) s f k.found t.setup refl
+  flows_is is = flows_alike (switch_of t c) s f k.found k.arrivals ((order_alike (switch_of t c) s f k.found).1 is)
 
   -- ## Clause by clause
 
@@ -523,15 +440,16 @@ module _ (t : Tables) (c : Scheduled) (s : State) (f : Found) (k : AreFoundIn t 
 
   pub stand_refused : (r : StateRefusal) → IsFirstOfTwo 2 (AreOrdered f s.head.next s.moved) (HaveRoom f) r →
       IsFirstOf (switch_of t c) s r
-  stand_refused = two_refused (switch_of t c) s 2 arrivals_known _ _ order_is slack_is
+  stand_refused = search (rules, two_refused, arrivals_known, order_alike, slack_is)
 
   module _ (stand : AreOrdered f s.head.next s.moved × HaveRoom f) where
     order_known : Before (switch_of t c) s 4
-    order_known = two_more (switch_of t c) s 2 arrivals_known _ _ order_is slack_is stand
+    order_known =
+        two_more (switch_of t c) s 2 arrivals_known _ _ (order_alike (switch_of t c) s f k.found) slack_is stand
 
     pub packets_refused : (PacketsStand t.limits s.head.next c.came f.names.items → ⊥) →
         IsFirstUnsound (switch_of t c) s 4
-    packets_refused fails = grind (arith, common_steps, first_fails, order_known, packets_is)
+    packets_refused fails = search (rules, order_known, packets_is)
 
     module _ (packets : PacketsStand t.limits s.head.next c.came f.names.items) where
       packets_known : Before (switch_of t c) s 5
@@ -539,9 +457,10 @@ module _ (t : Tables) (c : Scheduled) (s : State) (f : Found) (k : AreFoundIn t 
 
       pub leave_refused : (r : StateRefusal) →
           IsFirstOfTwo 5 (FlowsStand f.names.items) (StandBelow t.setup s.ranks f) r → IsFirstOf (switch_of t c) s r
-      leave_refused = search (rules, two_refused, packets_known, flows_is, floors_is)
+      leave_refused = search (rules, two_refused, packets_known, flows_is, floors_alike)
 
       pub is_sound : FlowsStand f.names.items × StandBelow t.setup s.ranks f → IsSound (switch_of t c) s
       is_sound leave =
-          let all = two_more (switch_of t c) s 5 packets_known _ _ (flows_is stand.0) floors_is leave in
+          let floors = floors_alike (switch_of t c) s f k.found t.setup refl in
+          let all = two_more (switch_of t c) s 5 packets_known _ _ (flows_is stand.0) floors leave in
           search (arith, rules, all 2, all 3, all 4, all 5, all 6)

@@ -6,7 +6,7 @@
 -- are the same; and where no two are the same they do. The name of an arrival, if there is one, stands where halving
 -- finds the first that is not ahead of it. So no cell is named twice exactly where the names that were found stand
 -- strictly in order: order changes nothing of which names are the same.
-use Rattle.cq_resume.proofs.Terms.{rules, arith, ◌≡◌, ℕ, ◌+◌, ◌<◌, ◌≤◌, ◌↔◌, List, [], ◌∷◌, ◌++◌, length, get_or, map, take, refl, subst, None, Some, Bool, common_steps, filter_map, Option, IsSome, AllByRecursion, AllPairs, AllZip, take_all, take_more, All-from_recursion, cases_Bool, lt-ltb, ltb-true, Arrival, Queued, AreGone, AreFound, IsTold, names_of, told_of, IsGone, arriving_cell, key_of, named_in, queued_of, Gone, Name, Named, State, IsOfSwitch, IsTraffic, Sent, ◌≢◌, ◌⊎◌, eqb, ltb, true, false, sym, Bor, ◌&&◌, ◌||◌, IsPermutation, Called, ComputesKey, Mut, AllAdjacentBelow, IsDistinct, list_any, IsPartitionPoint, IsPartitionedBy, IsSortedByKey, Ordering, is_lt, nat_cmp, ordering_then, and_from, and_left, and_parts, and_right, cases_eq, cases_lt, cases_order, eq-eqb, eqb-true, le-ltb, ne_eqb, or_cases, or_left, or_right, false_from_ne_true, always_returns_same, get_or_default, list_any_at, list_any_none, IsDistinct-IsPermutation, IsDistinct-from_apart, apart_from_distinct, ge_from_not_lt, IsNameBefore, IsNameNotAfter, IsPermutation-sym, AreArrivals, all_has, all_of_has, all_from_has, Has, each_pair, all_pairs, EachPair, StateRefusal, filter}
+use Rattle.cq_resume.proofs.Terms.{rules, arith, ◌≡◌, ℕ, ◌+◌, ◌<◌, ◌≤◌, ◌↔◌, List, [], ◌∷◌, ◌++◌, length, get_or, map, take, refl, None, Some, Bool, common_steps, filter_map, Option, IsSome, AllByRecursion, AllPairs, AllZip, take_more, All-from_recursion, cases_Bool, lt-ltb, ltb-true, Arrival, Queued, AreGone, AreFound, IsTold, names_of, told_of, IsGone, arriving_cell, key_of, named_in, queued_of, Gone, Name, Named, State, IsOfSwitch, IsTraffic, Sent, ◌≢◌, ◌⊎◌, eqb, ltb, true, false, sym, Bor, ◌&&◌, ◌||◌, IsPermutation, Called, ComputesKey, Mut, AllAdjacentBelow, IsDistinct, list_any, IsPartitionPoint, IsPartitionedBy, IsSortedByKey, Ordering, is_lt, nat_cmp, ordering_then, and_from, and_left, and_parts, and_right, cases_eq, cases_lt, cases_order, eq-eqb, eqb-true, le-ltb, ne_eqb, or_cases, or_left, or_right, false_from_ne_true, always_returns_same, get_or_default, list_any_at, list_any_none, IsDistinct-IsPermutation, IsDistinct-from_apart, apart_from_distinct, ge_from_not_lt, IsNameBefore, IsNameNotAfter, IsPermutation-sym, AreArrivals, all_has, all_of_has, all_from_has, Has, each_pair, all_pairs, EachPair, StateRefusal, filter}
 use Rattle.cq_resume.specs.Sound.{IsOnlyFor}
 use Rattle.cq_resume.specs.declared.refusal.StateRefusal.TheVariants as refusal
 use Rattle.cq_resume.proofs.Coming.{found_at}
@@ -40,9 +40,6 @@ module _ {A B : Type 0} (R : A → B → Type 0) where
       R (get_or xs i d) y → new ≡ ys ++ y ∷ [] → AllZip R (take (i + 1) xs) new
   zip_more xs i d ys new y inside zips own is = grind (arith, common_steps, zip_both, take_more)
 
-  pub zip_all : (xs : List A) (i : ℕ) (ys : List B) → length xs ≤ i → AllZip R (take i xs) ys → AllZip R xs ys
-  zip_all xs i ys past zips = subst (λ (l : List A). AllZip R l ys) (take_all i xs past) zips
-
   -- what is said of each item of the one list is said of its own in the other
   pub all_alike : (P : A → Type 0) (Q : B → Type 0) → ((x : A) (y : B) → R x y → P x ↔ Q y) → (xs : List A)
       (ys : List B) → AllZip R xs ys → AllByRecursion P xs ↔ AllByRecursion Q ys
@@ -50,10 +47,6 @@ module _ {A B : Type 0} (R : A → B → Type 0) where
       (λ x y xs ys own zips rest. let here = same x y own in grind (arith, common_steps))
 
   -- what holds of each item by its own
-  pub each_left : (P : A → Type 0) → ((x : A) (y : B) → R x y → P x) → (xs : List A) (ys : List B) → AllZip R xs ys →
-      AllByRecursion P xs
-  each_left P give xs ys zips = all_from_has P xs (λ x has. let it = zip_mate xs ys zips x has in give x it.0 it.2)
-
   pub each_right : (Q : B → Type 0) → ((x : A) (y : B) → R x y → Q y) → (xs : List A) (ys : List B) → AllZip R xs ys →
       AllByRecursion Q ys
   each_right Q give xs ys zips = all_from_has Q ys (λ y has. let it = zip_has xs ys zips y has in give it.0 y it.2)
@@ -62,18 +55,16 @@ module _ {A B : Type 0} (R : A → B → Type 0) where
   module _ (P : A → A → Type 0) (Q : B → B → Type 0)
       (same : (x x' : A) (y y' : B) → R x y → R x' y' → P x x' ↔ Q y y') where
     each_alike : (xs : List A) (ys : List B) → AllZip R xs ys → EachPair P xs ↔ EachPair Q ys
-    each_alike = zip_by (λ xs ys. EachPair P xs ↔ EachPair Q ys) ((λ _. tt), (λ _. tt))
-        (search (arith, rules, all_alike))
+    each_alike = zip_by (λ xs ys. EachPair P xs ↔ EachPair Q ys) (search rules) (search (arith, rules, all_alike))
 
     pub pairs_alike : (xs : List A) (ys : List B) → AllZip R xs ys → AllPairs P xs ↔ AllPairs Q ys
     pairs_alike xs ys zips =
         search (arith, rules, each_alike xs ys zips, all_pairs Q ys, all_pairs P xs, each_pair P xs, each_pair Q ys)
 
   -- where each item of the first list comes to something that its own comes to, the lists come to the same
-  module _ {C : Type 0} (f : A → Option C) (g : B → C) where
-    pub same_mapped : ((x : A) (y : B) → R x y → f x ≡ Some (g y)) → (xs : List A) (ys : List B) → AllZip R xs ys →
-        filter_map f xs ≡ map g ys
-    same_mapped give = zip_by (λ xs ys. filter_map f xs ≡ map g ys) refl (search (arith, rules))
+  pub same_mapped : {C : Type 0} (f : A → Option C) (g : B → C) → ((x : A) (y : B) → R x y → f x ≡ Some (g y)) →
+      (xs : List A) (ys : List B) → AllZip R xs ys → filter_map f xs ≡ map g ys
+  same_mapped f g give = zip_by (λ xs ys. filter_map f xs ≡ map g ys) refl (search (arith, rules))
 
 -- ## One name
 
@@ -85,13 +76,6 @@ pub record Facts (came : List Arrival) (next : ℕ) (c : Named) (q : Queued) : T
 module _ (came : List Arrival) (next : ℕ) (c : Named) where
   pub told_facts : (q : Queued) → IsTold came next c q → Facts came next c q
   told_facts q is = search (arith, rules, ltb-true, cases_Bool)
-
-  -- it is what is looked up
-  pub told_is : (q : Queued) → IsTold came next c q → queued_of came c ≡ Some q
-  told_is q is = grind (arith, common_steps, cases_Bool)
-
-  pub can_be_told : c.slot < next → IsSome (arriving_cell came c) → told_of came next c ≡ None → ⊥
-  can_be_told early some none = search (arith, rules, lt-ltb)
 
 -- those of an input are the cells of its names
 pub sifted : (came : List Arrival) (i : ℕ) (xs : List Named) →
@@ -109,8 +93,7 @@ pub record IsOf (came : List Arrival) (next : ℕ) (c : Named) (n : Name) : Type
 zip_images : {A B C D : Type 0} (R : A → B → Type 0) (S : C → D → Type 0) (f : A → C) (g : B → D) →
     ((x : A) (y : B) → R x y → S (f x) (g y)) → (xs : List A) (ys : List B) → AllZip R xs ys →
     AllZip S (map f xs) (map g ys)
-zip_images R S f g give = zip_by R (λ xs ys. AllZip S (map f xs) (map g ys)) tt
-    (λ x y xs ys own zips rest. (give x y own, rest))
+zip_images R S f g give = zip_by R (λ xs ys. AllZip S (map f xs) (map g ys)) tt (search (rules, give))
 
 zip_right : {A B D : Type 0} (R : A → B → Type 0) (S : A → D → Type 0) (g : B → D) →
     ((x : A) (y : B) → R x y → S x (g y)) → (xs : List A) (ys : List B) → AllZip R xs ys → AllZip S xs (map g ys)
@@ -129,8 +112,8 @@ module _ (ports classes : ℕ) (came : List Arrival) (traffic : IsTraffic ports 
 
   one_for : (c : Named) (q : Queued) → IsTold came next c q → IsFor q
   one_for c q is =
-      let it = found_at came c.slot c.input q.cell (told_facts came next c q is).arrives in
-      search (arith, rules, all_of_has (IsOfSwitch ports classes) came it.arrival traffic.in_range it.has)
+      let found = found_at came c.slot c.input q.cell in
+      search (arith, rules, all_of_has (IsOfSwitch ports classes) came, traffic.in_range, found, told_facts)
 
   pub told_for : (names : List Named) (told : List Queued) → AreFound came next names told → AllByRecursion IsFor told
   told_for = each_right (IsTold came next) IsFor one_for
@@ -157,9 +140,7 @@ pub names_sorted : {F : Type 0} {g : Mut F (Bor Name × Unit {0}) (ℕ × ℕ)} 
     ((a : Bor Name × Unit {0}) (r : ℕ × ℕ) (f' : F) → Called g f a r f' → (r ≡ arrival_key a.0.now) × (f' ≡ f)) →
     AllAdjacentBelow IsNameNotAfter xs (length xs)
 names_sorted {g = g} {f = f} xs sorted calls k d inside =
-    let up =
-    sorted arrival_key (always_returns_same g (λ a r. r ≡ arrival_key a.0.now) f calls) k d (omega arith) inside in
-    search (arith, rules, not_less)
+    search (arith, rules, not_less, sorted arrival_key, always_returns_same g (λ a r. r ≡ arrival_key a.0.now))
 
 -- ## Names that differ
 
@@ -170,14 +151,11 @@ same_name a b = eqb a.queued.key.slot b.queued.key.slot && eqb a.queued.key.inpu
 eqb_flips : (m n : ℕ) → eqb m n ≡ eqb n m
 eqb_flips m n = grind (arith, common_steps, eq-eqb, ne_eqb, cases_eq)
 
-strictly : (a b : Name) → IsNameNotAfter a b → same_name a b ≡ false → IsNameBefore a b
-strictly a b near other = grind (arith, common_steps, eq-eqb, and_from, cases_eq)
-
 -- names that stand in order and differ stand strictly in order
 pub rising_names : (xs : List Name) → AllAdjacentBelow IsNameNotAfter xs (length xs) → IsDistinct same_name xs →
     AllPairs IsNameBefore xs
 rising_names xs order differ =
-    next_pairs IsNameBefore xs name_on (λ k d inside. search (arith, rules, strictly, apart_from_distinct))
+    next_pairs IsNameBefore xs name_on (search (arith, rules, eq-eqb, and_from, cases_eq, apart_from_distinct))
 
 pub still_differ : (xs ys : List Name) → IsPermutation xs ys → IsDistinct same_name xs → IsDistinct same_name ys
 still_differ = search (arith, rules, IsDistinct-IsPermutation, eqb_flips)
@@ -220,17 +198,14 @@ any_only p xs n e inside none = search (rules, list_any_at, list_any_none, cases
 
 module _ (input slot : ℕ) (names : List Name) (order : AllPairs IsNameBefore names) (at : ℕ) (few : at ≤ length names)
     (point : IsPartitionPoint (λ n. is_ahead input slot n ≡ true) (λ n. is_ahead input slot n ≡ false) names at) where
-  ahead_not_its : (k : ℕ) (d : Name) → k < at → is_its input slot (get_or names k d) ≡ false
-  ahead_not_its k d lt = grind (arith, common_steps, ahead_says, not_its)
-
   -- past the last name there is none
   pub named_past : length names ≤ at → false ≡ list_any (is_its input slot) names
-  named_past past = search (arith, rules, list_any_none, ahead_not_its)
+  named_past past = search (arith, rules, list_any_none, ahead_says, not_its, point)
 
   pub named_here : (e : Name) → at < length names →
       is_its input slot (get_or names at e) ≡ list_any (is_its input slot) names
-  named_here e inside = sym (any_only (is_its input slot) names at e inside (λ k d within other.
-      let before = order at k d in search (arith, rules, says_ahead, cases_lt, ahead_not_its, not_its)))
+  named_here e inside = sym (any_only (is_its input slot) names at e inside
+      (search (arith, rules, order at, says_ahead, ahead_says, cases_lt, not_its)))
 
 -- two names are of different arrivals
 abbrev pub Differ : Named → Named → Type 0
@@ -254,42 +229,27 @@ module _ (came : List Arrival) (s : State) where
       ((x : X) → Miss x → told_of came s.head.next (name x) ≡ None) → (xs : List X) →
       ((x : X) → Has xs x → Has (named_in s) (name x)) → (f : StateRefusal) →
       IsOnlyFor 1 ((x : X) × Has xs x × Miss x) f → IsOnlyFor 1 (AreArrivals came s → ⊥) f
-  missed name Miss give xs named (refusal.Unsound k) is = (
-    is.0,
-    λ are.
-        let it = all_has (CanBe came s.head.next) (named_in s) (name is.1.0) are.arrive (named is.1.0 is.1.1) in
-        can_be_told came s.head.next (name is.1.0) it.0 it.1 (give is.1.0 is.1.2),
-  )
+  missed name Miss give xs named (refusal.Unsound k) is =
+      search (arith, rules, all_has (CanBe came s.head.next) (named_in s), lt-ltb)
   missed name Miss give xs named refusal.NoMemory is = tt
   missed name Miss give xs named f is = absurd is
 
-  -- the cells that were looked up, and all their names
-  pub record AreLookedUp (listed buffered : List Queued) (sent : List Gone) (names : List Name) : Type 0 where
-    pub listed_are : AreFound came s.head.next s.listed listed
-    pub buffered_are : AreFound came s.head.next s.buffered buffered
-    pub sent_are : AreGone came s.head.next s.sent sent
-    pub same : IsPermutation (names_of listed buffered sent) names
-
-  module _ {listed buffered : List Queued} {sent : List Gone} {names : List Name}
-      (are : AreLookedUp listed buffered sent names) where
-    zips : AllZip (IsOf came s.head.next) (named_in s) (names_of listed buffered sent)
-    zips = names_zip came s listed buffered sent are.listed_are are.buffered_are are.sent_are
-
-    abbrev told : List Name
-    told = names_of listed buffered sent
-
+  -- names that belong to those of the state, and the same in another order
+  module _ {told names : List Name} (same : IsPermutation told names)
+      (zips : AllZip (IsOf came s.head.next) (named_in s) told) where
     apart_alike : AllPairs Differ (named_in s) ↔ AllPairs IsApart told
     apart_alike = pairs_alike (IsOf came s.head.next) Differ IsApart (apart_is came s.head.next) (named_in s) told zips
 
     -- names that stand strictly in order are of different arrivals, and each arrives
     pub are_arrivals : AllPairs IsNameBefore names → AreArrivals came s
     are_arrivals rising =
-        let still = still_differ names told (IsPermutation-sym told names are.same) (rising_differ names rising) in
+        let still = still_differ names told (IsPermutation-sym told names same) (rising_differ names rising) in
         let apart = apart_from_distinct same_name told in
-        search (arith, rules, All-from_recursion (CanBe came s.head.next) (named_in s), each_left, zips, apart_alike)
+        let can_be = All-from_recursion (CanBe came s.head.next) (named_in s) in
+        search (arith, rules, can_be, all_from_has, zip_mate, apart_alike)
 
     -- and the other way
     pub arrivals_rise : AllAdjacentBelow IsNameNotAfter names (length names) → AreArrivals came s →
         AllPairs IsNameBefore names
     arrivals_rise order arrive = rising_names names order
-        (still_differ told names are.same (IsDistinct-from_apart same_name told (apart_alike.0 arrive.once)))
+        (still_differ told names same (IsDistinct-from_apart same_name told (apart_alike.0 arrive.once)))

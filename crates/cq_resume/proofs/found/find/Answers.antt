@@ -1,5 +1,5 @@
-use Rattle.cq_resume.proofs.Terms.{arith, rules, ◌≡◌, List, refl, AllZip, all_front, all_back, all_weaker, images_held, err_from_is_err_and, has_image, has_left, has_right, Named, Sent}
-use Rattle.cq_resume.proofs.Zipped.{AreLookedUp, are_arrivals, arrivals_rise, missed, zip_by}
+use Rattle.cq_resume.proofs.Terms.{named_in, names_of, arith, rules, ◌≡◌, List, AllZip, all_front, all_back, all_weaker, images_held, err_from_is_err_and, has_image, has_left, has_right, Named, Sent}
+use Rattle.cq_resume.proofs.Zipped.{IsOf, are_arrivals, arrivals_rise, missed, names_zip, zip_by}
 use Rattle.cq_resume.proofs.found.find.Goals as goal
 use Rattle.cq_resume.proofs.found.find.Goals.{In_ok-names}
 
@@ -10,9 +10,9 @@ zip_same R S xs xs' ys ys' give own is all = rw (own, ← is) at (zip_by R (λ x
     (λ x y xs ys here zips rest. (give x y here, rest)) xs ys all)
 
 -- what was looked up, where no name is missed
-looked_up : (c : In_ok-names) → AreLookedUp c.args.schedule.now.came c.args.state.now c.deref.result.now
-    c.deref-2.result.now c.deref-3.result.now c.in_ok-names.names.items
-looked_up c = search (arith, rules, zip_same)
+zips : (c : In_ok-names) → AllZip (IsOf c.args.schedule.now.came c.args.state.now.head.next) (named_in c.args.state.now)
+    (names_of c.deref.result.now c.deref-2.result.now c.deref-3.result.now)
+zips c = search (arith, rules, names_zip, zip_same)
 
 pub found_all-requires : goal.found_all-requires
 found_all-requires c = search (arith, rules, all_front, all_weaker)
@@ -46,15 +46,12 @@ pub returns-clause-found : goal.returns-clause-found
 returns-clause-found c = search (arith, rules, zip_same)
 
 pub returns-then-not-differ-clause-refused : goal.returns-then-not-differ-clause-refused
-returns-then-not-differ-clause-refused c = (
-  refl,
-  (λ are.
-      let at = goal.at.returns-then-not-differ-clause-refused c in
-      let rising = arrivals_rise _ _ (looked_up at.In_ok-names) c.in_ok-names.ensures.ordered are in
-      let differ = c.differ.ensures.1 (rw c.deref-4.ensures.value rising) in
-      let P : ⊥ = cc in P),
-)
+returns-then-not-differ-clause-refused c =
+    let names = zips (goal.at.returns-then-not-differ-clause-refused c).In_ok-names in
+    let rise = arrivals_rise c.args.schedule.now.came c.args.state.now c.in_ok-names.ensures.same names in
+    search (arith, rules, rise)
 
 pub returns-clause-arrive : goal.returns-clause-arrive
-returns-clause-arrive c = are_arrivals _ _ (looked_up (goal.at.returns-clause-arrive c).In_ok-names)
+returns-clause-arrive c = are_arrivals _ _ c.in_ok-names.ensures.same
+    (zips (goal.at.returns-clause-arrive c).In_ok-names)
     (rw c.deref-4.ensures.value at (c.differ.ensures.0 c.if-not-differ.false))

@@ -1,4 +1,4 @@
-use Rattle.cq_resume.proofs.Terms.{arith, rules, ◌≡◌, ◌↔◌, true, inr, refl, AreOrdered, HaveRoom}
+use Rattle.cq_resume.proofs.Terms.{arith, rules, ◌≡◌, ◌↔◌, true, AreOrdered, HaveRoom}
 use Rattle.cq_resume.proofs.Judging.{denied}
 use Rattle.cq_resume.proofs.sound.judge_places.Goals as goal
 use Rattle.cq_resume.proofs.sound.judge_places.Goals.{After-have_slack, After-in_order}
@@ -17,11 +17,7 @@ returns-then-not-in_order-clause-refused c =
 pub returns-then-not-have_slack-clause-refused : goal.returns-then-not-have_slack-clause-refused
 returns-then-not-have_slack-clause-refused c =
     let at = goal.at.returns-then-not-have_slack-clause-refused c in
-    inr (
-      refl,
-      (order_is at.After-in_order).0 c.if-not-in_order.false,
-      denied (room_is at.After-have_slack) c.if-not-have_slack.true,
-    )
+    search (arith, rules, denied, order_is at.After-in_order, room_is at.After-have_slack)
 
 pub returns-clause-stand : goal.returns-clause-stand
 returns-clause-stand c =
