@@ -1,10 +1,9 @@
-use Rattle.cq_resume.proofs.Terms.{rules, ◌∙◌, arith, [], refl, sym, map-constant, output_told, take_all}
+use Rattle.cq_resume.proofs.Terms.{rules, arith, map-constant, take_all}
 use Rattle.cq_resume.proofs.Cut.{departure_counted, fewer_sent}
 use Rattle.cq_resume.proofs.taken.outputs_of.Goals as goal
 
 pub sent-init : goal.sent-init
-sent-init c = c.in_ok-outputs.ensures
-    ∙ sym (map-constant (output_told []) (output_told [] 0) (λ j. refl) 0 c.args.ports)
+sent-init c = search (arith, rules, map-constant)
 
 pub with_departure-requires : goal.with_departure-requires
 with_departure-requires c = search (arith, rules, fewer_sent)

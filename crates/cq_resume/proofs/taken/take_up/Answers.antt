@@ -1,5 +1,5 @@
 -- What is looked at is what was found, and the departures are those of the cells that were sent.
-use Rattle.cq_resume.proofs.Terms.{refl, arith, rules, departed, of_images}
+use Rattle.cq_resume.proofs.Terms.{arith, rules, departed, of_images}
 use Rattle.cq_resume.proofs.Judging.{taken_is}
 use Rattle.cq_resume.proofs.Cut.{departed_low, departed_rising}
 use Rattle.cq_resume.proofs.taken.take_up.Goals as goal
@@ -12,8 +12,5 @@ places_of-placed-requires c = search (arith, rules, departed_rising, departed_lo
 
 pub returns : goal.returns
 returns c w found tally =
-    let placed = c.in_ok-placed.ensures in
     let inputs = rw (c.deref.ensures.value, c.as_slice.ensures) at c.in_ok-inputs.ensures in
-    taken_is w c.args.state c.args.found found c.args.tally _ tally refl placed.slots refl refl inputs
-    placed.outputs refl refl c.beside_cells-ranks.ensures.ranks placed.lists placed.buffers placed.sent
-    c.beside_cells-ranks.ensures.moved
+    search (arith, rules, taken_is w c.args.state c.args.found found c.args.tally, c.in_ok-placed.ensures)
