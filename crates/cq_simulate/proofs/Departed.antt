@@ -1,7 +1,7 @@
 -- Each cell that departs has arrived. Of each input and class the cells of the packets that are taken in leave an
 -- output as they came. So what holds of all cells that arrive holds of each that departs: it is of a packet of its
 -- input's capture.
-use Rattle.cq_simulate.proofs.Terms.{rules, ◌≡◌, ℕ, ◌+◌, ◌<◌, ◌≤◌, ◌^◌, true, List, [], ◌∷◌, length, get_or, Result, Ok, Err, refl, sym, ◌∙◌, arith, common_steps, max, AllByRecursion, filter, eq-eqb, and_from, Arrival, end_of, Departure, TagFault, packets_of, cells, start, cell_of, arrivals_at, arrivals, IsTraffic, piece_begins, all_flat, traffic_is, NoLimits, slots_of, leaves_in_flow, departures_of, departures_limited, LimitedRan, flows_leave_in_packets, limited_same_sent, run_as_before, slots_as_before, Captured, AreTables, IsSetup, classes_of, ports_of, Tables, machines_of, openings_of, HaveLeftOf, LeaveInOrder, LeaveWhole, LeftInOrder, IsCaptured, ideal_departures, ran_ideal, slots_ran, subst, and_parts, eqb-true, Has, all_of_has, has_cases, has_image, has_kept, image_has, kept_has, flat_map, of_packet, Cell, came_more, few_by, length_packet, row_of, rows_are, length-append, length-map-range_with_len, last_departs, limited_slots, has_at, all_made}
+use Rattle.cq_simulate.proofs.Terms.{rules, ◌≡◌, ℕ, ◌+◌, ◌<◌, ◌≤◌, ◌^◌, true, List, [], ◌∷◌, length, get_or, Result, Ok, sym, ◌∙◌, arith, common_steps, max, AllByRecursion, filter, eq-eqb, and_from, Arrival, end_of, Departure, TagFault, packets_of, cells, start, cell_of, arrivals_at, arrivals, IsTraffic, piece_begins, all_flat, traffic_is, NoLimits, slots_of, leaves_in_flow, departures_of, departures_limited, LimitedRan, flows_leave_in_packets, limited_same_sent, run_as_before, slots_as_before, Captured, AreTables, IsSetup, classes_of, ports_of, Tables, machines_of, openings_of, HaveLeftOf, LeaveInOrder, LeaveWhole, LeftInOrder, IsCaptured, ideal_departures, ran_ideal, slots_ran, subst, and_parts, eqb-true, Has, all_of_has, has_cases, has_image, has_kept, image_has, kept_has, flat_map, of_packet, Cell, came_more, few_by, length_packet, row_of, rows_are, length-append, length-map-range_with_len, last_departs, limited_slots, has_at, all_made}
 use Rattle.cq_cells.specs.Traffic.{IsInRange, IsRecorded}
 use Rattle.cq_simulate.proofs.OfPackets.{as_packets, packets_come}
 use Rattle.cq_simulate.proofs.Runnable.{runnable}
@@ -10,8 +10,7 @@ use Rattle.cq_simulate.proofs.Runnable.{runnable}
 
 ran_ok : (P : List Departure → Type 0) (x : Result LimitedRan TagFault) (sent : List Departure) →
     departures_limited x ≡ Ok sent → ((ran : LimitedRan) → x ≡ Ok ran → P (departures_of 0 ran.gone)) → P sent
-ran_ok P (Ok ran) sent h f = let same : departures_of 0 ran.gone ≡ sent = cc in subst P same (f ran refl)
-ran_ok P (Err fault) sent h f = absurd (let P : ⊥ = cc in P)
+ran_ok P fault sent h f = grind (arith, common_steps)
 
 -- what the ideal switch sends leaves in the order in which it came
 pub left_in_order : (t : Tables) (captures : List (List Captured)) (sent : List Departure) → AreTables t →
@@ -20,10 +19,9 @@ pub left_in_order : (t : Tables) (captures : List (List Captured)) (sent : List 
 unfolding ideal_departures ran_ideal
 left_in_order t captures sent are many h i =
     let came = arrivals t captures in
-    ran_ok (LeftInOrder came i) _ sent (search (arith, rules, limited_same_sent)) (λ ran is.
-    let l = flows_leave_in_packets t.limits _ _ _ came ran (runnable t.setup came are.setup (traffic_is t captures are
-    many)) is i (packets_come t captures i are many) in
-    record { is_taken = l.is_taken; left = l.left })
+    let can = runnable t.setup came are.setup (traffic_is t captures are many) in
+    ran_ok (LeftInOrder came i) _ sent (search (arith, rules, limited_same_sent))
+    (λ ran is. search (arith, rules, flows_leave_in_packets t.limits _ _ _ came ran can is i, packets_come))
 
 -- and so in whole packets
 pub left_in_packets : (t : Tables) (captures : List (List Captured)) (sent : List Departure) → AreTables t →
@@ -46,12 +44,10 @@ of_flow cells (k ∷ ks) x has = grind (arith, common_steps, has_cases, kept_has
 pub came_as : (came : List Arrival) (sent : List Departure) → LeaveWhole came sent → (d : Departure) → Has sent d →
     CameAs came d
 came_as came sent whole d has =
-    let i = d.queued.cell.id.input in
-    let c = d.queued.cell.class in
-    let own : leaves_in_flow i c d.output d ≡ true = grind (arith, common_steps, and_from, d.output, eq-eqb) in
-    let left = has_image (λ (x : Departure). x.queued.cell) (filter (leaves_in_flow i c d.output) sent) d
-    (has_kept (leaves_in_flow i c d.output) sent d has own) in
-    let l = whole i in search (arith, rules, of_flow, kept_has, image_has, and_parts, eqb-true)
+    let leaves = leaves_in_flow d.queued.cell.id.input d.queued.cell.class d.output in
+    let own : leaves d ≡ true = grind (arith, common_steps, and_from, d.output, eq-eqb) in
+    let left = has_image (λ (x : Departure). x.queued.cell) (filter leaves sent) d (has_kept leaves sent d has own) in
+    let l = whole d.queued.cell.id.input in search (arith, rules, of_flow, kept_has, image_has, and_parts, eqb-true)
 
 -- ## The cells of captures
 
@@ -70,13 +66,9 @@ pub small_cells : (t : Tables) (captures : List (List Captured)) → 1 ≤ t.cel
     ((i : ℕ) → i < length captures → IsRecorded (packets_of captures i)) →
     AllByRecursion (λ (a : Arrival). (a.cell.id.packet < 2 ^ 32) × (a.cell.id.index < 2 ^ 32)) (arrivals t captures)
 unfolding cell_of
-small_cells t captures some each =
-    all_cells t captures (λ (a : Arrival). (a.cell.id.packet < 2 ^ 32) × (a.cell.id.index < 2 ^ 32))
-    (λ i k n in_captures in_packets below.
-    let rows = rows_are t captures i some (each i in_captures) in
+small_cells t captures some each = all_cells t captures _ (λ i k n in_captures in_packets below.
     let many = length-map-range_with_len (row_of t captures i) 0 (length (packets_of captures i)) in
-    let all = few_by t captures i (k + 1) some (each i in_captures) (omega arith) in
-    search (arith, rules, came_more, length_packet, length-append))
+    search (arith, rules, rows_are, few_by t captures i (k + 1), came_more, length_packet, length-append))
 
 module _ {t : Tables} {captures : List (List Captured)} {sent : List Departure} {stamp : ℕ}
     (of_run : HaveLeftOf t captures sent stamp) (k : ℕ) (e : Departure) (inside : k < length sent) where

@@ -1,7 +1,7 @@
 -- One slot of the fabric by its numbers. The cells that wait at the inputs grow by those that arrive and fall by one
 -- for each transfer. A phase has no more proposals than the number of ports squared, and none where no cell waits at
 -- an input.
-use Rattle.cq_simulate.proofs.Terms.{common_steps, rules, ◌≡◌, ℕ, zero, suc, ◌+◌, ◌*◌, ◌≤◌, List, [], ◌∷◌, length, length-append, Option, Some, None, refl, ap, ◌∙◌, subst, arith, mul-le-mul, sum, range_with_len, filter_map, cons_option, length-map, nil_from_length, length-insert, length-map-range_with_len, get_or-map-range_with_len, sum_by-le, arrival_at, is_for, Cell, Queued, Transfer, present, outputs_at, Fabric, IsFabric, input, SlotRecord, FabricSlot, proposals_in, transfers_in, list_of, orders_of, output_order, Partners, partner_of, spent, proposals, IsMatching, IsInputBest, Machine, one_if, total, total_none, came_from, first_at, Transfers, came_to, list_arrived, OutputsInRange, are_offers, outputs_at_most, has_there, most_ports, fabric_listed, map, sum_by-cons}
+use Rattle.cq_simulate.proofs.Terms.{common_steps, rules, ◌≡◌, ℕ, zero, suc, ◌+◌, ◌*◌, ◌≤◌, List, [], ◌∷◌, length, length-append, Option, Some, None, refl, ap, ◌∙◌, arith, mul-le-mul, sum, range_with_len, filter_map, cons_option, length-map, nil_from_length, length-insert, length-map-range_with_len, get_or-map-range_with_len, sum_by-le, arrival_at, is_for, Cell, Queued, Transfer, present, outputs_at, Fabric, IsFabric, input, SlotRecord, FabricSlot, proposals_in, transfers_in, list_of, orders_of, output_order, Partners, partner_of, spent, proposals, IsMatching, IsInputBest, Machine, one_if, total, total_none, came_from, first_at, Transfers, came_to, list_arrived, OutputsInRange, are_offers, outputs_at_most, has_there, most_ports, fabric_listed, map, sum_by-cons}
 use Rattle.cq_prefs.specs.Moves.{list_taken, noted, transfers_of}
 use Rattle.cq_prefs.specs.Orders.{Orders, ports, outputs_of}
 
@@ -35,10 +35,9 @@ all_arrivals : (cells : List (Option Cell)) (n : ℕ) → total (λ i. one_if (a
     (present cells)
 unfolding total
 all_arrivals cells zero = omega arith
-all_arrivals [] (suc n) = let none = total_none (λ i. one_if (arrival_at [] i)) 0 (suc n) (λ i. refl) in omega arith
+all_arrivals [] (suc n) = search (arith, rules, total_none)
 all_arrivals (o ∷ cells) (suc n) =
-    let next = total_next (λ i. one_if (arrival_at (o ∷ cells) i)) 0 (0 + 1) n refl in
-    let rest = all_arrivals cells n in grind (arith, common_steps)
+    grind (arith, common_steps, total_next (λ i. one_if (arrival_at (o ∷ cells) i)) 0 (0 + 1) n, all_arrivals cells n)
 
 -- how many cells wait at the first n inputs
 unfoldable pub at_inputs : Fabric → ℕ → ℕ
@@ -50,8 +49,7 @@ all_listed f n same = rw same (summed (λ i. length (input f i)) 0 n)
 
 longer_one : (f : Fabric) (came : Option Queued) (cell : Option Cell) (xs : List Queued) →
     ((c : Queued) → came ≡ Some c → cell ≡ Some c.cell) → length (list_arrived f came xs) ≤ length xs + one_if cell
-longer_one f None cell xs is = omega arith
-longer_one f (Some c) cell xs is = let here : one_if cell ≡ 1 = ap one_if (is c refl) in omega (arith, length-insert)
+longer_one f came cell xs is = grind (arith, common_steps, is, length-insert)
 
 -- ## A transfer
 
@@ -82,8 +80,7 @@ module _ (slot phase : ℕ) where
     all_cross n same = rw (← same) (some_cross 0 (length m))
 
 pub shorter : (m : Partners) (f g : Fabric) → Transfers m f g → (i : ℕ) → length (input g i) ≤ length (input f i)
-shorter m f g step i =
-    let taken = ap length (step.moves.taken i) in omega (arith, one_taken 0 0 i (partner_of m i) (input f i))
+shorter m f g step i = search (arith, rules, one_taken 0 0 i (partner_of m i) (input f i), step.moves.taken)
 
 -- ## Proposals
 
@@ -96,16 +93,13 @@ module _ (o : Orders) (m : Partners) (is : IsMatching o m) where
 
 in_range : (f : Fabric) → IsFabric f → OutputsInRange f.inputs
 in_range f is i j c first =
-    let at = first_at (is_for j) (input f i) c first in
-    search (arith, rules, is.outputs i c, has_there (input f i) at.place c at.at)
+    let at = first_at (is_for j) (input f i) c first in search (arith, rules, is.outputs i c, has_there)
 
 module _ (f : Fabric) (m : Partners) (is : IsMatching (orders_of f.inputs) m) where
   pub proposals_few : IsFabric f → proposals (orders_of f.inputs) m ≤ length f.inputs * length f.inputs
   proposals_few fabric =
-      let o = orders_of f.inputs in
-      let n = length-map f.inputs output_order in
-      subst (λ (k : ℕ). proposals o m ≤ k * k) n (proposals_within o m is (ports o)
-      (outputs_at_most o (are_offers f.inputs (in_range f fabric))))
+      let few = outputs_at_most (orders_of f.inputs) (are_offers f.inputs (in_range f fabric)) in
+      rw (← length-map f.inputs output_order) (proposals_within (orders_of f.inputs) m is _ few)
 
   pub proposals_none : ((i : ℕ) → length (input f i) ≡ 0) → proposals (orders_of f.inputs) m ≡ 0
   proposals_none none =
@@ -119,16 +113,13 @@ module _ (ms : List Machine) (slot : ℕ) (cells : List (Option Cell)) (f g : Fa
   arrived_one : (i : ℕ) → length (input r.arrived i) ≤ length (input f i) + one_if (arrival_at cells i)
   arrived_one i =
       let e = ap length (step.arrive.lists i) in
-      let l = longer_one f (came_to r.came i) (arrival_at cells i) (input f i) (λ c is. (came_from ms slot 0 cells
-      f.ranks (record { came = r.came; ranks = r.arrived.ranks }) step.arrive.ranked i c is).cell_is) in
-      omega arith
+      let from = came_from ms slot 0 cells f.ranks (record { came = r.came; ranks = r.arrived.ranks })
+      step.arrive.ranked i in
+      search (arith, rules, longer_one f (came_to r.came i) (arrival_at cells i) (input f i), from)
 
   arrived_all : (n : ℕ) → at_inputs r.arrived n ≤ at_inputs f n + length (present cells)
   unfolding at_inputs
-  arrived_all n =
-      let most =
-      total_most (λ i. length (input r.arrived i)) (λ i. length (input f i)) (λ i. one_if (arrival_at cells i)) 0 n
-      arrived_one in search (arith, rules, all_arrivals)
+  arrived_all n = omega (arith, total_most _ _ _ 0 n arrived_one, all_arrivals cells n)
 
   sent_all : (n : ℕ) → at_inputs r.sent n ≡ at_inputs r.filled n
   unfolding at_inputs
@@ -149,9 +140,8 @@ module _ (ms : List Machine) (slot : ℕ) (cells : List (Option Cell)) (f g : Fa
   none_proposed none quiet =
       let before : (i : ℕ) → length (input r.arrived i) ≡ 0 =
       λ i. omega (arith, arrived_one i, none i, one_present cells i) in
-      let after : (i : ℕ) → length (input r.sent i) ≡ 0 =
-      λ i. rw step.depart.inputs (omega (arith, before i, shorter r.first r.arrived r.filled step.fill i)) in
-      omega (arith, proposals_none)
+      let fewer = shorter r.first r.arrived r.filled step.fill in
+      search (arith, rules, before, fewer, step.depart.inputs, proposals_none)
 
 pub square_few : (n : ℕ) → n ≤ most_ports → n * n ≤ 4096
 square_few n few = let square : n * n ≤ most_ports * most_ports = mul-le-mul few few in omega arith

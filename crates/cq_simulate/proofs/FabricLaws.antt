@@ -3,7 +3,7 @@
 -- ideal switch agree. Its matchings are the input-best ones, so it is a run with stable matchings too, and sends and
 -- refuses what the ideal switch does.
 use Rattle.cq_laws.proofs.InputBest.{stable_limited_whole}
-use Rattle.cq_simulate.proofs.Terms.{common_steps, rules, ◌≡◌, ◌≤◌, List, Ok, ap, ◌∙◌, refl, sym, arith, All, length, Arrival, IsTraffic, Machine, Marked, NoLimits, admitted_in, first_slots, slots_of, one_limited_whole, recorded, Fabric, empty_fabric, FabricRun, LimitedFabricRun, LimitedRecord, LimitedWholeRun, admissions_in, empty_limited_fabric, slots_in, figures_of, IsInputBest, IsStable, classes_of, ports_of, IsSetup, Tables, machines_of, openings_of, AlwaysHasSlack, AreInputBest, IsFabricRun, IsKeptOf, SendsSlotBySlot, departures_in_run, ideal_departures, ideal_refusals, ran_ideal, slots_ran, slots_of_figures, run_of_whole}
+use Rattle.cq_simulate.proofs.Terms.{common_steps, rules, ◌≡◌, ◌≤◌, List, Ok, refl, arith, All, length, Arrival, IsTraffic, Machine, Marked, NoLimits, admitted_in, first_slots, slots_of, one_limited_whole, recorded, Fabric, empty_fabric, FabricRun, LimitedFabricRun, LimitedRecord, LimitedWholeRun, admissions_in, empty_limited_fabric, slots_in, figures_of, IsInputBest, IsStable, classes_of, ports_of, IsSetup, Tables, machines_of, openings_of, AlwaysHasSlack, AreInputBest, IsFabricRun, IsKeptOf, SendsSlotBySlot, departures_in_run, ideal_departures, ideal_refusals, ran_ideal, slots_ran, slots_of_figures, run_of_whole}
 use Rattle.cq_simulate.proofs.Chosen.{first_chosen}
 use Rattle.cq_simulate.proofs.Departed.{last_departs_without_limits, slots_are}
 use Rattle.cq_simulate.proofs.OnceASlot.{once_a_slot}
@@ -71,9 +71,7 @@ module _ (t : Tables) (came : List Arrival) where
 
   pub kept_refuses : (run : kept.FabricRun) → IsTraffic (ports_of t.setup) (classes_of t.setup) came →
       IsKeptOf t came run → ideal_refusals t came ≡ Ok run.refused.items
-  kept_refuses run traffic kept =
-      let whole = stable kept.records traffic kept.is_run in
-      stable_refuses t came kept.records kept.is_run.end traffic whole ∙ ap Ok (sym kept.refused)
+  kept_refuses run traffic kept = cc (stable_refuses t came _ _ traffic (stable kept.records traffic kept.is_run))
 
   pub only_one : (rs ss : List LimitedRecord) → IsFabricRun t came rs → IsFabricRun t came ss → rs ≡ ss
   only_one rs ss one other = grind (arith, common_steps, one_limited_whole)

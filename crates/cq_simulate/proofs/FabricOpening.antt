@@ -1,6 +1,6 @@
 -- How the run of a fabric that is made for tables begins, and what its end says of the tables. What the calls say that
 -- made it is one record. From it the engine can begin.
-use Rattle.cq_simulate.proofs.Terms.{refl, common_steps, rules, ◌≡◌, ℕ, ◌+◌, ◌*◌, ◌≤◌, ◌^◌, List, [], length, map, ap, arith, take_all, length-map, length-map-range_with_len, Arrival, traffic_of, RoomView, Departure, Transfer, Scheduled, EngineView, fresh_engine, frozen_of, Frozen, GoesOnFrom, marked_fabric, departures_limited, limited_run, counts_more, refused_in, admissions_in, ports_of, IsSetup, classes_of, Tables, fixed_of, machine_from, machines_of, openings_of, IsKeptOf, unpacked_run, kept_of, IsFreshFor, IsIdealFor, HasKept, IsReadyOn, IsRefusalOn, IsRefusalOf, ideal_departures, ran_ideal, limited_same_sent, limited_whole_fault, slots_fit, IsScheduleFor, PackedFabricRun, RunRefusal, IsShort, IsTraffic, is_from, is_to, IdealSwitch, marked_state, Machine, IsReady, IsResumed, RunsOn, Switch, switch_of, Taken, best_act_alike_from_empty, figures_fold, Discipline, fresh_ideal, ◌-◌, subst, TagFault, HasPartedTo, StopsWithin, IsPartFault, IsResumeFault, IsParted}
+use Rattle.cq_simulate.proofs.Terms.{refl, common_steps, rules, ◌≡◌, ℕ, ◌+◌, ◌*◌, ◌≤◌, ◌^◌, List, [], length, map, ap, arith, take_all, length-map, length-map-range_with_len, Arrival, traffic_of, RoomView, Departure, Transfer, Scheduled, EngineView, fresh_engine, frozen_of, Frozen, GoesOnFrom, marked_fabric, departures_limited, limited_run, counts_more, ports_of, IsSetup, classes_of, Tables, fixed_of, machine_from, machines_of, openings_of, IsKeptOf, unpacked_run, kept_of, IsFreshFor, IsIdealFor, HasKept, IsReadyOn, IsRefusalOn, IsRefusalOf, ideal_departures, ran_ideal, limited_same_sent, limited_whole_fault, slots_fit, IsScheduleFor, PackedFabricRun, RunRefusal, IsShort, IsTraffic, is_from, is_to, IdealSwitch, marked_state, Machine, IsReady, IsResumed, RunsOn, Switch, switch_of, Taken, best_act_alike_from_empty, figures_fold, Discipline, ◌-◌, TagFault, HasPartedTo, StopsWithin, IsPartFault, IsResumeFault, IsParted}
 use Rattle.cq_simulate.proofs.TakenUp.{goes_from, holds_none, machine_count, room_at, machines_many}
 use Rattle.cq_simulate.specs.ScheduleFor.{by_port}
 use Rattle.cq_simulate.specs.declared.refusal.RunRefusal.TheVariants as refusal
@@ -11,9 +11,6 @@ use Rattle.cq_simulate.specs.declared.refusal.RunRefusal.TheVariants as refusal
 -- ## A new switch
 
 module _ {t : Tables} {came : List Arrival} {first : IdealSwitch} (fresh : IsIdealFor t came first) where
-  abbrev ideal_begins : IdealSwitch
-  ideal_begins = fresh_ideal (ports_of t.setup) first.fixed (openings_of t.setup) t.limits (by_port is_to t came)
-
   -- its run is the tables' run
   pub run_of_tables :
       departures_limited (limited_run first.limits (map machine_from first.fixed) 0 (traffic_of came)
@@ -24,13 +21,9 @@ module _ {t : Tables} {came : List Arrival} {first : IdealSwitch} (fresh : IsIde
   pub ready_ideal : (sent : RoomView Departure) → IsSetup t.setup →
       IsTraffic (ports_of t.setup) (classes_of t.setup) came → IsShort came → sent.items ≡ [] →
       sent.spare ≡ length came + ports_of t.setup → IsReady (map machine_from first.fixed) came first sent
-  ready_ideal sent setup traffic short nothing spare = rw fresh.fresh (begun ideal_begins refl) where
-    begun : (now : IdealSwitch) → now ≡ ideal_begins → IsReady (map machine_from first.fixed) came now sent
-    begun now is =
-        let machines = fresh.machines in
-        let classes = fresh.classes in
-        let many = machine_count machine_from first.fixed t.setup machines in
-        grind (arith, common_steps, length-map-range_with_len, room_at)
+  ready_ideal sent setup traffic short nothing spare =
+      let many = machine_count machine_from first.fixed t.setup fresh.machines in
+      rw fresh.fresh (search (arith, rules, length-map-range_with_len, room_at))
 
 -- ## What an engine is made of
 
@@ -53,9 +46,8 @@ module _ (M : List ℕ → Machine) (t : Tables) (s : Scheduled) (first : Engine
         IsResumed (switch_of t s) (standing first sent note) (kept_of (unpacked_run run))
     resumes run kept =
         let has = kept.ran in
-        let rs = has.records in
         let engine : Switch = record (switch_of t s) { machines = map M first.fixed; limits = first.limits } in
-        let runs : RunsOn engine first.next (marked_fabric first) rs (marked_fabric kept.last) =
+        let runs : RunsOn engine first.next (marked_fabric first) has.records (marked_fabric kept.last) =
         search (arith, rules, take_all) in
         let runs_there = rw (limits, machines) at runs in search (arith, rules)
 
@@ -76,39 +68,28 @@ pub record IsMade (t : Tables) (s : Scheduled) (first : EngineView) (sent : Room
 
 module _ {t : Tables} {s : Scheduled} {first : EngineView} {sent : RoomView Departure} {note : RoomView Transfer}
     (made : IsMade t s first sent note) where
-  -- as it was made
-  abbrev pub begins : EngineView
-  begins = fresh_engine (ports_of t.setup) first.fixed (openings_of t.setup) (by_port is_from t s.came)
-      (by_port is_to t s.came) t.limits
-
   -- it can run from slot 0 on
   pub can_begin : IsReadyOn (map machine_from first.fixed) s.came first sent note
   can_begin =
-      let none = holds_none s.came (ports_of t.setup) first.fixed (openings_of t.setup) (by_port is_from t s.came)
-      (by_port is_to t s.came) t.limits (machine_count machine_from first.fixed t.setup made.fresh.machines) in
-      rw made.fresh.fresh (goes_from begins sent note made.fit none made.fresh.machines made.fresh.classes refl refl
-      refl
-      made.few made.sent_room made.note_room)
+      let on = goes_from (fresh_engine (ports_of t.setup) first.fixed (openings_of t.setup) (by_port is_from t s.came)
+      (by_port is_to t s.came) t.limits) sent note made.fit in
+      rw made.fresh.fresh (search (arith, rules, on, holds_none, machine_count))
 
   -- what it has run is the run of the tables
   pub run_is_kept : (run : PackedFabricRun) → HasKept (map machine_from first.fixed) s.came first sent note run →
       IsKeptOf t s.came (unpacked_run run)
   run_is_kept run kept =
-      let from_fresh = rw made.fresh.fresh at kept in
-      let it = resumes machine_from t s begins sent note made.fresh.machines refl run from_fresh in
-      let refused = counts_more t.limits [] (refused_in (admissions_in it.records)) in
-      search (arith, rules, common_steps, figures_fold)
+      let it = resumes machine_from t s _ sent note made.fresh.machines refl run (rw made.fresh.fresh at kept) in
+      search (arith, rules, common_steps, figures_fold, counts_more t.limits [])
 
   -- and where it has none, the ideal switch has none
   pub no_run : (why : RunRefusal) → IsRefusalOn (map machine_from first.fixed) s.came first why →
       IsRefusalOf (ideal_departures t s.came) why
   unfolding ideal_departures ran_ideal
   no_run (refusal.Tag fault) stop =
-      let ports = ports_of t.setup in
-      let openings = openings_of t.setup in
       let alike = best_act_alike_from_empty t.limits (machines_of t.setup) in
-      ap departures_limited (limited_whole_fault t.limits (machines_of t.setup) ports openings s.came stop.count fault
-      (search (arith, rules, slots_fit)))
+      ap departures_limited (limited_whole_fault t.limits (machines_of t.setup) (ports_of t.setup) (openings_of t.setup)
+      s.came stop.count fault (search (arith, rules, slots_fit)))
   no_run refusal.NoMemory stop = tt
 
 -- What a run of a fabric that is made for tables says of the tables. A run that goes on from where a run was taken up:
@@ -117,23 +98,17 @@ module _ {t : Tables} {s : Scheduled} {first : EngineView} {sent : RoomView Depa
 
 module _ (t : Tables) (s : Scheduled) (first : EngineView) (taken : Taken)
     (is : GoesOnFrom t s.came taken.frozen first) where
-  its_limits : first.limits ≡ t.limits
-  its_limits = ap (λ (e : EngineView). e.limits) is.stands
-
-  stood : frozen_of first ≡ taken.frozen
-  stood = ap frozen_of is.stands
-
   pub resumed_of : (sent : RoomView Departure) (note : RoomView Transfer) (run : PackedFabricRun) →
       HasKept (map machine_from first.fixed) s.came first sent note run → sent.items ≡ taken.sent →
       note.items ≡ taken.note → IsResumed (switch_of t s) taken (kept_of (unpacked_run run))
   resumed_of sent note run kept sent_was note_was =
-      subst (λ (x : Taken). IsResumed (switch_of t s) x (kept_of (unpacked_run run)))
-      (λ k. record { frozen = stood k; sent = sent_was k; note = note_was k })
-      (resumes machine_from t s first sent note is.machines its_limits run kept)
+      let limits = ap (λ (e : EngineView). e.limits) is.stands in
+      let all = resumes machine_from t s first sent note is.machines limits run kept in
+      rw (← ap frozen_of is.stands, ← sent_was, ← note_was) all
 
   pub resumed_fault : (why : RunRefusal) → IsRefusalOn (map machine_from first.fixed) s.came first why →
       IsResumeFault (switch_of t s) taken why
-  resumed_fault (refusal.Tag fault) stop = grind (arith, common_steps, stood, its_limits)
+  resumed_fault (refusal.Tag fault) stop = grind (arith, common_steps)
   resumed_fault refusal.NoMemory stop = tt
 
 module _ (t : Tables) (s : Scheduled) {first : EngineView} {first_sent : RoomView Departure}
@@ -144,19 +119,11 @@ module _ (t : Tables) (s : Scheduled) {first : EngineView} {first_sent : RoomVie
       frozen ≡ frozen_of last →
       IsParted (switch_of t s) (openings_of t.setup) slots
       (record { frozen = frozen; sent = sent.items; note = note.items })
-  parted_of slots last sent note frozen has is = rw is (by (rw made.fresh.fresh at has)) where
-    by : HasPartedTo (map machine_from first.fixed) s.came slots (begins made) last first_sent sent first_note note →
-        IsParted (switch_of t s) (openings_of t.setup) slots
-        (record { frozen = frozen_of last; sent = sent.items; note = note.items })
-    by has =
-        let long : length has.records ≡ slots = omega arith in
-        let as_many = machines_many t in
-        record {
-          records = has.records;
-          next = has.next;
-          runs = rw as_many (rw (made.fresh.machines, long) at has.went.runs);
-          kept = grind (arith, common_steps);
-        }
+  parted_of slots last sent note frozen has is =
+      let all = rw made.fresh.fresh at has in
+      let long : length all.records ≡ slots = omega arith in
+      let runs = rw (made.fresh.machines, long) at all.went.runs in
+      rw is (search (arith, rules, machines_many))
 
   pub part_fault : (slots : ℕ) (fault : TagFault) →
       StopsWithin (map machine_from first.fixed) s.came first (slots - first.next) fault →

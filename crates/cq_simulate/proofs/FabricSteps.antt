@@ -1,5 +1,5 @@
 -- What each step of the loop over the slots of the fabric asks for, where so many slots are left as are not yet over.
-use Rattle.cq_simulate.proofs.Terms.{common_steps, rules, ◌≡◌, ◌↔◌, ℕ, suc, ◌+◌, ◌-◌, ◌<◌, ◌≤◌, ◌^◌, Bool, true, false, List, [], ◌++◌, length, map, replicate, Option, Some, Err, refl, sym, ap, ◌∙◌, subst, arith, zero, ◌*◌, ◌∷◌, ⊎_elim, length-append, append_assoc, IsTrue, sum, slice_index, find, cases_lt, and_left, leb-false, ne_eqb, arrival_at, no_arrivals, Arrival, arriving, end_of, arriving_at, is_at, RoomView, Cell, Departure, TagFault, Transfer, EngineView, HaveBufferRoom, HaveListRoom, IsMadeAs, IsReadyFor, SlotDone, answer_to, its_admission, marked_fabric, HaveLeft, CanCount, AreForPorts, ranking, IsEmptyFabric, Fabric, input, LimitedFabricRun, admissions_in, LimitedRecord, IsLimitedFault, LimitedFabricSlot, slots_in, IsInputBest, Machine, class_count, counts_fit, none_counted, all_counted_both, refused_in, HasRunOn, IsReadyOn, NoneCome, StopsWithin, RanTo, WentOn, to_come, arrivals_for, arrives_found, from_here, one_if, come_from, some_one, no_more_from, for_here, come_for, no_more_to, IsQuiet, append-nil, length-map, get_or_past, map-append, take_all, take-append-le, departures_in, no_departures, IdealState, quiet_figures, quiet_transfers, transfers_in, transfers_of_run, range_with_len, map-range_with_len_more, Queued, Figures, nothing_left, present, come_count, none_after, come_count-first, arriving_length, arriving_here, arriving_parts, one_slot_more, counted, waiting, total, total_same, Marked, arriving_from, departures_of, LimitedSent, stable_limited_slot, limited_ports_kept, same_limited_slot, only_limited_run, empty_together, Agrees, SlotRecord, fabric_held, held_for, LimitedAgrees, figures_after, proposals_in, fold-append, sum_by-cons, agrees_of, ideal_of, is_from, is_to, number_of, arriving_is, cell_listed, found, quiet_limited_slots, quiet_limited_slot, limited_lists_kept, limited_outputs_kept, all_go_on, departures_one, transfers_both, transfers_one, departures_on, hold_as_many, most_ports}
+use Rattle.cq_simulate.proofs.Terms.{common_steps, rules, ◌≡◌, ◌↔◌, ℕ, suc, ◌+◌, ◌-◌, ◌<◌, ◌≤◌, ◌^◌, Bool, true, false, List, [], ◌++◌, length, map, replicate, Option, Err, refl, sym, ap, ◌∙◌, subst, arith, zero, ◌*◌, ◌∷◌, length-append, append_assoc, IsTrue, sum, slice_index, cases_lt, and_left, leb-false, ne_eqb, no_arrivals, Arrival, arriving, end_of, arriving_at, RoomView, Cell, Departure, TagFault, Transfer, EngineView, HaveBufferRoom, HaveListRoom, IsMadeAs, IsReadyFor, SlotDone, answer_to, its_admission, marked_fabric, HaveLeft, CanCount, AreForPorts, ranking, IsEmptyFabric, Fabric, input, LimitedFabricRun, admissions_in, LimitedRecord, IsLimitedFault, LimitedFabricSlot, slots_in, IsInputBest, Machine, class_count, counts_fit, none_counted, all_counted_both, refused_in, HasRunOn, IsReadyOn, NoneCome, StopsWithin, RanTo, WentOn, to_come, arrivals_for, arrives_found, from_here, one_if, come_from, some_one, no_more_from, for_here, come_for, no_more_to, IsQuiet, append-nil, length-map, get_or_past, map-append, take_all, take-append-le, departures_in, no_departures, IdealState, quiet_figures, quiet_transfers, transfers_in, transfers_of_run, range_with_len, map-range_with_len_more, Queued, Figures, nothing_left, present, come_count, none_after, come_count-first, arriving_length, arriving_here, arriving_parts, one_slot_more, counted, waiting, total, total_same, Marked, arriving_from, departures_of, LimitedSent, stable_limited_slot, limited_ports_kept, same_limited_slot, only_limited_run, empty_together, Agrees, SlotRecord, fabric_held, held_for, LimitedAgrees, figures_after, proposals_in, fold-append, sum_by-cons, agrees_of, ideal_of, is_from, is_to, number_of, arriving_is, found, quiet_limited_slots, quiet_limited_slot, limited_lists_kept, limited_outputs_kept, all_go_on, departures_one, transfers_both, transfers_one, departures_on, hold_as_many, most_ports}
 use Rattle.cq_engine.specs.Engine.{HasGoneOn, ports_of}
 use Rattle.cq_engine.specs.Resting.{HasRested}
 use Rattle.cq_simulate.proofs.Steps.{IsFree, few_left, fewer_come, of_admitted, come_here, fewer_left, none_come, slot_err}
@@ -12,19 +12,15 @@ use Rattle.cq_simulate.proofs.FabricCounts.{all_listed, at_inputs, cross_few, no
 
 -- ## The same arrivals
 
-find_kept : (s t k : ℕ) → s ≤ t → (came : List Arrival) → find (is_at t k) (to_come s came) ≡ find (is_at t k) came
-find_kept s t k le [] = refl
-find_kept s t k le (a ∷ came) = grind (arith, common_steps, leb-false, ne_eqb, and_left, find_kept s t k le came)
-
 at_kept : (s t k : ℕ) → s ≤ t → (came : List Arrival) → arriving_at (to_come s came) t k ≡ arriving_at came t k
-at_kept s t k le came = grind (arith, common_steps, find_kept)
+at_kept s t k le [] = refl
+at_kept s t k le (a ∷ came) = grind (arith, common_steps, leb-false, ne_eqb, and_left, at_kept s t k le came)
 
 arriving_kept : (s t : ℕ) → s ≤ t → (came : List Arrival) (inputs : ℕ) → inputs ≡ most_ports →
     arriving (to_come s came) t ≡ arriving came t
 arriving_kept s t le came inputs are =
-    arriving_is (to_come s came) t inputs are
-    ∙ ap (λ (f : ℕ → Option Cell). map f (range_with_len 0 inputs)) (λ e k. at_kept s t k le came e)
-    ∙ sym (arriving_is came t inputs are)
+    let same = ap (λ (f : ℕ → Option Cell). map f (range_with_len 0 inputs)) (λ e k. at_kept s t k le came e) in
+    cc (arriving_is (to_come s came) t inputs are, arriving_is came t inputs are)
 
 slots_kept : (s t : ℕ) → s ≤ t → (came : List Arrival) (n : ℕ) →
     arriving_from (to_come s came) t n ≡ arriving_from came t n
@@ -32,10 +28,6 @@ unfolding arriving_from
 slots_kept s t le came zero = refl
 slots_kept s t le came (suc n) =
     cc (arriving_kept s t le came most_ports refl, slots_kept s (t + 1) (omega arith) came n)
-
-found_kept : (s t k : ℕ) → s ≤ t → (came : List Arrival) → found (to_come s came) t k ≡ found came t k
-unfolding found
-found_kept s t k le came = ap (λ (o : Option Cell). cell_listed o) (at_kept s t k le came)
 
 -- ## How many
 
@@ -47,24 +39,20 @@ module _ (s n : ℕ) (came : List Arrival) where
   pub come_few : come_count (arriving_from came s n) ≤ length later
   unfolding arriving_from
   come_few =
-      let less =
-      fewer_come (λ t m. come_count (arriving_from later t m)) (λ t m. omega (arith, come_here later t m)) 0 s n s
-      (omega arith) in
-      let all = come_count-first later (s + n) in rw (← slots_kept s s (omega arith) came n) (omega arith)
+      let less = fewer_come (λ t m. come_count (arriving_from later t m)) (λ t m. omega (arith, come_here later t m)) in
+      search (arith, rules, less 0 s n s (s + n), come_count-first, slots_kept)
 
   pub for_few : (j : ℕ) → come_for j (arriving_from came s n) ≤ number_of (is_to j) later
   for_few j =
-      let less =
-      fewer_come (λ t m. come_for j (arriving_from later t m)) (λ t m. omega (arith, for_here j later t m)) 0 s n
-      s
-      (omega arith) in
-      let all = no_more_to j later (s + n) in rw (← slots_kept s s (omega arith) came n) (omega arith)
+      let less = fewer_come (λ t m. come_for j (arriving_from later t m)) (λ t m. omega (arith, for_here j later t m))
+      0 s n s (s + n) in
+      search (arith, rules, less, no_more_to, slots_kept)
 
   pub from_few : (i : ℕ) → come_from i came s n ≤ number_of (is_from i) later
-  unfolding come_from
+  unfolding come_from found
   from_few i =
-      let less = fewer_come (come_from i later) (λ t m. omega (arith, from_here i later t m)) 0 s n s (omega arith) in
-      search (arith, rules, total, found, total_same, found_kept, no_more_from)
+      let less = fewer_come (come_from i later) (λ t m. omega (arith, from_here i later t m)) 0 s n s (s + n) in
+      search (arith, rules, less, total, total_same, at_kept, no_more_from)
 
 -- The run of the fabric from any slot on, slot by slot. At each slot the fabric agrees with an ideal switch, so what
 -- is known of one slot of that holds here too: its departures fit, it refuses the same cells, and a cell that waits
@@ -139,8 +127,7 @@ waiting-sum (cells ∷ lists) = grind (arith, common_steps, sum_by-cons, waiting
 -- as many cells wait in the ideal switch as the fabric holds
 pub all_wait : (slot : ℕ) (f : Fabric) (ideal : IdealState) → Agrees slot f ideal →
     waiting ideal.lists ≡ sum (fabric_held f)
-all_wait slot f ideal agrees =
-    waiting-sum ideal.lists ∙ ap (λ (l : List ℕ). sum l) (sym (hold_as_many slot f ideal agrees))
+all_wait slot f ideal agrees = cc (waiting-sum ideal.lists, hold_as_many slot f ideal agrees)
 
 pub crossing_first : (whole : Bool) (ms : List Machine) (came : List Arrival) (first : EngineView)
     (sent : RoomView Departure) (note : RoomView Transfer) (n : ℕ) → IsReadyOn ms came first sent note →
@@ -148,30 +135,13 @@ pub crossing_first : (whole : Bool) (ms : List Machine) (came : List Arrival) (f
     Crossing whole ms came first sent note first.next n first sent note
 unfolding arriving_from departures_of transfers_of_run
 crossing_first whole ms came first sent note n ready early slots =
-    let p = ports_of first in
     let come = come_few first.next n came in
-    let wait : waiting (ideal_of first.fabric).lists ≡ sum (fabric_held first.fabric) =
-    all_wait first.next first.fabric (ideal_of first.fabric) (agrees_of first.next first.fabric ready.sound) in
-    record {
-      ready = ready;
-      early = early;
-      ideal = record { state = ideal_of first.fabric; marks = first.marks };
-      agrees = record { states = agrees_of first.next first.fabric ready.sound; marks = refl };
-      next = refl;
-      made = record { fixed = refl; limits = refl; from_inputs = refl; to_outputs = refl };
-      ports = ready.inputs;
-      records = [];
-      long = omega arith;
-      went = search (arith, rules, append-nil, none_counted);
-      lists = λ i inside. let had = ready.lists i inside in let from = from_few first.next n came i in omega arith;
-      buffers = λ j inside. let had = ready.buffers j inside in let to = for_few first.next n came j in omega arith;
-      spare = omega arith;
-      room = let at = all_listed first.fabric p ready.inputs in omega arith;
-      proposed = omega arith;
-      many = omega arith;
-      few = λ is. let all = slots is in omega arith;
-      going = λ is m f before run late empty. omega arith;
-    }
+    let alike = agrees_of first.next first.fabric ready.sound in
+    let wait = all_wait first.next first.fabric (ideal_of first.fabric) alike in
+    let ideal : Marked IdealState = record { state = ideal_of first.fabric; marks = first.marks } in
+    let agrees : LimitedAgrees first.next (marked_fabric first) ideal = record { states = alike; marks = refl } in
+    let went : WentOn ms came first first sent sent note note [] = search (arith, rules, append-nil, none_counted) in
+    search (arith, rules, slots, for_few, from_few, all_listed, ready.lists, ready.buffers)
 
 -- ## A slot
 
@@ -189,35 +159,24 @@ next_slots : (came : List Arrival) (a n slot k : ℕ) → a + n ≡ slot → k �
 unfolding arriving_from
 next_slots came a n slot k at more = grind (arith, common_steps, map-range_with_len_more)
 
--- those that are left, this one first
-slots_left : (came : List Arrival) (a n slot j k : ℕ) → a + n ≡ slot → k ≡ n + suc j →
-    arriving_from came a n ++ arriving came slot ∷ arriving_from came (slot + 1) j ≡ arriving_from came a k
-slots_left came a n slot j k at long = ap (λ (l : List (List (Option Cell))). arriving_from came a n ++ l)
-    (sym (arriving_here came slot j)) ∙ arriving_parts came a slot n (suc j) k (sym at) long
-
 empty_beside : (slot : ℕ) (f : Marked Fabric) (ideal : Marked IdealState) → LimitedAgrees slot f ideal →
     waiting ideal.state.lists ≡ 0 → IsEmptyFabric f.state
-empty_beside slot f ideal agrees none =
-    (empty_together slot f.state ideal.state agrees.states).1 (nothing_left ideal.state.lists none)
+empty_beside slot f ideal agrees none = search (arith, rules, empty_together slot f.state ideal.state, nothing_left)
 
 module _ {whole : Bool} {ms : List Machine} {came : List Arrival} {first : EngineView} {first_sent : RoomView Departure}
     {first_note : RoomView Transfer} {slot n : ℕ} {now : EngineView} {sent : RoomView Departure}
     {note : RoomView Transfer} (c : Crossing whole ms came first first_sent first_note slot n now sent note) where
   -- where a cell is still to come or waits, a slot is left
   pub crossing_left : whole ≡ true → (end_of came ≤ slot → IsEmptyFabric now.fabric → ⊥) → 0 < n
-  crossing_left is more = ⊎_elim (λ some. some) (λ none.
-      absurd (more (omega arith) (empty_beside slot (marked_fabric now) c.ideal c.agrees (omega arith)))) (cases_lt 0 n)
+  crossing_left is more =
+      search (arith, rules, empty_beside slot (marked_fabric now) c.ideal c.agrees, cases_lt 0 n, more)
 
   -- the run is not over before a slot, or at it
   not_before : whole ≡ true → (end_of came ≤ slot → IsEmptyFabric now.fabric → ⊥) → (m : ℕ) (f : Marked Fabric) →
       m ≤ length c.records → RanTo ms came first m c.records f → end_of came ≤ first.next + m →
       IsEmptyFabric f.state → ⊥
   not_before is more m f le run late empty =
-      ⊎_elim
-      (λ (before : m < length c.records). c.going is m f before run late empty)
-      (λ (now_or_later : length c.records ≤ m).
-      search (arith, rules, take_all m c.records now_or_later, only_limited_run ms first.limits))
-      (cases_lt m (length c.records))
+      search (arith, rules, c.going is m, take_all, only_limited_run ms first.limits, cases_lt m (length c.records))
 
   -- ## The end of the loop
 
@@ -231,18 +190,13 @@ module _ {whole : Bool} {ms : List Machine} {came : List Arrival} {first : Engin
       StopsWithin ms came first count fault
   crossing_fault fault j count long is =
       let before = arriving_from came first.next (length c.records) in
-      let later = arriving_from came (slot + 1) j in
       let so_far = arriving_length came first.next (length c.records) in
       let at : slot ≡ first.next + length before = omega arith in
-      record {
-        records = c.records ++ [];
-        stops =
-            rw (slots_left came first.next (length c.records) slot j count c.long (omega arith)) at
-            ((all_go_on (LimitedFabricSlot IsInputBest first.limits ms) (IsLimitedFault first.limits ms)).stop
-            first.next
-            before (arriving came slot ∷ later) (marked_fabric first) (marked_fabric now) c.records [] fault c.went.runs
-            (subst (λ (k : ℕ). IsLimitedFault first.limits ms k (arriving came slot) (marked_fabric now) fault) at is));
-      }
+      let all = arriving_parts came first.next slot (length c.records) (suc j) count (sym c.long) (omega arith) in
+      let on = (all_go_on (LimitedFabricSlot IsInputBest first.limits ms) (IsLimitedFault first.limits ms)).stop
+      first.next before (arriving_from came slot (suc j)) (marked_fabric first) (marked_fabric now) c.records [] fault
+      c.went.runs in
+      let on_here = rw all at on in search (arith, rules, arriving_here)
 
 -- ## One slot more
 
@@ -272,9 +226,7 @@ module _ {whole : Bool} {ms : List Machine} {came : List Arrival} {first : Engin
       let of_slot : LimitedSent = record { admission = r.admission; gone = r.of_slot.gone; after = alike.next } in
       let here = come_here came slot n in
       let o = of_admitted first.limits ms slot cells ideal of_slot alike.sent in
-      let k = counted ms slot admitted ideal.state o.sent o.ran in
-      let waits : waiting alike.next.state.lists ≡ waiting o.sent.after.lists =
-      ap (λ (s : IdealState). waiting s.lists) o.after in
+      let k = o.counts in
       let one_more = map-append (λ (r : LimitedRecord). r.of_slot) c.records (r ∷ []) in
       let both = length-append c.records (r ∷ []) in
       record {
@@ -337,43 +289,36 @@ quiet_gone ms slot ports ranks = no_departures ports slot 0
 
 module _ {whole : Bool} {ms : List Machine} {came : List Arrival} {first : EngineView}
     {first_sent sent : RoomView Departure} {first_note note : RoomView Transfer} (ports : ℕ) where
-  pub crossing_rest : (k slot n m : ℕ) (ranks : List (List ℕ)) (marks : List Bool) (now after : EngineView) →
-      m ≡ k + n → Crossing whole ms came first first_sent first_note slot m now sent note →
-      ((t : ℕ) → slot ≤ t → t < slot + k → arriving came t ≡ no_arrivals) →
-      (whole ≡ true → 0 < k → slot + k < end_of came) →
+  pub crossing_rest : (k slot next n m : ℕ) (ranks : List (List ℕ)) (marks : List Bool) (now after : EngineView) →
+      next ≡ slot + k → m ≡ k + n → Crossing whole ms came first first_sent first_note slot m now sent note →
+      ((t : ℕ) → slot ≤ t → t < next → arriving came t ≡ no_arrivals) →
+      (whole ≡ true → slot < next → next < end_of came) →
       LimitedFabricRun IsInputBest now.limits ms slot (replicate k no_arrivals) (marked_fabric now)
       (quiet_limited_slots ms k slot ports ranks marks) (marked_fabric after) →
-      after.figures ≡ now.figures → after.next ≡ slot + k → after.stopped ≡ false → after.refused ≡ now.refused →
-      IsMadeAs now after → Crossing whole ms came first first_sent first_note (slot + k) n after sent note
-  crossing_rest zero slot n m ranks marks now after left c quiet more ran figures next running refused made =
+      after.figures ≡ now.figures → after.next ≡ next → after.stopped ≡ false → after.refused ≡ now.refused →
+      IsMadeAs now after → Crossing whole ms came first first_sent first_note next n after sent note
+  crossing_rest zero slot next n m ranks marks now after there left c quiet more ran figures at running refused made =
       grind (arith, common_steps)
-  crossing_rest (suc k) slot n m ranks marks now after left c quiet more ran figures next running refused made =
+  crossing_rest (suc k) slot next n m ranks marks now after there left c quiet more ran figures at running refused
+      made =
       let r : LimitedRecord = quiet_limited_slot ms slot ports ranks marks in
       let leave : departures_in slot r.of_slot.gone ≡ [] = quiet_gone ms slot ports ranks in
       let cross : transfers_in r.of_slot ≡ [] = quiet_transfers ms slot ports ranks in
       let none_leave = ap (λ (l : List Departure). length l) leave in
       let none_cross = ap (λ (l : List Transfer). length l) cross in
-      let quiet_here : arriving came slot ≡ no_arrivals = quiet slot (omega arith) (omega arith) in
       let middle : EngineView =
       record now { fabric = ran.0.state; marks = ran.0.marks; next = slot + 1; stopped = false } in
       let done : SlotDone ms slot no_arrivals now middle sent sent note note =
       search (arith, rules, append-nil, quiet_figures, none_counted) in
+      let put = left_here done in
       let passed : Passed ms slot no_arrivals now middle sent sent sent sent note note =
-      record {
-        done = done;
-        put = left_here done;
-        went_on = record { next = refl; few = omega arith };
-        running = refl;
-        made = record { fixed = refl; limits = refl; from_inputs = refl; to_outputs = refl };
-      } in
+      record { done = done; put = put; went_on = search (arith, rules); running = refl; made = search rules } in
       let count : m ≡ suc (k + n) = omega arith in
       let after_one : Crossing whole ms came first first_sent first_note (slot + 1) (k + n) middle sent note =
       crossing_next (rw count at c) (λ is le empty. let some = more is (omega arith) in omega arith)
-      (rw (← quiet_here) at passed) in
-      let there : slot + 1 + k ≡ slot + suc k = omega arith in
-      rw there at (crossing_rest k (slot + 1) n (k + n) (idled ms ports ranks) marks middle after refl after_one
-      (λ t from to. quiet t (omega arith) (omega arith)) (λ is pos. let some = more is (omega arith) in omega arith)
-      ran.2 figures (next ∙ sym there) running refused (search rules))
+      (rw (← quiet slot (omega arith) (omega arith)) at passed) in
+      crossing_rest k (slot + 1) next n (k + n) (idled ms ports ranks) marks middle after (omega arith) refl after_one
+      (search (arith, rules, quiet)) (λ is lt. more is (omega arith)) ran.2 figures at running refused (search rules)
 
 pub goes_on : (b : Bool) (end slot : ℕ) (Empty : Type 0) → b ≡ false → (IsTrue b ↔ ((end ≤ slot) × Empty)) →
     end ≤ slot → Empty → ⊥
@@ -411,19 +356,10 @@ module _ {whole : Bool} {end : ℕ} (M : List ℕ → Machine) {came : List Arri
     (quiet : (t : ℕ) → slot ≤ t → t < next → arriving came t ≡ no_arrivals)
     (to_come : whole ≡ true → slot < next → next < end_of came)
     (rested : HasRested (map M now.fixed) slot next now new) where
-  ran : LimitedFabricRun IsInputBest now.limits (map M first.fixed) slot (replicate (next - slot) no_arrivals)
-      (marked_fabric now) (quiet_limited_slots (map M first.fixed) (next - slot) slot
-      (ports_of now) now.fabric.ranks now.marks) (marked_fabric new)
-  ran = grind (arith, common_steps)
-
   at_rest : Crossing whole (map M first.fixed) came first first_sent first_note next (end - next) new sent note
-  at_rest =
-      let left : end - slot ≡ next - slot + (end - next) = omega arith in
-      let there : slot + (next - slot) ≡ next = omega arith in
-      rw there at (crossing_rest (length now.fixed) (next - slot) slot (end - next) (end - slot) now.fabric.ranks
-      now.marks now new left b (λ t from to. quiet t from (omega arith))
-      (λ is some. let before = to_come is (omega arith) in omega arith) ran rested.figures
-      (rested.next ∙ sym there) rested.running rested.refused (search rules))
+  at_rest = crossing_rest (length now.fixed) (next - slot) slot next (end - next) (end - slot) now.fabric.ranks
+      now.marks now new (omega arith) (omega arith) b quiet to_come (grind (arith, common_steps)) rested.figures
+      rested.next rested.running rested.refused (search rules)
 
 -- ## Where a run stands
 
@@ -445,22 +381,16 @@ module _ {whole : Bool} {end : ℕ} {M : List ℕ → Machine} {came : List Arri
 
   list_room : (cells : List (Option Cell)) → cells ≡ arriving came slot → HaveListRoom cells now
   list_room cells are i cell at =
-      let there : arrival_at (arriving came slot) i ≡ Some cell = search (arith, rules) in
-      let inside : i < length first.fixed = for_ports.inputs i cell there in
-      let from = from_here i came slot rest in
-      let comes = arrives_found came slot i in search (arith, rules, one_if)
+      search (arith, rules, for_ports.inputs, from_here i came slot rest, arrives_found came slot i, one_if)
 
   buffer_room : (cells : List (Option Cell)) → cells ≡ arriving came slot → HaveBufferRoom cells now
-  buffer_room cells are j within =
-      let ports = same_ports in
-      let inside : j < length first.fixed = omega arith in
-      let had = c_next.buffers j inside in search (arith, rules, for_here)
+  buffer_room cells are j within = search (arith, rules, same_ports, c_next.buffers, for_here)
 
   can_refuse : CanCount (ports_of now) now.refused
   can_refuse =
       let lost = refused_in (admissions_in here.crossing.records) in
       let room : CanCount (ports_of first + length lost) first.refused = search (arith, rules) in
-      search (arith, rules, counts_fit lost (ports_of first) (length lost) first.refused room)
+      search (arith, rules, counts_fit lost (ports_of first) (length lost))
 
   -- each output can send a cell
   pub room_here : length now.fixed ≤ sent.spare
@@ -499,9 +429,7 @@ module _ {whole : Bool} {end : ℕ} {M : List ℕ → Machine} {came : List Arri
       Err fault ≡ answer_to (ranking (map M now.fixed) slot 0 (its_admission cells now).cells now.fabric.ranks) →
       StopsWithin (map M first.fixed) came first count fault
   fault_here cells fault j count long are answer =
-      let e =
-      slot_err (ranking (map M now.fixed) slot 0 (its_admission cells now).cells now.fabric.ranks) fault answer in
-      crossing_fault here.crossing fault j count long (cc)
+      search (arith, rules, crossing_fault here.crossing fault j count long, slot_err)
 
 -- ## A run to its end
 
@@ -513,8 +441,7 @@ module _ (M : List ℕ → Machine) {came : List Arrival} {first : EngineView} {
       IsQuiet came slot next → HasRested (map M now.fixed) slot next now new →
       Stands true (over_by came first.next) M came first first_sent first_note next new sent note
   run_stands {next} {new} more quiet rested =
-      let left = crossing_left runs refl more in
-      let some : slot < over_by came first.next = omega arith in search (arith, rules, at_rest)
+      let left = crossing_left runs refl more in search (arith, rules, at_rest)
 
 -- ## A run up to a slot
 

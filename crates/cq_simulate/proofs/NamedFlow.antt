@@ -3,7 +3,7 @@
 -- have the same cells: of a flow there arrives one cell in a slot at most.
 -- What waits for an output in a sound state stands there as in a run: in the order of the keys, each cell with the
 -- level of its class and a rank below the floor, and each arrived in an earlier slot.
-use Rattle.cq_simulate.proofs.Terms.{common_steps, rules, map-append, ◌≡◌, ℕ, ◌<◌, Bool, true, false, List, [], ◌∷◌, ◌++◌, length, map, filter, Option, Some, refl, sym, ap, ◌∙◌, subst, inl, ⊎_elim, arith, ◌⊎◌, ◌+◌, ◌≤◌, not, cond, fold, ◌&&◌, ◌==◌, All, slice_index_or, nat_lt, if◌then◌else◌, AllByRecursion, AllPairs, and_from, and_parts, cases_lt, eq-eqb, eqb-true, lt-ltb, ltb-true, cases_eq, cond-false, cond-true, le-ltb, ne_eqb, Arrival, IsBefore, Departure, Queued, IsLater, IsTraffic, comes_in_flow, leaves_in_flow, left_in_flow, is_kind, shown, HasWaited, Stands, line_at, rest_of, Agrees, Fabric, input, ideal_of, list_of, departure_of, sent_told, firsts_at, is_refused, latest, IsSound, OfOneFlow, IsBelowFloor, AllNamed, AreWholePackets, NoneNamed, HasShape, Switch, HasLimit, arriving_cell, class_of, fabric_told, is_ahead, is_named, key_of, named_in, output_of, queued_in, queued_of, list_told, class_in, packet_before, EachPair, each_pair, buffer_is, comes, found_at, in_buffer, in_list, in_order, is_cell_of, its_output, its_slot, list_is, of_traffic, ports_are, queued_differ, queued_named, some_cell, Has, all_from_has, all_of_has, has_cases, has_image, has_kept, has_left, has_right, image_has, kept_has, pair_of_has, IsInRange, Sent, State, NoLater, all_weaker, Machine, machine_at, AreOfPackets, key_laws, HasFor, all_has, looked_up, pairs_kept, pairs_kept_with, pairs_looked_up, pairs_with, Named, any_has, has_any, any_alike, pairs_mapped, pairs_joined, has_looked_up, same_pairs, filter_none, filter_all}
+use Rattle.cq_simulate.proofs.Terms.{common_steps, rules, map-append, ◌≡◌, ℕ, ◌<◌, Bool, true, false, List, [], ◌∷◌, ◌++◌, length, map, filter, Option, Some, refl, sym, ap, ◌∙◌, inl, ⊎_elim, arith, ◌⊎◌, ◌+◌, ◌≤◌, not, cond, fold, ◌&&◌, ◌==◌, All, slice_index_or, nat_lt, if◌then◌else◌, AllByRecursion, AllPairs, and_from, and_parts, cases_lt, eq-eqb, eqb-true, lt-ltb, ltb-true, cases_eq, cond-false, cond-true, le-ltb, ne_eqb, Arrival, IsBefore, Departure, Queued, IsLater, IsTraffic, comes_in_flow, leaves_in_flow, left_in_flow, is_kind, shown, HasWaited, Stands, line_at, rest_of, Agrees, Fabric, input, ideal_of, list_of, departure_of, sent_told, firsts_at, is_refused, latest, IsSound, OfOneFlow, IsBelowFloor, AllNamed, AreWholePackets, NoneNamed, HasShape, Switch, HasLimit, arriving_cell, class_of, fabric_told, is_ahead, is_named, key_of, named_in, output_of, queued_in, queued_of, class_in, packet_before, EachPair, each_pair, buffer_is, comes, found_at, in_buffer, in_list, in_order, is_cell_of, its_output, its_slot, list_is, of_traffic, ports_are, queued_differ, queued_named, some_cell, Has, all_from_has, all_of_has, has_cases, has_image, has_kept, has_left, has_right, image_has, kept_has, pair_of_has, IsInRange, Sent, State, NoLater, all_weaker, Machine, machine_at, AreOfPackets, key_laws, HasFor, all_has, looked_up, pairs_kept, pairs_kept_with, pairs_looked_up, pairs_with, Named, any_has, has_any, any_alike, pairs_mapped, pairs_joined, has_looked_up, same_pairs, filter_none, filter_all}
 use Rattle.std.proofs.lemmas.Simd.{map-map}
 use Rattle.cq_ideal.proofs.RestAtInput.{cells_of}
 
@@ -60,9 +60,7 @@ pub record Begins (xs : List Arrival) (a : Arrival) : Type 0 where
 pub begun : (n : ℕ) (xs : List Arrival) → AreOfPackets n (cells_of xs) → (a : Arrival) → Has xs a →
     (packet a + 1 ≡ n → ⊥) → Begins xs a
 begun n [] are a has other = absurd has
-begun n (x ∷ xs) are a has other =
-    let here : packet x ≡ packet a → Begins (x ∷ xs) a = search (arith, rules, eqb-true) in
-    search (arith, rules, cases_eq, begun (packet x + 1) xs are.1 a)
+begun n (x ∷ xs) are a has other = search (arith, rules, eqb-true, cases_eq, begun (packet x + 1) xs are.1 a)
 
 -- ## The last by slot
 
@@ -79,9 +77,8 @@ same_slot same = ap (λ (a : Arrival). a.slot) same
 latest_on : (x : Arrival) (xs : List Arrival) → IsLatest (x ∷ xs) (fold later_one x xs)
 latest_on x [] = grind (arith, common_steps, same_slot)
 latest_on x (z ∷ zs) =
-    let v = later_one x z in
-    let it : IsLatest (v ∷ zs) (fold later_one v zs) = latest_on v zs in
-    let most : v.slot ≤ (fold later_one v zs).slot = it.after v (inl refl) in
+    let it = latest_on (later_one x z) zs in
+    let most = it.after (later_one x z) (inl refl) in
     grind (arith, common_steps, same_slot, lt-ltb, le-ltb, cases_lt)
 
 pub latest_is : (xs : List Arrival) (y : Arrival) → Has xs y → (g : Arrival) × (latest xs ≡ Some g) × IsLatest xs g
@@ -187,8 +184,7 @@ module _ (w : Switch) (s : State) (i : ℕ) (whole : AreWholePackets w s)
   pub alike : (a b : Arrival) → Has before a → Has before b → packet a ≡ packet b → is_told a ≡ is_told b
   alike a b first second same =
       let it = begun 0 before packets_parted.0 a first (λ none. omega arith) in
-      let f = it.first in
-      let answers = one_answer f it.has it.begins in search (arith, rules, of_line, in_packet)
+      search (arith, rules, one_answer it.first, of_line, in_packet)
 
   rise : EachPair Rises before
   rise = both_rise 0 before (pairs_kept IsEarlier (is_early s.head.next) line rising) packets_parted.0
@@ -207,18 +203,11 @@ module _ (w : Switch) (s : State) (i : ℕ) (whole : AreWholePackets w s)
       let found = latest_is (firsts_at w.came s i) f there in
       let g = found.0 in
       let first = of_first g found.2.has in
-      let of_g = first.0 in
-      let g_has : Has before g = to_line g of_g in
-      let later : f.slot ≤ g.slot = found.2.after f there in
-      let own : packet f ≡ packet a = it.own in
+      let g_has : Has before g = to_line g first.0 in
       let most = within 0 0 before (omega arith) packets_parted.0 in
-      let high : packet g + 1 ≤ begin_from = (all_of_has _ before g most.1 g_has).1 in
-      let low : packet f ≤ packet g = search (arith, rules, packet, pair_of_has, rise) in
-      let any_alike-here = any_alike is_told (is_told g) (packet_before w.came s.head.next g) g in
-      let in_packet-here = in_packet g g of_g of_g refl in
-      let one_answer-here = one_answer g g_has in
-      let alike-here = alike g a g_has has in
-      search (arith, rules)
+      let high = all_of_has _ before g most.1 g_has in
+      let low : packet f ≤ packet g = search (arith, rules, packet, pair_of_has, rise, found.2.after f there) in
+      search (arith, rules, any_alike is_told (is_told g), in_packet, one_answer g, alike g a)
 
   -- ## Together
 
@@ -233,9 +222,8 @@ module _ (w : Switch) (s : State) (i : ℕ) (whole : AreWholePackets w s)
 
     pub taken_behind : AllByRecursion (λ b. is_taken (packet b) ≡ taken (packet b)) behind
     taken_behind =
-        let low = within begin_from begin_from behind (omega arith) packets_behind in
         let high = within 0 0 before (omega arith) packets_parted.0 in
-        search (arith, rules, all_from_has, all_of_has, as_taken, mark_says)
+        search (arith, rules, within begin_from, packets_behind, all_from_has, all_of_has, as_taken, mark_says)
 
 -- ## Arrivals that rise by slot
 
@@ -244,11 +232,7 @@ arrival_is a b e g = λ k. record { slot = e k; cell = g k }
 
 -- the arrivals at an input rise
 pub line_rises : (came : List Arrival) → AllPairs IsLater came → (i : ℕ) → EachPair IsEarlier (line_at i came)
-line_rises came later i =
-    let at : Arrival → Bool = λ a. a.cell.id.input == i in
-    pairs_kept_with IsLater IsEarlier at (λ a b first second rises.
-    rises (eqb-true a.cell.id.input i first ∙ sym (eqb-true b.cell.id.input i second))) came
-    (each_pair IsLater came later)
+line_rises came later i = search (arith, rules, pairs_kept_with IsLater IsEarlier, each_pair, eqb-true)
 
 -- ## One flow
 
@@ -256,15 +240,9 @@ line_rises came later i =
 abbrev pub as_arrival : Queued → Arrival
 as_arrival q = record { slot = q.key.slot; cell = q.cell }
 
-both_cells : (xs : List Departure) (ys : List Queued) →
-    map (λ (d : Departure). d.queued.cell) xs ++ map (λ (q : Queued). q.cell) ys
-    ≡ cells_of (map as_arrival (map (λ (d : Departure). d.queued) xs ++ ys))
-both_cells xs ys = simp (map-append, map-map)
-
 none_later : (xs : List Queued) → EachPair IsBefore xs → EachPair NoLater xs
 none_later [] rising = tt
-none_later (x ∷ xs) rising =
-    grind (arith, common_steps, all_weaker (IsBefore x) (NoLater x), key_laws.one_way, none_later xs rising.1)
+none_later (x ∷ xs) rising = grind (arith, common_steps, all_weaker, key_laws.one_way, none_later xs rising.1)
 
 module _ (w : Switch) (s : State) (in_range : IsInRange s) (shape : HasShape w s) (sound : IsSound w s)
     (traffic : IsTraffic (length w.machines) w.classes w.came)
@@ -287,9 +265,8 @@ module _ (w : Switch) (s : State) (in_range : IsInRange s) (shape : HasShape w s
 
   pub waits_there : (q : Queued) → Has there q → WaitsThere q
   waits_there q has =
-      let listed = in_list w s in_range shape sound traffic in
       let buffered = in_buffer w s in_range shape sound traffic in
-      search (arith, rules, listed, buffered, has_left, has_right, agrees.same)
+      search (arith, rules, buffered, has_left, has_right, agrees.same, in_list w s in_range shape sound traffic)
 
   abbrev pub next : ℕ
   next = s.head.next
@@ -361,12 +338,10 @@ module _ (w : Switch) (s : State) (in_range : IsInRange s) (shape : HasShape w s
     InTurn d e = OfOneFlow w.came d.cell e.cell → d.cell.slot < e.cell.slot
 
     gone_rise : EachPair Earlier gone
-    gone_rise = pairs_mapped (λ (d : Departure). d.queued) Earlier (filter leaves (sent_told w.came s))
-        (pairs_kept_with EarlierThere (λ (x y : Departure). Earlier x.queued y.queued) leaves
-        (λ x y first second turn. turn first second) (sent_told w.came s)
-        (pairs_looked_up (departure_of w.came) InTurn EarlierThere
-        (λ d e x y turn one two first second. search (arith, rules, sent_in_flow, one_flow, slot_is)) s.sent
-        (each_pair InTurn s.sent sound.flows.sent)))
+    gone_rise =
+        let turn = pairs_looked_up (departure_of w.came) InTurn EarlierThere in
+        let kept = pairs_kept_with EarlierThere (λ (x y : Departure). Earlier x.queued y.queued) leaves in
+        search (arith, rules, pairs_mapped, kept, turn, sent_in_flow, one_flow, slot_is, each_pair)
 
     -- of two that wait the first arrived first
     abbrev Ahead : Named → Named → Type 0
@@ -390,13 +365,12 @@ module _ (w : Switch) (s : State) (in_range : IsInRange s) (shape : HasShape w s
         let same : q.key.slot ≡ r.key.slot → q ≡ r = λ slots.
         let inputs = (name_in_flow a.0 q a.2).input ∙ sym (name_in_flow b.0 r b.2).input in
         let names = one_name a.0 b.0 a.1 b.1 (omega arith) inputs in cc in
-        let one_way = key_laws.one_way q.key r.key before in
-        let never = key_laws.never_itself r.key in grind (arith, common_steps, back, same, cases_lt)
+        grind (arith, common_steps, back, same, cases_lt, key_laws.one_way, key_laws.never_itself)
 
     waiting_rise : EachPair Earlier waiting
-    waiting_rise = pairs_with IsBefore Earlier (λ (q : Queued). Has waiting q) waits_earlier waiting
-        (all_from_has _ waiting (λ q has. has))
-        (pairs_kept IsBefore (is_kind i c) there (agrees.rising j))
+    waiting_rise =
+        let rise = pairs_with IsBefore Earlier (λ (q : Queued). Has waiting q) in
+        search (arith, rules, rise, waits_earlier, all_from_has, pairs_kept IsBefore, agrees.rising)
 
     -- what was sent arrived before what waits
     abbrev After : Named → Named → Type 0
@@ -407,8 +381,7 @@ module _ (w : Switch) (s : State) (in_range : IsInRange s) (shape : HasShape w s
         let a = was_sent q first in
         let b = waits r second in
         let all = all_has (λ (d : Sent). All (After d.cell) (queued_in s)) s.sent a.sent sound.flows.after a.has in
-        let after = all_has (After a.sent.cell) (queued_in s) b.0 all b.1 in
-        search (arith, rules, one_flow, slot_is)
+        search (arith, rules, one_flow, slot_is, all_has (After a.sent.cell) (queued_in s) b.0)
 
     told_rise : EachPair IsEarlier (map as_arrival (gone ++ waiting))
     told_rise = search (rules, pairs_mapped, IsEarlier, pairs_joined, gone_rise, waiting_rise, sent_earlier)
@@ -433,12 +406,10 @@ module _ (w : Switch) (s : State) (in_range : IsInRange s) (shape : HasShape w s
 
     one_of_names : (n : Named) (q : Queued) → Has names n → InFlow n q → IsOne (as_arrival q)
     one_of_names n q has of =
-        let x = as_arrival q in
-        let at = is_cell_of w.came n q of.is in
-        let it = found_at w.came n.slot n.input q.cell at.arrives in
-        let slot : q.key.slot ≡ n.slot = slot_is n q of in
-        let same : it.arrival ≡ x = arrival_is it.arrival x (it.slot ∙ sym slot) it.own in
-        let before : n.slot < next = (comes w s in_range shape sound traffic n has).0 in
+        let it = found_at w.came n.slot n.input q.cell (is_cell_of w.came n q of.is).arrives in
+        let slot = slot_is n q of in
+        let same = arrival_is it.arrival (as_arrival q) (it.slot ∙ sym slot) it.own in
+        let before = comes w s in_range shape sound traffic n has in
         search (arith, rules, Has, and_from, q.cell.output, is_kind, eq-eqb, any_has, n.slot, n.input)
 
     to_told : (x : Arrival) → IsOne x → Has told x
@@ -451,15 +422,10 @@ module _ (w : Switch) (s : State) (in_range : IsInRange s) (shape : HasShape w s
     has_told x has =
         let image = image_has as_arrival (gone ++ waiting) x has in
         let q = image.0 in
-        let one : IsOne (as_arrival q) =
-        ⊎_elim (λ sent.
-        let it = was_sent q sent in
-        one_of_names it.sent.cell q (has_right (queued_in s) (map (λ (d : Sent). d.cell) s.sent)
-        it.sent.cell (has_image (λ (d : Sent). d.cell) s.sent it.sent it.has)) it.of)
-        (λ later.
-        search (arith, rules, waits q later, one_of_names, queued_named w s in_range shape sound traffic))
-        (has_cases gone waiting q image.1) in
-        subst (λ (a : Arrival). Has told a) image.2 (to_told (as_arrival q) one)
+        let sent = λ (it : WasSent q). one_of_names it.sent.cell q (has_right (queued_in s) _ it.sent.cell
+        (has_image (λ (d : Sent). d.cell) s.sent it.sent it.has)) it.of in
+        let named = queued_named w s in_range shape sound traffic in
+        search (arith, rules, to_told, has_cases gone waiting q image.1, was_sent q, sent, waits q, one_of_names, named)
 
     -- an arrival is the only one of its slot and input
     one_arrival : (a x : Arrival) → Has w.came a → Has w.came x → a.slot ≡ x.slot → a.cell.id.input ≡ x.cell.id.input →
@@ -471,29 +437,25 @@ module _ (w : Switch) (s : State) (in_range : IsInRange s) (shape : HasShape w s
     among_gone : (n : Named) (q : Queued) → InFlow n q → Has (map (λ (d : Sent). d.cell) s.sent) n → Has gone q
     among_gone n q of has =
         let image = image_has (λ (d : Sent). d.cell) s.sent n has in
-        let d = image.0 in
-        let x : Departure = record { slot = d.slot; output = q.cell.output; queued = q } in
-        let is : departure_of w.came d ≡ Some x = search (arith, rules) in
-        has_image (λ (y : Departure). y.queued) (filter leaves (sent_told w.came s)) x
-        (has_kept leaves (sent_told w.came s) x (has_looked_up (departure_of w.came) s.sent d x image.1 is)
-        (and_from (q.cell.output == j) (is_kind i c q) (eq-eqb q.cell.output j of.output) of.kind))
+        let x : Departure = record { slot = image.0.slot; output = q.cell.output; queued = q } in
+        let is : departure_of w.came image.0 ≡ Some x = search (arith, rules) in
+        let own : leaves x ≡ true = search (arith, rules, and_from, eq-eqb) in
+        let there = has_looked_up (departure_of w.came) s.sent image.0 x image.1 is in
+        has_image (λ (y : Departure). y.queued) (filter leaves (sent_told w.came s)) x (has_kept leaves _ x there own)
 
     among_waiting : (n : Named) (q : Queued) → InFlow n q → HasFor f j q → Has waiting q
     among_waiting n q of stands = grind (arith, common_steps, has_kept, is_kind)
 
     among_listed : (n : Named) (q : Queued) → InFlow n q → Has s.listed n → Has waiting q
     among_listed n q of has =
-        let low : n.input < length w.machines = (of_traffic w s in_range shape sound traffic n q of.is).within in
-        let at : Named → Bool = λ m. m.input == n.input in
-        let told_there : Has (list_told w.came s n.input) q =
-        has_looked_up t (filter at s.listed) n q (has_kept at s.listed n has (eq-eqb n.input n.input refl)) of.is in
-        let here : Has (input f n.input) q =
-        rw (list_is w s in_range shape sound traffic n.input (omega arith)) told_there in
-        among_waiting n q of (inl (n.input, here, of.output))
+        let low = of_traffic w s in_range shape sound traffic n q of.is in
+        let list = list_is w s in_range shape sound traffic n.input (omega arith) in
+        let kept = has_kept (λ (m : Named). m.input == n.input) s.listed n has (eq-eqb n.input n.input refl) in
+        let there = has_looked_up t _ n q kept of.is in search (arith, rules, among_waiting)
 
     among_buffered : (n : Named) (q : Queued) → InFlow n q → Has s.buffered n → Has waiting q
     among_buffered n q of has =
-        let low : q.cell.output < length w.machines = (of_traffic w s in_range shape sound traffic n q of.is).output in
+        let low = of_traffic w s in_range shape sound traffic n q of.is in
         search (arith, rules, has_kept, has_looked_up, buffer_is, among_waiting)
 
     is_there : (x : Arrival) → Has told x → Has (map as_arrival (gone ++ waiting)) x
@@ -501,29 +463,21 @@ module _ (w : Switch) (s : State) (in_range : IsInRange s) (shape : HasShape w s
         let one = from_told x has in
         let name = has_any (is_name_of x) names one.own in
         let n = name.0 in
-        let tests = and_parts (n.slot == x.slot) (n.input == x.cell.id.input) name.2 in
-        let slot : n.slot ≡ x.slot = eqb-true n.slot x.slot tests.0 in
-        let input : n.input ≡ x.cell.id.input = eqb-true n.input x.cell.id.input tests.1 in
-        let arrives = (comes w s in_range shape sound traffic n name.1).1 in
-        let some = some_cell (arriving_cell w.came n) arrives in
+        let at : (n.slot ≡ x.slot) × (n.input ≡ x.cell.id.input) = search (arith, rules, and_parts, eqb-true) in
+        let some = some_cell (arriving_cell w.came n) (comes w s in_range shape sound traffic n name.1).1 in
         let it = found_at w.came n.slot n.input some.0 some.1 in
-        let same : it.arrival ≡ x = one_arrival it.arrival x it.has one.came (it.slot ∙ slot) (it.input ∙ input) in
-        let cell : some.0 ≡ x.cell = sym it.own ∙ ap (λ (a : Arrival). a.cell) same in
+        let same : it.arrival ≡ x = search (arith, rules, one_arrival) in
         let q : Queued = record { cell = x.cell; key = key_of n } in
-        let looked : t n ≡ Some q = search (arith, rules) in
-        let flow = and_parts (x.cell.output == j) (x.cell.id.input == i && x.cell.class == c) one.flow in
-        let of : InFlow n q = record { is = looked; output = eqb-true x.cell.output j flow.0; kind = flow.1 } in
-        let among : Has (gone ++ waiting) q =
-        search (arith, rules, has_right, among_listed, among_buffered, has_cases, has_left, among_gone) in
-        subst (λ (a : Arrival). Has (map as_arrival (gone ++ waiting)) a) (arrival_is (as_arrival q) x slot refl)
-        (has_image as_arrival (gone ++ waiting) q among)
+        let of : InFlow n q = search (arith, rules, and_parts, eqb-true, is_kind) in
+        let is = has_image as_arrival (gone ++ waiting) q in
+        search (arith, rules, is, arrival_is, has_right, among_listed, among_buffered, has_cases, has_left, among_gone)
 
     told_rises : EachPair IsEarlier told
     told_rises = grind (arith, common_steps, pairs_kept, IsEarlier, early_of, line_at, is_early, line_rises)
 
     -- what was sent of the flow, and then what waits of it
     pub told_flow : left_in_flow i c j (sent_told w.came s) ++ shown i c there ≡ cells_of told
-    told_flow = search (rules, same_pairs, told_rise, told_rises, has_told, is_there, both_cells, cells_of)
+    told_flow = search (rules, same_pairs, told_rise, told_rises, has_told, is_there, cells_of, map-append, map-map)
 
   -- ## How they stand
 
@@ -537,13 +491,10 @@ module _ (w : Switch) (s : State) (in_range : IsInRange s) (shape : HasShape w s
         let n = it.name in
         let own = is_cell_of w.came n q it.is in
         let floor = all_has (IsBelowFloor w s) (queued_in s) n sound.floors it.has in
-        let output : output_of w.came n ≡ j = its_output w s in_range shape sound traffic n q it.is ∙ it.output in
-        let class : class_of w.came n ≡ q.cell.class = ap class_in own.arrives in
-        let below = rw (output, class) at floor.rank in
-        let slot : q.key.slot ≡ n.slot = its_slot w s in_range shape sound traffic n q it.is in
-        let early : n.slot < s.head.next =
-        (comes w s in_range shape sound traffic n (queued_named w s in_range shape sound traffic n it.has)).0 in
-        search (arith, rules, of_traffic w s in_range shape sound traffic n q it.is)
+        let output = its_output w s in_range shape sound traffic n q it.is ∙ it.output in
+        let below = rw (output, ap class_in own.arrives) at floor.rank in
+        let early = comes w s in_range shape sound traffic n (queued_named w s in_range shape sound traffic n it.has) in
+        let of = of_traffic w s in_range shape sound traffic n q it.is in search (arith, rules)
 
     pub stands_there : Stands m (slice_index_or (ideal_of f).ranks j []) s.head.next 0 there
     unfolding fabric_told

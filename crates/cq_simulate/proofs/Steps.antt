@@ -1,9 +1,10 @@
 -- What each step of the loop over the slots asks for, where so many slots are left as are not yet over.
-use Rattle.cq_simulate.proofs.Terms.{common_steps, rules, ◌≡◌, ◌↔◌, ℕ, suc, ◌+◌, ◌-◌, ◌<◌, ◌≤◌, ◌^◌, Bool, false, List, [], ◌++◌, length, map, replicate, Option, Result, Ok, Err, refl, sym, ap, ◌∙◌, arith, ⊎_elim, zero, None, ◌∷◌, IsTrue, All, IfOk, slice_index_or, cases_lt, IfOk-weaker, Cell, Departure, Queued, TagFault, no_arrivals, Arrival, arriving, end_of, enough, traffic_of, RoomView, Machine, Marked, Admission, nothing_refused, admission, admitted, refused, IdealSwitch, HasRoomFor, HaveLeft, marked_state, count_for, IdealState, departures_in, ideal_slot, departures_limited, LimitedSent, limited_run, limited_slot, nothing_came, ideal_admission, ideal_held, with_admission, CanCount, IsReady, waiting, counted, arriving_from, slots_of, none_waits, nothing_left, all_slots, arrivals_for, for_here, come_for, come_for-traffic_of, IsQuiet, come_count, arriving_parts, departures_of, no_departures, quiet_slots, length-replicate, append-nil, length-append, get_or-replicate, number_of, is_to, refused_counts, with_refused, counts_fit, zero_fits, present, come_count-traffic_of, none_after, run_fault, run_step, counts_more, each_once, waiting-empty, CanHaveSlot, HasHadSlot, IsSameSwitch, arriving_length, first_slots, departures_append, slots_within, first_more, LimitedRan, subst, marked, admitted_in, is_run_of, judged, sends_long, no_more, state_ran}
+use Rattle.cq_simulate.proofs.Terms.{common_steps, rules, ◌≡◌, ◌↔◌, ℕ, suc, ◌+◌, ◌-◌, ◌<◌, ◌≤◌, ◌^◌, Bool, false, List, [], ◌++◌, length, map, replicate, Option, Result, Ok, Err, refl, sym, ap, ◌∙◌, arith, zero, None, ◌∷◌, IsTrue, All, IfOk, slice_index_or, cases_lt, IfOk-weaker, Cell, Departure, Queued, TagFault, no_arrivals, Arrival, arriving, end_of, enough, traffic_of, RoomView, Machine, Marked, nothing_refused, admission, admitted, refused, IdealSwitch, HasRoomFor, HaveLeft, marked_state, count_for, IdealState, departures_in, ideal_slot, departures_limited, LimitedSent, limited_run, limited_slot, nothing_came, ideal_admission, with_admission, CanCount, IsReady, waiting, counted, arriving_from, slots_of, none_waits, nothing_left, all_slots, arrivals_for, for_here, come_for, come_for-traffic_of, IsQuiet, come_count, arriving_parts, departures_of, no_departures, quiet_slots, length-replicate, append-nil, length-append, get_or-replicate, number_of, is_to, refused_counts, with_refused, counts_fit, zero_fits, present, come_count-traffic_of, none_after, run_fault, run_step, counts_more, each_once, waiting-empty, CanHaveSlot, HasHadSlot, IsSameSwitch, arriving_length, first_slots, departures_append, slots_within, first_more, LimitedRan, marked}
 use Rattle.cq_ideal.specs.Ideal.{answer_to, its_slot}
 use Rattle.cq_ideal.specs.IdealSlot.{Sent}
+use Rattle.cq_ideal.proofs.Waiting.{Counted}
 use Rattle.cq_ideal.specs.Rest.{HasRested}
-use Rattle.cq_ideal.proofs.LimitedParts.{behind, limited_parts, limited_going_on, limited_stays_empty}
+use Rattle.cq_ideal.proofs.LimitedParts.{behind, limited_parts, limited_stays_empty}
 
 -- The run of the ideal switch, slot by slot. The slots so far are a run, which the slots that are left go on with, and
 -- what was sent is what that run sent. Of the cells that come in a slot each is admitted or refused. So the cells that
@@ -21,41 +22,29 @@ all_once [] cells = omega arith
 all_once (mark ∷ marks) [] = refl
 all_once (mark ∷ marks) (cell ∷ cells) = let rest = all_once marks cells in grind (arith, common_steps)
 
--- each cell is admitted or refused
-pub record Once (cells : List (Option Cell)) (a : Admission) : Type 0 where
-  pub all : length (present a.cells) + length a.refused ≡ length (present cells)
-  pub each : (j : ℕ) → count_for j a.cells ≤ count_for j cells
-
-once : (limits : List (Option ℕ)) (held : List ℕ) (marks : List Bool) (cells : List (Option Cell)) →
-    Once cells (admission limits held marks cells)
-unfolding admission
-once limits held marks cells = grind (arith, common_steps, all_once, each_once)
-
--- a slot is one without limits of what is admitted
-pub record OfAdmitted (ms : List Machine) (slot : ℕ) (cells : List (Option Cell)) (old : Marked IdealState)
-    (of_slot : LimitedSent) : Type 0 where
-  pub sent : Sent
-  pub ran : ideal_slot ms slot of_slot.admission.cells old.state ≡ Ok sent
-  pub gone : of_slot.gone ≡ sent.gone
-  pub after : of_slot.after.state ≡ sent.after
-  pub once_each : Once cells of_slot.admission
+-- each cell is admitted or refused, and a slot is one without limits of what is admitted
+pub record OfAdmitted (slot : ℕ) (cells : List (Option Cell)) (old : Marked IdealState) (of_slot : LimitedSent) : Type
+    0 where
+  pub all : length (present of_slot.admission.cells) + length of_slot.admission.refused ≡ length (present cells)
+  pub each : (j : ℕ) → count_for j of_slot.admission.cells ≤ count_for j cells
+  pub counts : Counted slot of_slot.admission.cells old.state
+      (record { gone = of_slot.gone; after = of_slot.after.state })
 
 pub of_admitted : (limits : List (Option ℕ)) (ms : List Machine) (slot : ℕ) (cells : List (Option Cell))
     (old : Marked IdealState) (of_slot : LimitedSent) → limited_slot limits ms slot cells old ≡ Ok of_slot →
-    OfAdmitted ms slot cells old of_slot
-unfolding limited_slot
+    OfAdmitted slot cells old of_slot
+unfolding limited_slot admission
 of_admitted limits ms slot cells old of_slot is =
-    let a = ideal_admission limits cells old in
-    by a (once limits (ideal_held old.state) old.marks cells) (ideal_slot ms slot a.cells old.state) refl is
-  where
-    by : (a : Admission) → Once cells a → (x : Result Sent TagFault) → ideal_slot ms slot a.cells old.state ≡ x →
-        with_admission a x ≡ Ok of_slot → OfAdmitted ms slot cells old of_slot
-    by a one (Ok sent) ran e =
-        let made : LimitedSent = record { admission = a; gone = sent.gone; after = marked a.marks sent.after } in
-        let same : made ≡ of_slot = cc in
-        subst (OfAdmitted ms slot cells old) same
-        (record { sent = sent; ran = ran; gone = refl; after = refl; once_each = one })
-    by a one (Err fault) ran e = absurd (let P : ⊥ = cc in P)
+    let a = ideal_admission limits cells old in by (ideal_slot ms slot a.cells old.state) refl is where
+      by : (x : Result Sent TagFault) → ideal_slot ms slot (ideal_admission limits cells old).cells old.state ≡ x →
+          with_admission (ideal_admission limits cells old) x ≡ Ok of_slot → OfAdmitted slot cells old of_slot
+      by (Ok sent) ran e =
+          let a = ideal_admission limits cells old in
+          let made : LimitedSent = record { admission = a; gone = sent.gone; after = marked a.marks sent.after } in
+          let same : made ≡ of_slot = cc in
+          let counts = counted ms slot a.cells old.state sent ran in
+          rw (← same) (search (arith, rules, all_once, each_once))
+      by (Err fault) ran e = absurd (let P : ⊥ = cc in P)
 
 -- ## The loop
 
@@ -69,6 +58,7 @@ pub record Running (ms : List Machine) (came : List Arrival) (first : IdealSwitc
   pub next : now.next ≡ slot
   pub same : IsSameSwitch first now
   pub ran : LimitedRan
+  pub long : length ran.gone ≡ slot
   pub is : limited_run first.limits ms 0 (first_slots came slot) (marked_state first) ≡ Ok ran
   pub after : ran.after ≡ marked_state now
   pub departed : sent.items ≡ departures_of 0 ran.gone
@@ -90,12 +80,10 @@ pub running_first : (ms : List Machine) (came : List Arrival) (first : IdealSwit
 unfolding limited_run arriving_from departures_of
 running_first ms came first sent n ready all_left =
     let all = come_count-traffic_of came in
-    let each = λ (j : ℕ). come_for-traffic_of j came in
     let none = waiting-empty (length first.fixed) in
-    let slots = all_slots came in
     let begun : limited_run first.limits ms 0 (first_slots came 0) (marked_state first)
     ≡ Ok (record { admissions = []; gone = []; after = marked_state first }) = refl in
-    grind (arith, common_steps, waiting, come_count, come_for, enough_are, length-replicate, get_or-replicate)
+    search (arith, rules, all_slots, come_for-traffic_of, enough_are, length-replicate, get_or-replicate)
 
 pub come_here : (came : List Arrival) (slot n : ℕ) →
     come_count (arriving_from came slot (suc n)) ≡ length (present (arriving came slot)) + come_count
@@ -108,39 +96,13 @@ unfolding arriving_from come_count
 none_come came zero slot le = refl
 none_come came (suc n) slot le = grind (arith, common_steps, none_after, come_count, none_come came n (slot + 1))
 
--- a run sends in as many slots as it has
-gone_long : (limits : List (Option ℕ)) (ms : List Machine) (slot : ℕ) (traffic : List (List (Option Cell)))
-    (old : Marked IdealState) (ran : LimitedRan) → limited_run limits ms slot traffic old ≡ Ok ran →
-    length ran.gone ≡ length traffic
-gone_long limits ms slot traffic old ran is =
-    sends_long ms slot (admitted_in ran.admissions) old.state (state_ran ran)
-    (is_run_of limits ms slot traffic old ran is)
-    ∙ (no_more limits old.marks traffic ran.admissions (judged limits ms slot traffic old ran is)).slots
-
 module _ {ms : List Machine} {came : List Arrival} {first : IdealSwitch} {first_sent sent : RoomView Departure}
     {slot n : ℕ} {now : IdealSwitch} (r : Running ms came first first_sent slot n now sent) where
   -- the run over these slots too
   run_behind : (later all : List (List (Option Cell))) → first_slots came slot ++ later ≡ all →
       limited_run first.limits ms 0 all (marked_state first)
       ≡ behind r.ran.admissions r.ran.gone (limited_run first.limits ms slot later r.ran.after)
-  run_behind later all is =
-      let long = arriving_length came 0 slot in
-      ap (λ (l : List (List (Option Cell))). limited_run first.limits ms 0 l (marked_state first)) (sym is)
-      ∙ limited_parts first.limits ms 0 slot (first_slots came slot) later (marked_state first) (omega arith)
-      ∙ ap (limited_going_on first.limits ms slot later) r.is
-
-  -- and what they sent
-  sent_behind : (more : List (List (Option Queued))) →
-      departures_of 0 (r.ran.gone ++ more) ≡ sent.items ++ departures_of slot more
-  sent_behind more =
-      let long = gone_long first.limits ms 0 (first_slots came slot) (marked_state first) r.ran r.is in
-      let slots = arriving_length came 0 slot in
-      departures_append 0 slot r.ran.gone more (omega arith)
-      ∙ ap (λ (ds : List Departure). ds ++ departures_of slot more) (sym r.departed)
-
-  -- where a cell is still to come or waits, a slot is left
-  pub slot_left : (end_of came ≤ slot → waiting now.state.lists ≡ 0 → ⊥) → 0 < n
-  slot_left more = ⊎_elim (λ some. some) (λ none. absurd (more (omega arith) (omega arith))) (cases_lt 0 n)
+  run_behind later all is = search (arith, rules, limited_parts first.limits ms 0 slot, arriving_length)
 
   -- ## The end of the loop
 
@@ -150,14 +112,17 @@ module _ {ms : List Machine} {came : List Arrival} {first : IdealSwitch} {first_
   running_over le none =
       let rest = limited_stays_empty first.limits ms came n slot (marked_state now) le none in
       let all = arriving_parts came 0 slot slot n (enough came) (omega arith) (sym r.left) in
-      let run = run_behind (arriving_from came slot n) (traffic_of came) all in
-      cc (run, rest.is, sent_behind rest.ran.gone, rest.none, append-nil sent.items)
+      let sent_all = departures_append 0 slot r.ran.gone rest.ran.gone (omega arith) in
+      cc (run_behind _ (traffic_of came) all, append-nil sent.items)
 
 -- what is left is no more than the slots that are left after one of them, in which a cell leaves where one waits
 pub fewer_left : (before after here rest end slot n : ℕ) → after ≤ before + here - 1 →
     before + (here + rest) + (end - slot) ≤ suc n → (end ≤ slot → here ≡ 0) → (end ≤ slot + 1 → rest ≡ 0) →
     after + rest + (end - (slot + 1)) ≤ n
 fewer_left before after here rest end slot n less few none over = grind (arith, common_steps, over, cases_lt)
+
+-- what the numbers of a slot follow from
+pub ruleset numbers = (append-nil, for_here, come_count, fewer_left, none_after, none_come, length-append)
 
 module _ {ms : List Machine} {came : List Arrival} {first : IdealSwitch} {first_sent sent : RoomView Departure}
     {slot n : ℕ} {now : IdealSwitch} (r : Running ms came first first_sent slot (suc n) now sent) where
@@ -169,36 +134,17 @@ module _ {ms : List Machine} {came : List Arrival} {first : IdealSwitch} {first_
   unfolding limited_run departures_of
   running_next {after} {sent_new} {of_slot} is state refused left running next same =
       let o = of_admitted first.limits ms slot (arriving came slot) (marked_state now) of_slot is in
-      let c = counted ms slot of_slot.admission.cells now.state o.sent o.ran in
-      let becomes : after.state ≡ o.sent.after = ap (λ (m : Marked IdealState). m.state) state ∙ o.after in
-      let gone = ap (λ (l : List (Option Queued)). length (departures_in slot l)) o.gone in
-      let waits = ap (λ (s : IdealState). waiting s.lists) becomes in
+      let waits = ap (λ (m : Marked IdealState). waiting m.state.lists) state in
       let come = come_here came slot n in
       let cells = arriving came slot in
-      record {
-        ready = r.ready;
-        left = omega arith;
-        running = running;
-        next = next;
-        same = search (arith, rules);
-        ran = record {
-          admissions = r.ran.admissions ++ of_slot.admission ∷ [];
-          gone = r.ran.gone ++ of_slot.gone ∷ [];
-          after = of_slot.after;
-        };
-        is =
-            let run = run_behind r (cells ∷ []) (first_slots came (slot + 1)) (sym (first_more came slot)) in
-            let step = run_step first.limits ms slot cells [] (marked_state now) of_slot is in cc;
-        after = sym state;
-        departed = cc (sent_behind r (of_slot.gone ∷ []), left.items, append-nil (departures_in slot of_slot.gone));
-        lost = r.lost ++ of_slot.admission.refused;
-        refused = cc (counts_more first.limits r.lost of_slot.admission.refused);
-        ports = ap (λ (s : IdealState). length s.lists) becomes ∙ c.ports ∙ r.ports;
-        each = search (arith, rules, for_here, r.each, o.once_each.each, c.each);
-        spare = omega arith;
-        few = search (arith, rules, waiting, come_count, r.few, fewer_left, present, none_after, none_come);
-        many = search (arith, rules, length-append);
-      }
+      let all = r.ran.admissions ++ of_slot.admission ∷ [] in
+      let gone = r.ran.gone ++ of_slot.gone ∷ [] in
+      let ran : LimitedRan = record { admissions = all; gone = gone; after = of_slot.after } in
+      let run = run_behind r (cells ∷ []) (first_slots came (slot + 1)) (sym (first_more came slot)) in
+      let step = run_step first.limits ms slot cells [] (marked_state now) of_slot is in
+      let ran_on : limited_run first.limits ms 0 (first_slots came (slot + 1)) (marked_state first) ≡ Ok ran = cc in
+      let gone_on = departures_append 0 slot r.ran.gone (of_slot.gone ∷ []) (omega arith) in
+      search (arith, rules, numbers, r.each, o.each, o.counts.each, r.few, counts_more first.limits r.lost)
 
   pub running_fault : (fault : TagFault) →
       limited_slot first.limits ms slot (arriving came slot) (marked_state now) ≡ Err fault →
@@ -207,8 +153,7 @@ module _ {ms : List Machine} {came : List Arrival} {first : IdealSwitch} {first_
   running_fault fault is =
       let later = arriving_from came (slot + 1) n in
       let all = arriving_parts came 0 slot slot (suc n) (enough came) (omega arith) (sym r.left) in
-      let stop = run_fault first.limits ms slot (arriving came slot) later (marked_state now) fault is in
-      cc (run_behind r (arriving came slot ∷ later) (traffic_of came) all)
+      search (arith, rules, run_behind r (arriving came slot ∷ later) (traffic_of came), run_fault)
 
 -- What a slot sent stands in a list of its own, in which nothing stood before, until the departures of the run take it
 -- over. So what holds of that list holds of the departures of the run.
@@ -220,25 +165,19 @@ pub record IsFree (ports : ℕ) (leaving : RoomView Departure) : Type 0 where
 
 module _ {slot ports : ℕ} {gone : List (Option Queued)} {leaving left : RoomView Departure}
     (free : IsFree ports leaving) (has : HaveLeft slot gone leaving left) where
-  -- where nothing stood before there stands what the slot sent
-  all_new : left.items ≡ departures_in slot gone
-  all_new = has.items ∙ ap (λ (ds : List Departure). ds ++ departures_in slot gone) free.none
-
-  many : length left.items ≡ length (departures_in slot gone)
-  many = ap (λ (ds : List Departure). length ds) all_new
-
+  -- what stands there is what the slot sent
   pub few_left : length left.items ≤ ports
-  few_left = let same = many in omega arith
+  few_left = search (arith, rules)
 
   -- the list is free again once it is emptied
   pub free_again : {emptied : RoomView Departure} → emptied.items ≡ [] →
       emptied.spare ≡ left.spare + length left.items → IsFree ports emptied
-  free_again none room = record { none = none; few = let same = many in omega arith }
+  free_again none room = grind (arith, common_steps, length-append)
 
   -- the departures of the run took over what stood in it
   pub left_with_all : {sent sent_new : RoomView Departure} → sent_new.items ≡ sent.items ++ left.items →
       sent_new.spare + length left.items ≡ sent.spare → HaveLeft slot gone sent sent_new
-  left_with_all {sent} {sent_new} items spare = grind (arith, common_steps, sent.items, all_new)
+  left_with_all {sent} {sent_new} items spare = grind (arith, common_steps, length-append)
 
 -- Stretches of slots that are skipped, since no cell comes in them and none waits. What is known of the ideal switch
 -- before the first of them is known after the last: none sends a cell, nothing is refused, and the lists stay as they
@@ -247,10 +186,11 @@ module _ {slot ports : ℕ} {gone : List (Option Queued)} {leaving left : RoomVi
 -- ## The ideal switch
 
 -- fewer come in some slots than in those with the stretch before them
-pub fewer_come : (count : ℕ → ℕ → ℕ) → ((slot n : ℕ) → count (slot + 1) n ≤ count slot (suc n)) → (slot k n later : ℕ) →
-    later ≡ slot + k → count later n ≤ count slot (k + n)
-fewer_come count less slot zero n later e = grind (arith, common_steps)
-fewer_come count less slot (suc k) n later e = grind (arith, common_steps, fewer_come count less (slot + 1) k n later)
+pub fewer_come : (count : ℕ → ℕ → ℕ) → ((slot n : ℕ) → count (slot + 1) n ≤ count slot (suc n)) →
+    (slot k n later m : ℕ) → later ≡ slot + k → m ≡ k + n → count later n ≤ count slot m
+fewer_come count less slot zero n later m e f = grind (arith, common_steps)
+fewer_come count less slot (suc k) n later m e f =
+    grind (arith, common_steps, fewer_come count less (slot + 1) k n later (k + n))
 
 -- the slots of the stretch send nothing
 nothing_departs : (k slot ports : ℕ) → departures_of slot (replicate k (replicate ports None)) ≡ []
@@ -270,41 +210,21 @@ module _ (M : List ℕ → Machine) {came : List Arrival} {first : IdealSwitch} 
   running_rest n left =
       let k = next - slot in
       let gone = replicate k (replicate (length now.fixed) None) in
-      let parts : m ≡ k + n = omega arith in
       let waits = ap waiting rested.lists in
-      let fewer : come_count (arriving_from came next n) ≤ come_count (arriving_from came slot m) =
-      rw parts (fewer_come (λ t l. come_count (arriving_from came t l)) (λ t l. omega (arith, come_here came t l)) slot
-      k n next (omega arith)) in
-      record {
-        ready = r.ready;
-        left = left;
-        running = rested.running;
-        next = rested.next;
-        same = search (arith, rules);
-        ran = record {
-          admissions = r.ran.admissions ++ replicate k (nothing_refused new.marks no_arrivals);
-          gone = r.ran.gone ++ gone;
-          after = marked_state new;
-        };
-        is =
-            let none = quiet_slots came slot k (λ t from to. quiet.none t from (omega arith)) in
-            let all = ap (λ (l : List (List (Option Cell))). first_slots came slot ++ l) (sym none)
-            ∙ arriving_parts came 0 slot slot k next (omega arith) (omega arith) in
-            cc (run_behind r (replicate k no_arrivals) (first_slots came next) all, rests);
-        after = refl;
-        departed = cc (sent_behind r gone, nothing_departs k slot (length now.fixed), append-nil sent.items);
-        lost = r.lost;
-        refused = rested.refused ∙ r.refused;
-        ports = ap (λ (l : List (List Queued)). length l) rested.lists ∙ r.ports;
-        each = λ j inside.
-            let less : come_for j (arriving_from came next n) ≤ come_for j (arriving_from came slot m) =
-            rw parts (fewer_come (λ t l. come_for j (arriving_from came t l))
-            (λ t l. omega (arith, for_here j came t l)) slot k n next (omega arith)) in
-            search (arith, rules, r.each);
-        spare = omega arith;
-        few = search (arith, rules, quiet.more, cases_lt slot next);
-        many = omega arith;
-      }
+      let fewer = fewer_come (λ t l. come_count (arriving_from came t l)) (λ t l. omega (arith, come_here came t l))
+      slot k n next m (omega arith) (omega arith) in
+      let less = λ (j : ℕ). fewer_come (λ t l. come_for j (arriving_from came t l))
+      (λ t l. omega (arith, for_here j came t l)) slot k n next m (omega arith) (omega arith) in
+      let none = quiet_slots came slot k (λ t from to. quiet.none t from (omega arith)) in
+      let all = rw none at (arriving_parts came 0 slot slot k next (omega arith) (omega arith)) in
+      let admissions = r.ran.admissions ++ replicate k (nothing_refused new.marks no_arrivals) in
+      let ran : LimitedRan = record { admissions = admissions; gone = r.ran.gone ++ gone; after = marked_state new } in
+      let on : limited_run first.limits (map M first.fixed) 0 (first_slots came next) (marked_state first) ≡ Ok ran =
+      cc (run_behind r (replicate k no_arrivals) (first_slots came next) all, rests) in
+      let sent_all = departures_append 0 slot r.ran.gone gone (omega arith) in
+      let nothing = nothing_departs k slot (length now.fixed) in
+      let refused : new.refused ≡ refused_counts first.limits r.lost = rested.refused ∙ r.refused in
+      search (arith, rules, append-nil, r.each, less, quiet.more, cases_lt slot next, length-append, length-replicate)
 
 -- ## The test
 
@@ -315,8 +235,7 @@ not_over b end slot lists going iff le none = grind (arith, common_steps, nothin
 -- ## The steps
 
 slot_ok : (x : Result LimitedSent TagFault) → Ok tt ≡ answer_to x → (sent : LimitedSent) × (x ≡ Ok sent)
-slot_ok (Ok sent) e = (sent, refl)
-slot_ok (Err fault) e = absurd (let P : ⊥ = cc in P)
+slot_ok fault e = grind (arith, common_steps)
 
 pub slot_err : {S : Type 0} (x : Result S TagFault) (fault : TagFault) → Err fault ≡ answer_to x → x ≡ Err fault
 slot_err x fault e = grind (arith, common_steps)
@@ -349,7 +268,7 @@ pub record Standing (M : List ℕ → Machine) (came : List Arrival) (first : Id
 module _ {M : List ℕ → Machine} {came : List Arrival} {first : IdealSwitch} {first_sent sent : RoomView Departure}
     {slot : ℕ} {now : IdealSwitch} (here : Standing M came first first_sent slot now sent) where
   pub a_slot_left : slot < enough came
-  a_slot_left = let left = slot_left here.runs here.more in omega arith
+  a_slot_left = search (arith, rules, here.more, cases_lt slot (enough came))
 
   r_next : Running (map M first.fixed) came first first_sent slot (suc (enough came - (slot + 1))) now sent
   r_next = search (arith, rules, Running, a_slot_left)
@@ -381,22 +300,16 @@ module _ {M : List ℕ → Machine} {came : List Arrival} {first : IdealSwitch} 
       length left.items ≤ sent.spare
   can_take_over free had = search (arith, rules, few_left)
 
-  as_now : (cells : List (Option Cell)) → cells ≡ arriving came slot →
-      its_slot (map M now.fixed) slot cells now
-      ≡ limited_slot first.limits (map M first.fixed) slot (arriving came slot) (marked_state now)
-  as_now cells are = grind (arith, common_steps)
-
   pub at_next : (cells : List (Option Cell)) (after : IdealSwitch) (sent_new : RoomView Departure) →
       cells ≡ arriving came slot → HasHad (map M now.fixed) slot cells now after sent sent_new →
       Running (map M first.fixed) came first first_sent (slot + 1) (enough came - (slot + 1)) after sent_new
-  at_next cells after sent_new are had = grind (arith, common_steps, slot_ok, running_next, r_next, as_now)
+  at_next cells after sent_new are had = grind (arith, common_steps, slot_ok, running_next, r_next)
 
   pub at_fault : (cells : List (Option Cell)) (fault : TagFault) → cells ≡ arriving came slot →
       Err fault ≡ answer_to (its_slot (map M now.fixed) slot cells now) →
       departures_limited (limited_run first.limits (map M first.fixed) 0 (traffic_of came) (marked_state first))
       ≡ Err fault
-  at_fault cells fault are answer = running_fault r_next fault
-      (sym (as_now cells are) ∙ slot_err (its_slot (map M now.fixed) slot cells now) fault answer)
+  at_fault cells fault are answer = search (arith, rules, running_fault r_next fault, slot_err)
 
 module _ (M : List ℕ → Machine) {came : List Arrival} {first : IdealSwitch} {first_sent sent : RoomView Departure}
     {slot n : ℕ} {now : IdealSwitch} (r : Running (map M first.fixed) came first first_sent slot n now sent) where
@@ -405,13 +318,8 @@ module _ (M : List ℕ → Machine) {came : List Arrival} {first : IdealSwitch} 
       HasRested (map M now.fixed) slot next now new → (end_of came ≤ slot → waiting now.state.lists ≡ 0 → ⊥) →
       Standing M came first first_sent next new sent
   stands {next} {new} quiet rested more =
-      let ends = enough_are came in
-      let within : next ≤ enough came = ⊎_elim (λ lt. let before = quiet.more lt in omega arith) (λ ge. omega arith)
-      (cases_lt slot next) in
-      record {
-        runs = running_rest M r quiet rested (enough came - next) (omega arith);
-        more = λ le none. grind (arith, common_steps, waiting, cases_lt);
-      }
+      let rest = running_rest M r quiet rested (enough came - next) in
+      search (arith, rules, rest, enough_are, waiting, cases_lt, quiet.more)
 
   pub at_end : (end_of came ≤ slot) × All (λ cells. cells ≡ []) now.state.lists →
       departures_limited (limited_run first.limits (map M first.fixed) 0 (traffic_of came) (marked_state first))
@@ -421,7 +329,4 @@ module _ (M : List ℕ → Machine) {came : List Arrival} {first : IdealSwitch} 
   -- so no departure is of a late slot
   pub early_at_end : slots_of sent.items ≤ 2 ^ 63 + 2 ^ 35
   early_at_end =
-      let within = slots_within 0 r.ran.gone in
-      let long = gone_long first.limits (map M first.fixed) 0 (first_slots came slot) (marked_state first) _ r.is in
-      let slots = arriving_length came 0 slot in
-      let short : enough came ≤ 2 ^ 63 + 2 ^ 35 = r.ready.short in rw r.departed (omega arith)
+      let short : enough came ≤ 2 ^ 63 + 2 ^ 35 = r.ready.short in search (arith, rules, slots_within 0 r.ran.gone)
