@@ -1,8 +1,8 @@
 -- What each step of the loop over the slots of the fabric asks for, where so many slots are left as are not yet over.
-use Rattle.cq_simulate.proofs.Terms.{common_steps, rules, ◌≡◌, ◌↔◌, ℕ, suc, ◌+◌, ◌-◌, ◌<◌, ◌≤◌, ◌^◌, Bool, true, false, List, [], ◌++◌, length, map, replicate, Option, Err, refl, sym, ap, ◌∙◌, subst, arith, zero, ◌*◌, ◌∷◌, length-append, append_assoc, IsTrue, sum, slice_index, cases_lt, and_left, leb-false, ne_eqb, no_arrivals, Arrival, arriving, end_of, arriving_at, RoomView, Cell, Departure, TagFault, Transfer, EngineView, HaveBufferRoom, HaveListRoom, IsMadeAs, IsReadyFor, SlotDone, answer_to, its_admission, marked_fabric, HaveLeft, CanCount, AreForPorts, ranking, IsEmptyFabric, Fabric, input, LimitedFabricRun, admissions_in, LimitedRecord, IsLimitedFault, LimitedFabricSlot, slots_in, IsInputBest, Machine, class_count, counts_fit, none_counted, all_counted_both, refused_in, HasRunOn, IsReadyOn, NoneCome, StopsWithin, RanTo, WentOn, to_come, arrivals_for, arrives_found, from_here, one_if, come_from, some_one, no_more_from, for_here, come_for, no_more_to, IsQuiet, append-nil, length-map, get_or_past, map-append, take_all, take-append-le, departures_in, no_departures, IdealState, quiet_figures, quiet_transfers, transfers_in, transfers_of_run, range_with_len, map-range_with_len_more, Queued, Figures, nothing_left, present, come_count, none_after, come_count-first, arriving_length, arriving_here, arriving_parts, one_slot_more, counted, waiting, total, total_same, Marked, arriving_from, departures_of, LimitedSent, stable_limited_slot, limited_ports_kept, same_limited_slot, only_limited_run, empty_together, Agrees, SlotRecord, fabric_held, held_for, LimitedAgrees, figures_after, proposals_in, fold-append, sum_by-cons, agrees_of, ideal_of, is_from, is_to, number_of, arriving_is, found, quiet_limited_slots, quiet_limited_slot, limited_lists_kept, limited_outputs_kept, all_go_on, departures_one, transfers_both, transfers_one, departures_on, hold_as_many, most_ports}
+use Rattle.cq_simulate.proofs.Terms.{common_steps, rules, ◌≡◌, ◌↔◌, ℕ, suc, ◌+◌, ◌-◌, ◌<◌, ◌≤◌, ◌^◌, Bool, true, false, List, [], ◌++◌, length, map, replicate, Option, Err, refl, sym, ap, arith, zero, ◌*◌, ◌∷◌, length-append, append_assoc, IsTrue, sum, slice_index, cases_lt, and_left, leb-false, ne_eqb, no_arrivals, Arrival, arriving, end_of, arriving_at, RoomView, Cell, Departure, TagFault, Transfer, EngineView, HaveBufferRoom, HaveListRoom, IsMadeAs, IsReadyFor, SlotDone, answer_to, its_admission, marked_fabric, HaveLeft, CanCount, AreForPorts, ranking, IsEmptyFabric, Fabric, input, LimitedFabricRun, admissions_in, LimitedRecord, IsLimitedFault, LimitedFabricSlot, slots_in, IsInputBest, Machine, class_count, counts_fit, none_counted, all_counted_both, refused_in, HasRunOn, IsReadyOn, NoneCome, StopsWithin, RanTo, WentOn, to_come, arrivals_for, arrives_found, from_here, one_if, come_from, no_more_from, for_here, come_for, no_more_to, IsQuiet, append-nil, length-map, get_or_past, map-append, take_all, take-append-le, departures_in, no_departures, IdealState, quiet_figures, quiet_transfers, transfers_of_run, range_with_len, Queued, nothing_left, come_count, come_count-first, arriving_length, arriving_here, arriving_parts, one_slot_more, waiting, total, total_same, Marked, arriving_from, departures_of, LimitedSent, stable_limited_slot, limited_ports_kept, same_limited_slot, only_limited_run, empty_together, Agrees, fabric_held, held_for, LimitedAgrees, figures_after, fold-append, sum_by-cons, agrees_of, ideal_of, is_from, is_to, number_of, arriving_is, found, quiet_limited_slots, quiet_limited_slot, limited_lists_kept, limited_outputs_kept, all_go_on, departures_one, transfers_both, transfers_one, departures_on, hold_as_many, most_ports}
 use Rattle.cq_engine.specs.Engine.{HasGoneOn, ports_of}
 use Rattle.cq_engine.specs.Resting.{HasRested}
-use Rattle.cq_simulate.proofs.Steps.{IsFree, few_left, fewer_come, of_admitted, come_here, fewer_left, none_come, slot_err}
+use Rattle.cq_simulate.proofs.Steps.{IsFree, few_left, fewer_come, of_admitted, come_here, numbers, slot_err}
 use Rattle.cq_laws.specs.Quiet.{idled, quiet_slot}
 use Rattle.cq_simulate.proofs.FabricCounts.{all_listed, at_inputs, cross_few, none_proposed, square_few}
 
@@ -60,10 +60,6 @@ module _ (s n : ℕ) (came : List Arrival) where
 -- each list, in each buffer, and in the lists of departures and of transfers, as each admitted cell leaves once and
 -- crosses once. While a cell waits one leaves in each slot, so that the slots do not end before the cells, and there
 -- are no more slots with proposals than cells; and a slot has no more than twice the number of ports squared.
-
-proposals_more : (x : Figures) (r : SlotRecord) → (figures_after x r).proposals ≡ x.proposals + sum (proposals_in r)
-unfolding figures_after
-proposals_more x r = refl
 
 -- ## The loop
 
@@ -145,19 +141,10 @@ crossing_first whole ms came first sent note n ready early slots =
 
 -- ## A slot
 
-none_at : (f : Fabric) → IsEmptyFabric f → (i : ℕ) → length (input f i) ≡ 0
-none_at f empty i = grind (arith, common_steps, empty.inputs, get_or_past, cases_lt)
-
 -- one record more
 refused_more : (rs : List LimitedRecord) (r : LimitedRecord) →
     refused_in (admissions_in (rs ++ r ∷ [])) ≡ refused_in (admissions_in rs) ++ r.admission.refused
 refused_more rs r = grind (arith, common_steps, map-append, one_slot_more)
-
--- the slots so far and one more
-next_slots : (came : List Arrival) (a n slot k : ℕ) → a + n ≡ slot → k ≡ n + 1 →
-    arriving_from came a n ++ arriving came slot ∷ [] ≡ arriving_from came a k
-unfolding arriving_from
-next_slots came a n slot k at more = grind (arith, common_steps, map-range_with_len_more)
 
 empty_beside : (slot : ℕ) (f : Marked Fabric) (ideal : Marked IdealState) → LimitedAgrees slot f ideal →
     waiting ideal.state.lists ≡ 0 → IsEmptyFabric f.state
@@ -207,6 +194,7 @@ module _ {whole : Bool} {ms : List Machine} {came : List Arrival} {first : Engin
       (whole ≡ true → end_of came ≤ slot → IsEmptyFabric now.fabric → ⊥) →
       Passed ms slot (arriving came slot) now after leaving left sent sent_new note note_new →
       Crossing whole ms came first first_sent first_note (slot + 1) n after sent_new note_new
+  unfolding arriving_from figures_after
   crossing_next {after} {leaving} {left} {sent_new} {note_new} more passed =
       let cells = arriving came slot in
       let classes = class_count ms in
@@ -215,69 +203,42 @@ module _ {whole : Bool} {ms : List Machine} {came : List Arrival} {first : Engin
       let g = marked_fabric after in
       let done = passed.done in
       let r = done.record_of in
-      let gone = departures_in slot r.of_slot.gone in
       let admitted = r.admission.cells in
-      let ideal = c.ideal in
       let step : LimitedFabricSlot IsInputBest first.limits ms slot cells f r g = rw c.went.limits at done.is_slot in
       let stable = stable_limited_slot ms first.limits slot cells f g r step in
       let come : AreForPorts (length now.fabric.inputs) classes cells =
       rw c.ports (arrivals_for p classes came slot c.ready.traffic) in
-      let alike = same_limited_slot first.limits ms slot classes cells f g ideal r c.agrees come stable in
+      let alike = same_limited_slot first.limits ms slot classes cells f g c.ideal r c.agrees come stable in
       let of_slot : LimitedSent = record { admission = r.admission; gone = r.of_slot.gone; after = alike.next } in
       let here = come_here came slot n in
-      let o = of_admitted first.limits ms slot cells ideal of_slot alike.sent in
-      let k = o.counts in
+      let o = of_admitted first.limits ms slot cells c.ideal of_slot alike.sent in
       let one_more = map-append (λ (r : LimitedRecord). r.of_slot) c.records (r ∷ []) in
-      let both = length-append c.records (r ∷ []) in
-      record {
-        ready = c.ready;
-        early = omega arith;
-        ideal = alike.next;
-        agrees = alike.agrees;
-        next = passed.went_on.next;
-        made = search (arith, rules);
-        ports = limited_ports_kept first.limits ms slot classes cells f g ideal r c.agrees come stable ∙ c.ports;
-        records = c.records ++ r ∷ [];
-        long = omega arith;
-        went = record {
-          runs =
-              let so_far = arriving_length came first.next (length c.records) in
-              let at : slot ≡ first.next + length (arriving_from came first.next (length c.records)) = omega arith in
-              rw (next_slots came first.next (length c.records) slot (length (c.records ++ r ∷ [])) c.long
-              (omega arith)) at
-              ((all_go_on (LimitedFabricSlot IsInputBest first.limits ms) (IsLimitedFault first.limits ms)).slot
-              first.next (arriving_from came first.next (length c.records)) cells (marked_fabric first) f g
-              c.records r c.went.runs
-              (subst (λ (k : ℕ). LimitedFabricSlot IsInputBest first.limits ms k cells f r g) at step));
-          departed =
-              let seen = length-map c.records (λ (r : LimitedRecord). r.of_slot) in
-              let both = departures_on (slots_in c.records) (r.of_slot ∷ []) first.next slot in
-              search (arith, rules, append_assoc first_sent.items, departures_one slot r.of_slot);
-          crossed = search (arith, rules, append_assoc, transfers_one, transfers_both);
-          counted = search (arith, rules, fold-append);
-          refused = search (arith, rules, all_counted_both, refused_more c.records r);
-          limits = passed.made.limits ∙ c.went.limits;
-          running = passed.running;
-        };
-        lists =
-            let limited_lists_kept-here = limited_lists_kept first.limits ms slot cells f g r stable in
-            let arrives_found-here = arrives_found came slot in search (arith, rules, c.lists, from_here, some_one);
-        buffers = search (arith, rules, for_here, limited_outputs_kept first.limits ms slot cells f g r stable);
-        spare = search (arith, rules, waiting, come_count, present);
-        room = search (arith, rules, at_inputs, come_count, cross_few);
-        proposed =
-            let proposals_more-here = proposals_more now.figures r.of_slot in
-            let same : ports_of now ≡ p = ap (λ (l : List (List ℕ)). length l) c.made.fixed in
-            let square_few-here = square_few (ports_of now) (omega arith) in
-            let none_proposed-here = none_proposed ms slot admitted f.state g.state r.of_slot step.runs in
-            let none_at-here = none_at f.state in
-            let empty_beside-here = empty_beside slot f in search (arith, rules);
-        many = search (arith, rules, come_count, refused_more, length-append);
-        few = search (arith, rules, waiting, come_count, c.few, fewer_left, present, none_after, none_come);
-        going = λ is m h before run le empty.
-            let same = take-append-le m c.records (r ∷ []) (omega arith) in
-            search (arith, rules, not_before c is (more is) m h);
-      }
+      let before = arriving_from came first.next (length c.records) in
+      let so_far = arriving_length came first.next (length c.records) in
+      let at : slot ≡ first.next + length before = omega arith in
+      let all = arriving_parts came first.next slot (length c.records) 1 (length (c.records ++ r ∷ [])) (sym c.long)
+      (search (arith, rules, length-append)) in
+      let on = (all_go_on (LimitedFabricSlot IsInputBest first.limits ms) (IsLimitedFault first.limits ms)).slot
+      first.next before cells (marked_fabric first) f g c.records r c.went.runs in
+      let runs = rw all at on in
+      let seen = length-map c.records (λ (r : LimitedRecord). r.of_slot) in
+      let sent_on = departures_on (slots_in c.records) (r.of_slot ∷ []) first.next slot in
+      let sent_one = departures_one slot r.of_slot in
+      let lost = refused_more c.records r in
+      let went : WentOn ms came first after first_sent sent_new first_note note_new (c.records ++ r ∷ []) =
+      search (arith, rules, append_assoc, sent_on, transfers_one, transfers_both, fold-append, all_counted_both) in
+      let ports = limited_ports_kept first.limits ms slot classes cells f g c.ideal r c.agrees come stable in
+      let lists = limited_lists_kept first.limits ms slot cells f g r stable in
+      let held = limited_outputs_kept first.limits ms slot cells f g r stable in
+      let same = λ (m : ℕ). take-append-le m c.records (r ∷ []) in
+      let goes = λ (is : whole ≡ true). not_before c is (more is) in
+      let waits = waiting alike.next.state.lists + come_count (arriving_from came (slot + 1) n) in
+      let proposed : after.figures.proposals + 8192 * waits ≤ first.figures.proposals + 8192 * length came =
+      let same : ports_of now ≡ p = ap (λ (l : List (List ℕ)). length l) c.made.fixed in
+      let square_few-here = square_few (ports_of now) (omega arith) in
+      let none_proposed-here = none_proposed ms slot admitted f.state g.state r.of_slot step.runs in
+      let empty_beside-here = empty_beside slot f in search (arith, rules, get_or_past, cases_lt) in
+      search (arith, rules, numbers, c.lists, c.few, held, lists, arrives_found came, same, goes, at_inputs, cross_few)
 
 -- Stretches of slots that the fabric skips. What is known before the first of them is known after each, as after any
 -- slot: none sends a cell, moves or refuses one, or changes a figure.
@@ -302,10 +263,8 @@ module _ {whole : Bool} {ms : List Machine} {came : List Arrival} {first : Engin
   crossing_rest (suc k) slot next n m ranks marks now after there left c quiet more ran figures at running refused
       made =
       let r : LimitedRecord = quiet_limited_slot ms slot ports ranks marks in
-      let leave : departures_in slot r.of_slot.gone ≡ [] = quiet_gone ms slot ports ranks in
-      let cross : transfers_in r.of_slot ≡ [] = quiet_transfers ms slot ports ranks in
-      let none_leave = ap (λ (l : List Departure). length l) leave in
-      let none_cross = ap (λ (l : List Transfer). length l) cross in
+      let leave = quiet_gone ms slot ports ranks in
+      let cross = quiet_transfers ms slot ports ranks in
       let middle : EngineView =
       record now { fabric = ran.0.state; marks = ran.0.marks; next = slot + 1; stopped = false } in
       let done : SlotDone ms slot no_arrivals now middle sent sent note note =
@@ -314,8 +273,7 @@ module _ {whole : Bool} {ms : List Machine} {came : List Arrival} {first : Engin
       let passed : Passed ms slot no_arrivals now middle sent sent sent sent note note =
       record { done = done; put = put; went_on = search (arith, rules); running = refl; made = search rules } in
       let count : m ≡ suc (k + n) = omega arith in
-      let after_one : Crossing whole ms came first first_sent first_note (slot + 1) (k + n) middle sent note =
-      crossing_next (rw count at c) (λ is le empty. let some = more is (omega arith) in omega arith)
+      let after_one = crossing_next (rw count at c) (λ is le empty. let some = more is (omega arith) in omega arith)
       (rw (← quiet slot (omega arith) (omega arith)) at passed) in
       crossing_rest k (slot + 1) next n (k + n) (idled ms ports ranks) marks middle after (omega arith) refl after_one
       (search (arith, rules, quiet)) (λ is lt. more is (omega arith)) ran.2 figures at running refused (search rules)
@@ -419,9 +377,8 @@ module _ {whole : Bool} {end : ℕ} {M : List ℕ → Machine} {came : List Arri
       Crossing whole (map M first.fixed) came first first_sent first_note (slot + 1) (end - (slot + 1)) after sent_new
       note_new
   next_here cells after {leaving} {left} sent_new note_new are passed =
-      crossing_next c_next here.more
-      (subst (λ (fixed : List (List ℕ)). Passed (map M fixed) slot (arriving came slot) now after leaving left sent
-      sent_new note note_new) here.crossing.made.fixed (rw are at passed))
+      let same : map M now.fixed ≡ map M first.fixed = ap (map M) here.crossing.made.fixed in
+      crossing_next c_next here.more (rw (are, same) at passed)
 
   -- and a tag fault of the slot is one at which the run stops
   pub fault_here : (cells : List (Option Cell)) (fault : TagFault) (j count : ℕ) → slot + suc j ≡ first.next + count →

@@ -1,5 +1,5 @@
 -- What each step of the loop over the slots asks for, where so many slots are left as are not yet over.
-use Rattle.cq_simulate.proofs.Terms.{common_steps, rules, ◌≡◌, ◌↔◌, ℕ, suc, ◌+◌, ◌-◌, ◌<◌, ◌≤◌, ◌^◌, Bool, false, List, [], ◌++◌, length, map, replicate, Option, Result, Ok, Err, refl, sym, ap, ◌∙◌, arith, zero, None, ◌∷◌, IsTrue, All, IfOk, slice_index_or, cases_lt, IfOk-weaker, Cell, Departure, Queued, TagFault, no_arrivals, Arrival, arriving, end_of, enough, traffic_of, RoomView, Machine, Marked, nothing_refused, admission, admitted, refused, IdealSwitch, HasRoomFor, HaveLeft, marked_state, count_for, IdealState, departures_in, ideal_slot, departures_limited, LimitedSent, limited_run, limited_slot, nothing_came, ideal_admission, with_admission, CanCount, IsReady, waiting, counted, arriving_from, slots_of, none_waits, nothing_left, all_slots, arrivals_for, for_here, come_for, come_for-traffic_of, IsQuiet, come_count, arriving_parts, departures_of, no_departures, quiet_slots, length-replicate, append-nil, length-append, get_or-replicate, number_of, is_to, refused_counts, with_refused, counts_fit, zero_fits, present, come_count-traffic_of, none_after, run_fault, run_step, counts_more, each_once, waiting-empty, CanHaveSlot, HasHadSlot, IsSameSwitch, arriving_length, first_slots, departures_append, slots_within, first_more, LimitedRan, marked}
+use Rattle.cq_simulate.proofs.Terms.{common_steps, rules, ◌≡◌, ◌↔◌, ℕ, suc, ◌+◌, ◌-◌, ◌<◌, ◌≤◌, ◌^◌, Bool, false, List, [], ◌++◌, length, map, replicate, Option, Result, Ok, Err, refl, sym, ap, ◌∙◌, arith, zero, None, ◌∷◌, IsTrue, All, IfOk, slice_index_or, cases_lt, IfOk-weaker, Cell, Departure, Queued, TagFault, no_arrivals, Arrival, arriving, end_of, enough, traffic_of, RoomView, Machine, Marked, nothing_refused, admission, admitted, refused, IdealSwitch, HasRoomFor, HaveLeft, marked_state, count_for, IdealState, departures_in, ideal_slot, departures_limited, LimitedSent, limited_run, limited_slot, nothing_came, ideal_admission, with_admission, CanCount, IsReady, waiting, counted, arriving_from, slots_of, none_waits, nothing_left, all_slots, arrivals_for, for_here, from_here, some_one, come_for, come_for-traffic_of, IsQuiet, come_count, arriving_parts, departures_of, no_departures, quiet_slots, length-replicate, append-nil, length-append, get_or-replicate, number_of, is_to, refused_counts, with_refused, counts_fit, zero_fits, present, come_count-traffic_of, none_after, run_fault, run_step, counts_more, each_once, waiting-empty, CanHaveSlot, HasHadSlot, IsSameSwitch, arriving_length, first_slots, departures_append, slots_within, first_more, LimitedRan, marked}
 use Rattle.cq_ideal.specs.Ideal.{answer_to, its_slot}
 use Rattle.cq_ideal.specs.IdealSlot.{Sent}
 use Rattle.cq_ideal.proofs.Waiting.{Counted}
@@ -122,7 +122,8 @@ pub fewer_left : (before after here rest end slot n : ℕ) → after ≤ before 
 fewer_left before after here rest end slot n less few none over = grind (arith, common_steps, over, cases_lt)
 
 -- what the numbers of a slot follow from
-pub ruleset numbers = (append-nil, for_here, come_count, fewer_left, none_after, none_come, length-append)
+pub ruleset numbers =
+    (for_here, from_here, some_one, waiting, come_count, present, fewer_left, none_after, none_come, length-append)
 
 module _ {ms : List Machine} {came : List Arrival} {first : IdealSwitch} {first_sent sent : RoomView Departure}
     {slot n : ℕ} {now : IdealSwitch} (r : Running ms came first first_sent slot (suc n) now sent) where
@@ -144,7 +145,7 @@ module _ {ms : List Machine} {came : List Arrival} {first : IdealSwitch} {first_
       let step = run_step first.limits ms slot cells [] (marked_state now) of_slot is in
       let ran_on : limited_run first.limits ms 0 (first_slots came (slot + 1)) (marked_state first) ≡ Ok ran = cc in
       let gone_on = departures_append 0 slot r.ran.gone (of_slot.gone ∷ []) (omega arith) in
-      search (arith, rules, numbers, r.each, o.each, o.counts.each, r.few, counts_more first.limits r.lost)
+      search (arith, rules, numbers, append-nil, r.each, o.each, o.counts.each, r.few, counts_more first.limits r.lost)
 
   pub running_fault : (fault : TagFault) →
       limited_slot first.limits ms slot (arriving came slot) (marked_state now) ≡ Err fault →
