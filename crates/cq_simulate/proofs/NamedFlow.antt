@@ -3,7 +3,7 @@
 -- have the same cells: of a flow there arrives one cell in a slot at most.
 -- What waits for an output in a sound state stands there as in a run: in the order of the keys, each cell with the
 -- level of its class and a rank below the floor, and each arrived in an earlier slot.
-use Rattle.cq_simulate.proofs.Terms.{common_steps, rules, map-append, ◌≡◌, ℕ, ◌<◌, Bool, true, false, List, [], ◌∷◌, ◌++◌, length, map, filter, Option, Some, refl, sym, ap, ◌∙◌, inl, ⊎_elim, arith, ◌⊎◌, ◌+◌, ◌≤◌, not, cond, fold, ◌&&◌, ◌==◌, All, slice_index_or, nat_lt, if◌then◌else◌, AllByRecursion, AllPairs, and_from, and_parts, cases_lt, eq-eqb, eqb-true, lt-ltb, ltb-true, cases_eq, cond-false, cond-true, le-ltb, ne_eqb, Arrival, IsBefore, Departure, Queued, IsLater, IsTraffic, comes_in_flow, leaves_in_flow, left_in_flow, is_kind, shown, HasWaited, Stands, line_at, rest_of, Agrees, Fabric, input, ideal_of, list_of, departure_of, sent_told, firsts_at, is_refused, latest, IsSound, OfOneFlow, IsBelowFloor, AllNamed, AreWholePackets, NoneNamed, HasShape, Switch, HasLimit, arriving_cell, class_of, fabric_told, is_ahead, is_named, key_of, named_in, output_of, queued_in, queued_of, class_in, packet_before, EachPair, each_pair, buffer_is, comes, found_at, in_buffer, in_list, in_order, is_cell_of, its_output, its_slot, list_is, of_traffic, ports_are, queued_differ, queued_named, some_cell, Has, all_from_has, all_of_has, has_cases, has_image, has_kept, has_left, has_right, image_has, kept_has, pair_of_has, IsInRange, Sent, State, NoLater, all_weaker, Machine, machine_at, AreOfPackets, key_laws, HasFor, all_has, looked_up, pairs_kept, pairs_kept_with, pairs_looked_up, pairs_with, Named, any_has, has_any, any_alike, pairs_mapped, pairs_joined, has_looked_up, same_pairs, filter_none, filter_all}
+use Rattle.cq_simulate.proofs.Terms.{common_steps, rules, map-append, ◌≡◌, ℕ, ◌<◌, Bool, true, false, List, [], ◌∷◌, ◌++◌, length, map, filter, Option, Some, refl, sym, ap, ◌∙◌, inl, ⊎_elim, arith, ◌⊎◌, ◌+◌, ◌≤◌, not, cond, fold, ◌&&◌, ◌==◌, All, slice_index_or, nat_lt, if◌then◌else◌, AllByRecursion, AllPairs, and_from, and_parts, cases_lt, eq-eqb, eqb-true, lt-ltb, ltb-true, cases_eq, cond-false, cond-true, le-ltb, ne_eqb, Arrival, IsBefore, Departure, Queued, IsLater, IsTraffic, comes_in_flow, leaves_in_flow, left_in_flow, is_kind, shown, HasWaited, Stands, line_at, rest_of, Agrees, Fabric, input, ideal_of, list_of, departure_of, sent_told, firsts_at, is_refused, latest, IsSound, OfOneFlow, IsBelowFloor, AllNamed, AreWholePackets, NoneNamed, HasShape, Switch, HasLimit, arriving_cell, class_of, fabric_told, is_ahead, is_named, key_of, named_in, output_of, queued_in, queued_of, packet_before, EachPair, each_pair, buffer_is, comes, found_at, in_buffer, in_list, in_order, is_cell_of, its_output, its_slot, list_is, of_traffic, ports_are, queued_differ, queued_named, some_cell, Has, all_from_has, all_of_has, has_cases, has_image, has_kept, has_left, has_right, image_has, kept_has, pair_of_has, IsInRange, Sent, State, NoLater, all_weaker, Machine, machine_at, AreOfPackets, key_laws, HasFor, all_has, looked_up, pairs_kept, pairs_kept_with, pairs_looked_up, pairs_with, Named, any_has, has_any, any_alike, pairs_mapped, pairs_joined, has_looked_up, same_pairs, filter_none, filter_all}
 use Rattle.std.proofs.lemmas.Simd.{map-map}
 use Rattle.cq_ideal.proofs.RestAtInput.{cells_of}
 
@@ -408,9 +408,7 @@ module _ (w : Switch) (s : State) (in_range : IsInRange s) (shape : HasShape w s
     one_of_names n q has of =
         let it = found_at w.came n.slot n.input q.cell (is_cell_of w.came n q of.is).arrives in
         let slot = slot_is n q of in
-        let same = arrival_is it.arrival (as_arrival q) (it.slot ∙ sym slot) it.own in
-        let before = comes w s in_range shape sound traffic n has in
-        search (arith, rules, Has, and_from, q.cell.output, is_kind, eq-eqb, any_has, n.slot, n.input)
+        search (arith, rules, comes w s in_range shape sound traffic n has, and_from, is_kind, eq-eqb, any_has)
 
     to_told : (x : Arrival) → IsOne x → Has told x
     to_told x one = search (rules, and_parts, x.cell.output, x.cell.id.input, x.cell.class, has_kept, lt-ltb)
@@ -463,7 +461,6 @@ module _ (w : Switch) (s : State) (in_range : IsInRange s) (shape : HasShape w s
         let one = from_told x has in
         let name = has_any (is_name_of x) names one.own in
         let n = name.0 in
-        let at : (n.slot ≡ x.slot) × (n.input ≡ x.cell.id.input) = search (arith, rules, and_parts, eqb-true) in
         let some = some_cell (arriving_cell w.came n) (comes w s in_range shape sound traffic n name.1).1 in
         let it = found_at w.came n.slot n.input some.0 some.1 in
         let same : it.arrival ≡ x = search (arith, rules, one_arrival) in
@@ -492,7 +489,6 @@ module _ (w : Switch) (s : State) (in_range : IsInRange s) (shape : HasShape w s
         let own = is_cell_of w.came n q it.is in
         let floor = all_has (IsBelowFloor w s) (queued_in s) n sound.floors it.has in
         let output = its_output w s in_range shape sound traffic n q it.is ∙ it.output in
-        let below = rw (output, ap class_in own.arrives) at floor.rank in
         let early = comes w s in_range shape sound traffic n (queued_named w s in_range shape sound traffic n it.has) in
         let of = of_traffic w s in_range shape sound traffic n q it.is in search (arith, rules)
 
