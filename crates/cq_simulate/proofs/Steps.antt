@@ -1,5 +1,5 @@
 -- What each step of the loop over the slots asks for, where so many slots are left as are not yet over.
-use Rattle.cq_simulate.proofs.Terms.{common_steps, rules, ◌≡◌, ◌↔◌, ℕ, suc, ◌+◌, ◌-◌, ◌<◌, ◌≤◌, ◌^◌, Bool, false, List, [], ◌++◌, length, map, replicate, Option, Result, Ok, Err, refl, sym, ap, ◌∙◌, arith, zero, None, ◌∷◌, IsTrue, All, IfOk, slice_index_or, cases_lt, IfOk-weaker, Cell, Departure, Queued, TagFault, no_arrivals, Arrival, arriving, end_of, enough, traffic_of, RoomView, Machine, Marked, nothing_refused, admission, admitted, refused, IdealSwitch, HasRoomFor, HaveLeft, marked_state, count_for, IdealState, departures_in, ideal_slot, departures_limited, LimitedSent, limited_run, limited_slot, nothing_came, ideal_admission, with_admission, CanCount, IsReady, waiting, counted, arriving_from, slots_of, none_waits, nothing_left, all_slots, arrivals_for, for_here, from_here, some_one, come_for, come_for-traffic_of, IsQuiet, come_count, arriving_parts, departures_of, no_departures, quiet_slots, length-replicate, append-nil, length-append, get_or-replicate, number_of, is_to, refused_counts, with_refused, counts_fit, zero_fits, present, come_count-traffic_of, none_after, run_fault, run_step, counts_more, each_once, waiting-empty, CanHaveSlot, HasHadSlot, IsSameSwitch, arriving_length, first_slots, departures_append, slots_within, first_more, LimitedRan, marked}
+use Rattle.cq_simulate.proofs.Terms.{common_steps, rules, ◌≡◌, ◌↔◌, ℕ, suc, ◌+◌, ◌-◌, ◌<◌, ◌≤◌, ◌^◌, Bool, false, List, [], ◌++◌, length, map, replicate, Option, Result, Ok, Err, refl, sym, ap, ◌∙◌, arith, zero, None, ◌∷◌, IsTrue, All, IfOk, slice_index_or, cases_lt, IfOk-weaker, Cell, Departure, Queued, TagFault, no_arrivals, Arrival, arriving, end_of, enough, traffic_of, RoomView, Machine, Marked, nothing_refused, admission, admitted, refused, IdealSwitch, HasRoomFor, HaveLeft, marked_state, count_for, IdealState, departures_in, ideal_slot, departures_limited, LimitedSent, limited_run, limited_slot, ideal_admission, with_admission, CanCount, IsReady, waiting, counted, arriving_from, slots_of, none_waits, nothing_left, all_slots, arrivals_for, for_here, from_here, some_one, come_for, come_for-traffic_of, IsQuiet, come_count, arriving_parts, departures_of, no_departures, quiet_slots, length-replicate, append-nil, length-append, get_or-replicate, number_of, is_to, refused_counts, with_refused, counts_fit, zero_fits, present, come_count-traffic_of, none_after, run_fault, run_step, counts_more, each_once, waiting-empty, CanHaveSlot, HasHadSlot, IsSameSwitch, arriving_length, first_slots, departures_append, slots_within, first_more, LimitedRan, marked}
 use Rattle.cq_ideal.specs.Ideal.{answer_to, its_slot}
 use Rattle.cq_ideal.specs.IdealSlot.{Sent}
 use Rattle.cq_ideal.proofs.Waiting.{Counted}
@@ -152,9 +152,8 @@ module _ {ms : List Machine} {came : List Arrival} {first : IdealSwitch} {first_
       departures_limited (limited_run first.limits ms 0 (traffic_of came) (marked_state first)) ≡ Err fault
   unfolding traffic_of arriving_from
   running_fault fault is =
-      let later = arriving_from came (slot + 1) n in
       let all = arriving_parts came 0 slot slot (suc n) (enough came) (omega arith) (sym r.left) in
-      search (arith, rules, run_behind r (arriving came slot ∷ later) (traffic_of came), run_fault)
+      search (arith, rules, run_behind r (arriving came slot ∷ arriving_from came (slot + 1) n), run_fault)
 
 -- What a slot sent stands in a list of its own, in which nothing stood before, until the departures of the run take it
 -- over. So what holds of that list holds of the departures of the run.
@@ -202,10 +201,6 @@ nothing_departs (suc k) slot ports = simp (no_departures, nothing_departs k (slo
 module _ (M : List ℕ → Machine) {came : List Arrival} {first : IdealSwitch} {first_sent sent : RoomView Departure}
     {slot m next : ℕ} {now new : IdealSwitch} (r : Running (map M first.fixed) came first first_sent slot m now sent)
     (quiet : IsQuiet came slot next) (rested : HasRested (map M now.fixed) slot next now new) where
-  rests : limited_run first.limits (map M first.fixed) slot (replicate (next - slot) no_arrivals) (marked_state now)
-      ≡ Ok (nothing_came (next - slot) (length now.fixed) (marked_state new))
-  rests = grind (arith, common_steps)
-
   pub running_rest : (n : ℕ) → next + n ≡ enough came →
       Running (map M first.fixed) came first first_sent next n new sent
   running_rest n left =
@@ -221,10 +216,9 @@ module _ (M : List ℕ → Machine) {came : List Arrival} {first : IdealSwitch} 
       let admissions = r.ran.admissions ++ replicate k (nothing_refused new.marks no_arrivals) in
       let ran : LimitedRan = record { admissions = admissions; gone = r.ran.gone ++ gone; after = marked_state new } in
       let on : limited_run first.limits (map M first.fixed) 0 (first_slots came next) (marked_state first) ≡ Ok ran =
-      cc (run_behind r (replicate k no_arrivals) (first_slots came next) all, rests) in
+      search (arith, rules, run_behind r (replicate k no_arrivals) (first_slots came next)) in
       let sent_all = departures_append 0 slot r.ran.gone gone (omega arith) in
       let nothing = nothing_departs k slot (length now.fixed) in
-      let refused : new.refused ≡ refused_counts first.limits r.lost = rested.refused ∙ r.refused in
       search (arith, rules, append-nil, r.each, less, quiet.more, cases_lt slot next, length-append, length-replicate)
 
 -- ## The test
