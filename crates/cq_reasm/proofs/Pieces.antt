@@ -1,7 +1,7 @@
 -- The pieces of consecutive cells are consecutive stretches of the frame, so the pieces of as many cells as the frame
 -- needs are all of it. A last piece that is cut off at the frame's end is the same as one of full length, since
 -- nothing follows.
-use Rattle.cq_reasm.proofs.Terms.{common_steps, ◌≡◌, ℕ, ◌+◌, ◌-◌, ◌*◌, ◌/◌, ◌%◌, ◌≤◌, min, div_ceil_times, List, [], ◌∷◌, length, take, drop, arith, suc, sym, ap, take_min, take_all, length-drop, drop-drop, mul-le-mul_right, take-add, Piece}
+use Rattle.cq_reasm.proofs.Terms.{common_steps, ◌≡◌, ℕ, ◌+◌, ◌*◌, ◌/◌, ◌%◌, ◌≤◌, min, div_ceil_times, List, [], ◌∷◌, length, take, drop, arith, suc, take_min, take_all, length-drop, drop-drop, mul-le-mul_right, take-add, Piece}
 unfoldable use Rattle.cq_base.specs.Pieces.{cells_of}
 use Rattle.cq_reasm.specs.Cutting.{IsCutFrom, AreCutFrom, joined_pieces, PiecesGiveFrame}
 
@@ -13,19 +13,11 @@ full_length frame cell_bytes index x h = grind (arith, common_steps, length-drop
 -- the pieces of the cells from one on
 stretch : (frame : List ℕ) (cell_bytes first : ℕ) (pieces : List Piece) → AreCutFrom frame cell_bytes first pieces →
     joined_pieces pieces ≡ take (length pieces * cell_bytes) (drop (first * cell_bytes) frame)
-stretch frame cell_bytes first [] h =
-    let none : 0 * cell_bytes ≡ 0 = omega arith in sym (ap (λ n. take n (drop (first * cell_bytes) frame)) none)
+stretch frame cell_bytes first [] h = let none : 0 * cell_bytes ≡ 0 = omega arith in grind (arith, common_steps)
 stretch frame cell_bytes first (x ∷ pieces) h =
     let next : first * cell_bytes + cell_bytes ≡ (first + 1) * cell_bytes = omega arith in
     let all : cell_bytes + length pieces * cell_bytes ≡ suc (length pieces) * cell_bytes = omega arith in
-    rw (
-      full_length frame cell_bytes first x h.0,
-      stretch frame cell_bytes (first + 1) pieces h.1,
-      ← next,
-      ← drop-drop cell_bytes (first * cell_bytes) frame,
-      ← all,
-    )
-    (sym (take-add cell_bytes (length pieces * cell_bytes) (drop (first * cell_bytes) frame)))
+    grind (arith, common_steps, full_length, drop-drop, take-add, stretch frame cell_bytes (first + 1) pieces h.1)
 
 pub pieces_give_frame : PiecesGiveFrame
 unfolding cells_of
@@ -34,5 +26,4 @@ pieces_give_frame frame cell_bytes pieces h cut count =
     let many : needed ≤ length pieces = omega (arith, count) in
     let room = div_ceil_times (length frame) cell_bytes h in
     let more = mul-le-mul_right cell_bytes many in
-    let enough : length frame ≤ length pieces * cell_bytes = omega (arith, room.0, more) in
-    grind (arith, common_steps, stretch, take_all, enough)
+    grind (arith, common_steps, stretch, take_all)

@@ -1,9 +1,9 @@
 -- The cells of whole packets are taken one after another. At each cell before the last one the packet stays open,
 -- with this cell's piece behind the others, so the next cell is the next of the packet. The last one gives the
 -- packet, and closes it, so the first cell of the packet behind it is the next.
-use Rattle.cq_reasm.proofs.Terms.{◌≡◌, ℕ, ◌+◌, List, [], ◌∷◌, ◌++◌, Option, None, Some, refl, sym, ap, ◌∙◌, arith, append_assoc, common_steps, flat_map, append-nil, Open, bytes_taken, with_piece, IsNext, Piece}
+use Rattle.cq_reasm.proofs.Terms.{rules, ◌≡◌, ℕ, ◌+◌, List, [], ◌∷◌, ◌++◌, Option, None, Some, refl, sym, ap, ◌∙◌, arith, append_assoc, common_steps, flat_map, append-nil, Open, bytes_taken, with_piece, IsNext, Piece}
 use Rattle.cq_reasm.specs.declared.joiner.Joined.{Joined}
-use Rattle.cq_reasm.specs.Whole.{IsCellOf, AreCellsFrom, cells_in, AreNext, given, open_after_all, WholeAreTaken, whole}
+use Rattle.cq_reasm.specs.Whole.{IsCellOf, AreCellsFrom, cells_in, AreNext, given, open_after_all, WholeAreTaken}
 
 -- so many cells of the packet with this number are taken
 abbrev IsOpenAt : Option Open → ℕ → ℕ → Type 0
@@ -48,9 +48,4 @@ pub whole_are_taken : WholeAreTaken
 whole_are_taken input class [] h = record { next = tt; gives = refl; closes = refl }
 whole_are_taken input class (p ∷ packets) h =
     let r = rest_of input class p.number None 0 p.pieces (cells_in packets) refl h.0 in
-    let later = whole_are_taken input class packets h.1 in
-    record {
-      next = r.next later.next;
-      gives = r.gives ∙ ap (λ js. whole input p ∷ js) later.gives;
-      closes = r.left ∙ later.closes;
-    }
+    let later = whole_are_taken input class packets h.1 in search (arith, rules, r.next)

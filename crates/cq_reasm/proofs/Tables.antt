@@ -1,6 +1,6 @@
 -- The open packets lie in a slab under keys, no key stands at two places, and each packet of the slab stands at one.
 -- So what happens under one key changes what is seen at its own place, and at no other.
-use Rattle.cq_reasm.proofs.Terms.{common_steps, rules, ◌≡◌, ◌≢◌, ℕ, zero, suc, ◌<◌, List, length, map, get_or, set, Option, None, Some, refl, sym, ap, subst, ◌∙◌, ⊎_elim, ◌⊎◌, inr, arith, replicate, IsSome, option_map, same_Some, cases_eq, get_or-set_same, get_or-set_other, set-get_or, length-map, Open, grown, with_piece, get_or_read, ext_get_or, length-set}
+use Rattle.cq_reasm.proofs.Terms.{common_steps, rules, ◌≡◌, ◌≢◌, ℕ, zero, suc, ◌<◌, List, length, map, get_or, set, Option, None, Some, refl, sym, ap, subst, ◌∙◌, ⊎_elim, ◌⊎◌, arith, replicate, IsSome, option_map, same_Some, cases_eq, get_or-set_same, get_or-set_other, set-get_or, length-map, Open, grown, with_piece, get_or_read, ext_get_or, length-set}
 use Rattle.std.proofs.Math.ListN.{get_or-map}
 use Rattle.std.proofs.lemmas.List.{get_or-map as read_map}
 use Rattle.slab.specs.Slab.{Slab, get, ContainsKey}
@@ -16,18 +16,12 @@ pub seen_at_one : {X Y : Type 0} (f g : X → Y) (xs : List X) (p : ℕ) (x d : 
 seen_at_one f g xs p x d y e h =
     let seen : length (map g (set xs p x)) ≡ length xs = length-map (set xs p x) g ∙ length-set xs p x in
     let long = length-map xs f in
-    ext_get_or y (map g (set xs p x)) (set (map f xs) p y) (seen ∙ sym (length-set (map f xs) p y ∙ long)) (λ q inside.
-    let here = read_map g (set xs p x) q d y (omega (arith, seen, length-set xs p x)) in
-    ⊎_elim (λ same. here ∙ rw same (ap g (get_or-set_same xs p x d (omega arith)) ∙ e
-    ∙ sym (get_or-set_same (map f xs) p y y (omega arith))))
-    (λ away. here ∙ ap g (get_or-set_other xs p q x d away) ∙ sym (h q (omega arith) away)
-    ∙ sym (read_map f xs q d y (omega arith)) ∙ sym (get_or-set_other (map f xs) p q y y away)) (cases_eq q p))
+    ext_get_or y (map g (set xs p x)) (set (map f xs) p y) (seen ∙ sym (length-set (map f xs) p y ∙ long))
+    (λ q inside. let here = read_map g (set xs p x) q d y (omega (arith, seen, length-set xs p x)) in
+    let there = λ (lt : q < length xs). read_map f xs q d y lt in
+    grind (arith, common_steps, here, there, get_or-set_same, get_or-set_other, cases_eq q p, h q))
 
 -- ## What is seen at a place
-
-pub seen_at : (packets : Slab OpenPacket) (keys : List (Option ℕ)) (place : ℕ) →
-    get_or (map (packet_under packets) keys) place None ≡ packet_under packets (get_or keys place None)
-seen_at packets keys place = get_or-map (packet_under packets) keys place None
 
 -- what two slabs have under a key is seen alike
 seen_alike : (old new : Slab OpenPacket) (k : Option ℕ) → ((key : ℕ) → k ≡ Some key → get new key ≡ get old key) →
@@ -35,40 +29,26 @@ seen_alike : (old new : Slab OpenPacket) (k : Option ℕ) → ((key : ℕ) → k
 seen_alike old new None h = refl
 seen_alike old new (Some key) h = let e = h key refl in cc
 
-seen_empty : (packets : Slab OpenPacket) (places : ℕ) →
+-- in a table of empty places no packet is open
+pub seen_empty : (packets : Slab OpenPacket) (places : ℕ) →
     map (packet_under packets) (replicate places None) ≡ replicate places None
 seen_empty packets zero = refl
 seen_empty packets (suc places) = let rest = seen_empty packets places in cc
 
--- in a table of empty places no packet is open
-pub nothing_seen : (packets : Slab OpenPacket) (keys : List (Option ℕ)) (places : ℕ) → keys ≡ replicate places None →
-    map (packet_under packets) keys ≡ replicate places None
-nothing_seen packets keys places e = ap (map (packet_under packets)) e ∙ seen_empty packets places
-
 -- ## The key at a place
 
-pub inside_keys : (packets : Slab OpenPacket) (keys : List (Option ℕ)) (seen : List (Option Open)) (place : ℕ) →
-    map (packet_under packets) keys ≡ seen → place < length seen → place < length keys
-inside_keys packets keys seen place e h = omega (arith, length-map keys (packet_under packets), ap length e)
+module _ (packets : Slab OpenPacket) (keys : List (Option ℕ)) (seen : List (Option Open)) (place : ℕ)
+    (view : map (packet_under packets) keys ≡ seen) (within : place < length seen) (read : Option ℕ)
+    (was_read : read ≡ get_or keys place read) where
+  inside_keys : place < length keys
+  inside_keys = omega (arith, length-map keys (packet_under packets), ap length view)
 
--- where no key stands no packet is open
-pub none_at : (packets : Slab OpenPacket) (keys : List (Option ℕ)) (seen : List (Option Open)) (place : ℕ) →
-    map (packet_under packets) keys ≡ seen → get_or keys place None ≡ None → get_or seen place None ≡ None
-none_at packets keys seen place e none = grind (arith, common_steps, seen_at)
+  key_at : get_or keys place None ≡ read
+  key_at = sym (get_or_read keys place read inside_keys was_read None)
 
--- closed already
-pub closed_already : (seen : List (Option Open)) (place : ℕ) → get_or seen place None ≡ None →
-    seen ≡ set seen place None
-closed_already seen place e = sym (ap (set seen place) (sym e) ∙ set-get_or seen place None)
-
--- one more piece of the packet that is seen at a place
-pub grown_now : (packets : Slab OpenPacket) (keys : List (Option ℕ)) (seen : List (Option Open))
-    (place key number : ℕ) (piece : List ℕ) → IsTable packets keys → map (packet_under packets) keys ≡ seen →
-    get_or keys place None ≡ Some key →
-    option_map (grown piece) (packet_under packets (Some key))
-    ≡ Some (with_piece (get_or seen place None) number piece)
-grown_now packets keys seen place key number piece table e at =
-    let there = table.present place key at in grind (arith, common_steps, seen_at)
+  -- where no key stands no packet is open
+  pub none_open : read ≡ None → get_or seen place None ≡ None
+  none_open none = grind (arith, common_steps, key_at, get_or-map (packet_under packets) keys place None)
 
 -- ## What happens under one key
 
@@ -77,7 +57,7 @@ module _ (old new : Slab OpenPacket) (keys : List (Option ℕ)) (seen : List (Op
     (others : (other : ℕ) → other ≢ key → get new other ≡ get old other) (read : Option ℕ)
     (was_read : read ≡ get_or keys place read) where
   inside : place < length keys
-  inside = inside_keys old keys seen place view within
+  inside = inside_keys old keys seen place view within read was_read
 
   kept_present : (k : ℕ) → k ≢ key → ContainsKey old k → ContainsKey new k
   kept_present k ne h = let P : Option OpenPacket → Type 0 = λ o. IsSome o in subst P (sym (others k ne)) h
@@ -92,7 +72,7 @@ module _ (old new : Slab OpenPacket) (keys : List (Option ℕ)) (seen : List (Op
   -- the packet under the key of this place grows, or goes
   module _ (is : read ≡ Some key) where
     at : get_or keys place None ≡ Some key
-    at = sym (get_or_read keys place read inside was_read None) ∙ is
+    at = key_at old keys seen place view within read was_read ∙ is
 
     not_elsewhere : (q k : ℕ) → q ≢ place → get_or keys q None ≡ Some k → k ≢ key
     not_elsewhere q k ne e same = ne (table.apart q place k e (at ∙ ap Some (sym same)))
@@ -100,13 +80,20 @@ module _ (old new : Slab OpenPacket) (keys : List (Option ℕ)) (seen : List (Op
     seen_elsewhere : (q : ℕ) → q ≢ place → packet_under old (get_or keys q None) ≡ packet_under new (get_or keys q None)
     seen_elsewhere q ne = seen_alike old new (get_or keys q None) (λ k e. others k (not_elsewhere q k ne e))
 
+    -- one more piece of the packet that is seen at the place
+    grown_now : (number : ℕ) (piece : List ℕ) → option_map (grown piece) (packet_under old (Some key))
+        ≡ Some (with_piece (get_or seen place None) number piece)
+    grown_now number piece =
+        let there = table.present place key at in
+        grind (arith, common_steps, get_or-map (packet_under old) keys place None)
+
     pub grown_seen : (number : ℕ) (piece : List ℕ) →
         packet_under new (Some key) ≡ option_map (grown piece) (packet_under old (Some key)) →
         map (packet_under new) keys ≡ set seen place (Some (with_piece (get_or seen place None) number piece))
     grown_seen number piece e =
-        let now = grown_now old keys seen place key number piece table view at in
         rw (set-get_or keys place None, view) at (seen_at_one (packet_under old) (packet_under new) keys place
-        (get_or keys place None) None _ (ap (packet_under new) at ∙ e ∙ now) (λ q l ne. seen_elsewhere q ne))
+        (get_or keys place None) None _ (ap (packet_under new) at ∙ e ∙ grown_now number piece)
+        (λ q l ne. seen_elsewhere q ne))
 
     -- what is left in the slab stands where it stood
     left_at : get_or keys place None ≡ Some key → get new key ≡ None → (k : ℕ) → ContainsKey new k →
@@ -126,7 +113,7 @@ module _ (old new : Slab OpenPacket) (keys : List (Option ℕ)) (seen : List (Op
   module _ (is : read ≡ None) (vacant : get old key ≡ None) (now : Open)
       (stored : packet_under new (Some key) ≡ Some now) where
     none : get_or keys place None ≡ None
-    none = sym (get_or_read keys place read inside was_read None) ∙ is
+    none = key_at old keys seen place view within read was_read ∙ is
 
     vacant_elsewhere : (q k : ℕ) → get_or keys q None ≡ Some k → k ≢ key
     vacant_elsewhere q k e same = grind (arith, common_steps)
@@ -137,9 +124,8 @@ module _ (old new : Slab OpenPacket) (keys : List (Option ℕ)) (seen : List (Op
     -- what stands at a place now
     stands : (p k : ℕ) → get_or (set keys place (Some key)) p None ≡ Some k →
         ((p ≡ place) × (k ≡ key)) ⊎ ((k ≢ key) × (get_or keys p None ≡ Some k))
-    stands p k e = ⊎_elim (λ same. search (arith, rules, get_or-set_same, inside, same_Some))
-        (λ ne. let was = shown_elsewhere p (Some key) (Some k) ne e in inr (vacant_elsewhere p k was, was))
-        (cases_eq p place)
+    stands p k e =
+        search (arith, rules, cases_eq p place, get_or-set_same, inside, same_Some, vacant_elsewhere, shown_elsewhere)
 
     -- what was in the slab stands where it stood, and the new packet at this place
     pub started_table : IsTable new (set keys place (Some key))
@@ -149,11 +135,11 @@ module _ (old new : Slab OpenPacket) (keys : List (Option ℕ)) (seen : List (Op
       apart = λ p q k e f.
           let a = stands p k e in let b = stands q k f in grind (arith, common_steps, table.apart p q k);
       placed = λ k h. ⊎_elim
-          (λ same. (place, get_or-set_same keys place (Some key) None inside ∙ ap Some (sym same)))
+          (λ same. (place, cc (get_or-set_same keys place (Some key) None inside)))
           (λ ne.
           let was = table.placed k (was_present k ne h) in
           let away : was.0 ≢ place = λ same. cc (rw same at was.1, none) in
-          (was.0, get_or-set_other keys place was.0 (Some key) None away ∙ was.1))
+          (was.0, cc (get_or-set_other keys place was.0 (Some key) None away)))
           (cases_eq k key);
     }
 

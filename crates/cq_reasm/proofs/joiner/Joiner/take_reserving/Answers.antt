@@ -23,14 +23,10 @@ returns c =
     let added = Some (with_piece (get_or packets at None) id.packet c.args.piece.now) in
     let closed = c.close-body.ensures.closed ∙ ap (λ others. set others at None) c.in_ok-add.ensures.added
     ∙ set-set packets at added None in
-    record {
-      joined = search rules;
-      left = left_is c.self.inside.inputs c.self.inside.classes packets c.close-body.new.self c.args.self.now id.input
-          class at None c.self.view_is place closed
-          ∙ ap (with_open c.args.self.now id.input class) (closed_by_last (open_at c.args.self.now id.input class)
-          c.args.cell.now c.args.piece.now c.if-not-cell.false);
-      pair = search rules;
-      others = others_kept c.self.inside.inputs c.self.inside.classes packets c.close-body.new.self c.args.self.now
-          c.args.cell.now at None c.self.view_is place closed c.requires.class;
-      as_before = tt;
-    }
+    let left = left_is c.self.inside.inputs c.self.inside.classes packets c.close-body.new.self c.args.self.now id.input
+    class at None c.self.view_is place closed
+    ∙ ap (with_open c.args.self.now id.input class) (closed_by_last (open_at c.args.self.now id.input class)
+    c.args.cell.now c.args.piece.now c.if-not-cell.false) in
+    let others = others_kept c.self.inside.inputs c.self.inside.classes packets c.close-body.new.self c.args.self.now
+    c.args.cell.now at None c.self.view_is place closed c.requires.class in
+    search (arith, rules, left, others)
