@@ -1,6 +1,7 @@
 -- What arrives in a slot is for the ports and of the classes, and each cell comes at its own input. It is found among
 -- all cells that come, and what holds of each of these holds of it.
-use Rattle.cq_traffic.proofs.Terms.{is_shown, length-arriving, common_steps, ◌≡◌, ℕ, zero, suc, ◌+◌, ◌<◌, List, [], ◌∷◌, rules, Some, None, arith, AllByRecursion, cases_lt, get_or_past, unwrap_or-slice_get, Cell, arrival_at, Arrival, arriving, arriving_at, IsInRange, IsTraffic, arriving_from, cell_listed, found, most_ports}
+use Rattle.cq_traffic.proofs.Terms.{is_shown, length-arriving, common_steps, ◌≡◌, ℕ, ◌<◌, List, [], ◌∷◌, rules, Some, arith, AllByRecursion, cases_lt, get_or_past, unwrap_or-slice_get, Cell, arrival_at, Arrival, arriving, arriving_at, IsInRange, IsTraffic, arriving_from, cell_listed, found, most_ports}
+use Rattle.cq_ideal.proofs.FlowLaw.{all_in_range}
 use Rattle.cq_ideal.specs.Ranking.{AreForPorts}
 
 -- what is known of the cells that arrive
@@ -23,9 +24,7 @@ arriving_fits ports classes (a ∷ came) t k cell all is =
 pub place_of : (came : List Arrival) (t input inputs : ℕ) (cell : Cell) → inputs ≡ most_ports →
     arrival_at (arriving came t) input ≡ Some cell → arriving_at came t input ≡ Some cell
 place_of came t input inputs cell are at =
-    let past = get_or_past (arriving came t) input None in
-    let shown = unwrap_or-slice_get (arriving came t) input None in
-    search (arith, rules, cases_lt input inputs, is_shown input, past, length-arriving)
+    search (arith, rules, cases_lt input inputs, is_shown input, get_or_past, unwrap_or-slice_get, length-arriving)
 
 pub arrivals_for : (ports classes : ℕ) (came : List Arrival) (t : ℕ) → IsTraffic ports classes came →
     AreForPorts ports classes (arriving came t)
@@ -35,6 +34,4 @@ arrivals_for ports classes came t traffic = grind (arith, common_steps, arriving
 pub slots_fit : (ports classes : ℕ) (came : List Arrival) (slot n : ℕ) → IsTraffic ports classes came →
     AllByRecursion (AreForPorts ports classes) (arriving_from came slot n)
 unfolding arriving_from
-slots_fit ports classes came slot zero traffic = tt
-slots_fit ports classes came slot (suc n) traffic =
-    (arrivals_for ports classes came slot traffic, slots_fit ports classes came (slot + 1) n traffic)
+slots_fit ports classes came slot n traffic = search (rules, all_in_range, arrivals_for)

@@ -1,5 +1,5 @@
 -- What is still to come at one input. Each arrival adds one cell at most to what comes at its input.
-use Rattle.cq_traffic.proofs.Terms.{common_steps, ◌≡◌, ℕ, zero, suc, ◌+◌, ◌≤◌, Bool, cond, List, [], ◌∷◌, ◌++◌, length, Option, Some, None, refl, sym, ap, arith, is_some, cases_eq, eq-eqb, map-range_with_len_more, arrival_at, Arrival, arriving, Cell, number_of, is_from, found, found_here, found_none, other_slot, other_input, total, total_none, total_more, arriving_from, first_slots}
+use Rattle.cq_traffic.proofs.Terms.{rules, common_steps, ◌≡◌, ℕ, zero, suc, ◌+◌, ◌≤◌, Bool, cond, List, [], ◌∷◌, ◌++◌, length, Option, Some, None, refl, arith, is_some, cases_eq, eq-eqb, map-range_with_len_more, arrival_at, Arrival, arriving, Cell, number_of, is_from, found, found_here, found_none, other_slot, other_input, total, total_none, total_more, arriving_from, first_slots}
 use Rattle.cq_traffic.proofs.ForPorts.{place_of}
 
 -- how many cells come at the input in so many slots from this one on
@@ -37,14 +37,11 @@ module _ (i : ℕ) where
 
   pub no_more_from : (came : List Arrival) (n : ℕ) → come_from i came 0 n ≤ number_of (is_from i) came
   unfolding come_from
-  no_more_from [] n =
-      let none = total_none (λ t. length (found [] t i)) 0 n (λ t. ap length (found_none [] t i tt)) in omega arith
+  no_more_from [] n = search (arith, rules, total_none, found_none)
   no_more_from (a ∷ came) n =
-      let more =
-      total_more (λ t. length (found (a ∷ came) t i)) (λ t. length (found came t i)) a.slot (bit (is_from i a)) 0 n
-      (λ t ne. ap length (other_slot a came t i (λ e. ne (sym e)))) (one_more a came) in
-      let rest = no_more_from came n in
-      grind (arith, common_steps)
+      let more = total_more (λ t. length (found (a ∷ came) t i)) (λ t. length (found came t i)) a.slot
+      (bit (is_from i a)) 0 n in
+      search (arith, rules, more, other_slot, one_more, no_more_from came n)
 
 -- what arrives at the input is found there
 pub arrives_found : (came : List Arrival) (t i : ℕ) → one_if (arrival_at (arriving came t) i) ≤ length (found came t i)

@@ -29,16 +29,12 @@ quiet_of {came} {slot} {next} is = search (arith, rules, no_stretch, cases_lt, n
 
 ends_before : (came : List Arrival) (slot : ℕ) → AllByRecursion (λ a. a.slot < slot) came → end_of came ≤ slot
 ends_before [] slot all = omega arith
-ends_before (a ∷ came) slot all = let rest = ends_before came slot all.1 in let here = all.0 in omega arith
+ends_before (a ∷ came) slot all = grind (arith, common_steps, ends_before came slot)
 
 pub until_next : (came : List Arrival) (slot : ℕ) (next : Option ℕ) → IsNextArrival came slot next →
     IsQuietUntil came slot (unwrap_or next slot)
-until_next came slot None all =
-    record { first = λ more. absurd (let over = ends_before came slot all in omega arith); over = λ _. refl }
-until_next came slot (Some next) is = record {
-  first = λ _. is;
-  over = λ over. absurd (let late = is.late in let more = before_end came next is.arrives in omega arith);
-}
+until_next came slot None all = search (arith, rules, ends_before)
+until_next came slot (Some next) is = search (arith, rules, before_end)
 
 -- up to a slot that is no later than the next arrival none arrives
 pub none_up_to : (came : List Arrival) (slot n : ℕ) (next : Option ℕ) → IsNextArrival came slot next →
@@ -61,8 +57,7 @@ before_both came slot last n next at le is = grind (arith, common_steps)
 pub arrives_before : (came : List Arrival) (slot last n : ℕ) (next : Option ℕ) → IsNextArrival came slot next →
     n ≡ min (unwrap_or next last) last → n < last → ArrivesIn n came
 arrives_before came slot last n None all is before = absurd (omega arith)
-arrives_before came slot last n (Some next) at is before =
-    let same : next ≡ n = omega arith in rw same at at.arrives
+arrives_before came slot last n (Some next) at is before = grind (arith, common_steps)
 
 -- ## What comes in a stretch
 
@@ -71,7 +66,4 @@ pub quiet_slots : (came : List Arrival) (slot k : ℕ) →
     arriving_from came slot k ≡ replicate k no_arrivals
 unfolding arriving_from
 quiet_slots came slot zero quiet = refl
-quiet_slots came slot (suc k) quiet =
-    let here = quiet slot (omega arith) (omega arith) in
-    let rest = quiet_slots came (slot + 1) k (λ t from to. quiet t (omega arith) (omega arith)) in
-    search (rules, here, rest)
+quiet_slots came slot (suc k) quiet = search (arith, rules, quiet slot, quiet_slots came (slot + 1) k)

@@ -55,8 +55,7 @@ module _ (j : ℕ) where
   pub no_more_to : (came : List Arrival) (n : ℕ) → come_for j (first_slots came n) ≤ number_of (is_to j) came
   unfolding arriving_from count_to
   no_more_to came n =
-      let most : total (λ t. count_for j (arriving came t)) 0 n ≤ number_of (is_to j) came =
-      weighed (count_to j) (count_for j) (number_of (is_to j)) refl refl count_for-cons one_more came n in
+      let most = weighed (count_to j) (count_for j) (number_of (is_to j)) refl refl count_for-cons one_more came n in
       omega (arith, count_from came 0 n)
 
   pub come_for-traffic_of : (came : List Arrival) → come_for j (traffic_of came) ≤ number_of (is_to j) came
