@@ -1,7 +1,7 @@
 -- Every packet leaves its output whole or is counted as refused there, once. The fabric sends and refuses what the
 -- ideal switch does, and there each packet of an input leaves or is refused: what comes are whole packets, and the
 -- cells of one are for one output.
-use Rattle.cq_simulate.proofs.Terms.{all_in_range, bit, common_steps, rules, append-nil, flat_map, ◌≡◌, ℕ, ◌<◌, List, length, Ok, ap, arith, ◌+◌, Bool, [], ◌∷◌, map, Option, cond, not, filter, refl, sym, ◌∙◌, ◌-◌, AllByRecursion, range_with_len, All-from_recursion, all_from_has, all_of_has, Arrival, arriving, Departure, traffic_is, at_input, arrivals, packets_of, arrivals_at, arrivals_of, cell_of, cells, packet_at, come_in_order, departures_of, departures_limited, whole_limited_run, slots_of_limited_run, LimitedRan, refused_in, packets_refused, AreOfPackets, came_at, AreJudged, LimitedRecord, Captured, AreTables, ports_of, Tables, machines_of, openings_of, IsFabricRun, departures_in_run, refused_in_run, ideal_departures, ran_ideal, Cell, all_found, all_present, all_weaker, present, judged, Admission, Marked, admission, refused, is_first, arriving_from, IdealState, Machine, ◌&&◌, ◌==◌, sum_by, length-map, length-filter, sum-map, is_from, came_in_flow, comes_in_flow, ends_packet_at, leaving, packets_out, eq-eqb, eqb-true, cells_above, route, each_leaves_or_is_refused, refuses_none_elsewhere, KeepTheirOutput, LeaveOrAreRefused, most_ports}
+use Rattle.cq_simulate.proofs.Terms.{all_in_range, bit, common_steps, rules, append-nil, flat_map, ◌≡◌, ℕ, ◌<◌, List, length, Ok, ap, arith, ◌+◌, Bool, [], ◌∷◌, map, Option, cond, not, filter, refl, sym, ◌∙◌, ◌-◌, AllByRecursion, range_with_len, All-from_recursion, all_from_has, all_of_has, Arrival, arriving, Departure, traffic_is, at_input, arrivals, packets_of, arrivals_at, arrivals_of, cell_of, cells, packet_at, come_in_order, departures_of, departures_limited, whole_limited_run, slots_of_limited_run, LimitedRan, refused_in, packets_refused, AreOfPackets, came_at, AreJudged, LimitedRecord, Captured, AreTables, ports_of, Tables, machines_of, openings_of, IsFabricRun, departures_in_run, refused_in_run, ideal_departures, ran_ideal, Cell, all_found, all_present, all_weaker, present, judged, Admission, Marked, admission, refused, is_first, arriving_from, IdealState, Machine, ◌&&◌, ◌==◌, sum_by, length-map, length-filter, sum-map, is_from, came_in_flow, comes_in_flow, ends_packet_at, leaving, packets_out, eq-eqb, cells_above, route, each_leaves_or_is_refused, refuses_none_elsewhere, KeepTheirOutput, LeaveOrAreRefused, most_ports, filter_agree, cases_eq, ne_eqb}
 use Rattle.cq_simulate.proofs.Departed.{all_cells, came_as, left_in_packets}
 use Rattle.cq_simulate.proofs.FabricLaws.{slot_by_slot}
 use Rattle.cq_simulate.proofs.OfPackets.{by_packet, line_cells, packet_cells, packets_come}
@@ -47,37 +47,24 @@ module _ (t : Tables) (captures : List (List Captured)) where
         let ks = range_with_len 0 many in
         let line = flat_map (arrivals_of t captures input) ks in
         let own : Cell → Bool = λ cell. cell.id.packet == k in
-        let alone =
-        by_packet t captures input own (λ n. n == k) (λ n m. refl) ks
-        ∙ ap (flat_map (packet_cells t captures input)) (one_is k 0 many (omega arith) (omega arith))
-        ∙ append-nil (packet_cells t captures input k) in
-        sym (tally-map (λ cell. own cell && p cell) (λ (a : Arrival). a.cell) line)
-        ∙ sym (tally_both p own (map (λ (a : Arrival). a.cell) line))
-        ∙ ap (λ (cells : List Cell). tally p (filter own cells)) (line_cells t captures input ks)
-        ∙ ap (tally p) alone
-        ∙ tally-map p (cell_of t captures input k) (range_with_len 0 (cells t captures input k))
+        let one = one_is k 0 many (omega arith) (omega arith) in
+        let here = by_packet t captures input own (λ n. n == k) (λ n m. refl) ks in
+        let both = tally_both p own (map (λ (a : Arrival). a.cell) line) in
+        let images = tally-map (λ cell. own cell && p cell) (λ (a : Arrival). a.cell) line in
+        let all = line_cells t captures input ks in
+        let its = tally-map p (cell_of t captures input k) (range_with_len 0 (cells t captures input k)) in
+        grind (arith, common_steps, append-nil)
 
-    -- ## Its last cell, and its first
-
-    pub one_last : (j : ℕ) →
-        tally (λ a. a.cell.id.packet == k && (a.cell.output == j && a.cell.last)) (arrivals_at t captures input)
+    -- of its cells for an output the one at this place: there is one, if the packet goes there
+    pub one_cell : (own : Cell → Bool) (place j : ℕ) → place < cells t captures input k →
+        ((i : ℕ) → own (cell_of t captures input k i) ≡ (i == place)) →
+        tally (λ a. a.cell.id.packet == k && (a.cell.output == j && own a.cell)) (arrivals_at t captures input)
         ≡ bit (output_of t captures input k == j)
-    unfolding cell_of cells
-    one_last j =
-        let n : ℕ = cells t captures input k in
-        let some : 0 < n = cells_above (length (packet_at captures input k).body) t.cell_bytes in
-        of_packet (λ cell. cell.output == j && cell.last)
-        ∙ one_where (output_of t captures input k == j) (λ i. i + 1 == n) n (n - 1) (λ _. omega arith)
-        (eq-eqb (n - 1 + 1) n (omega arith)) (λ i e. let same = eqb-true (i + 1) n e in omega arith)
-
-    pub one_first : (j : ℕ) →
-        tally (λ a. a.cell.id.packet == k && (a.cell.output == j && is_first a.cell)) (arrivals_at t captures input)
-        ≡ bit (output_of t captures input k == j)
-    unfolding cell_of cells
-    one_first j = of_packet (λ cell. cell.output == j && is_first cell)
-        ∙ one_where (output_of t captures input k == j) (λ i. i == 0) (cells t captures input k) 0 (λ _.
-        cells_above (length (packet_at captures input k).body) t.cell_bytes)
-        (eq-eqb 0 0 refl) (λ i e. eqb-true i 0 e)
+    unfolding cell_of
+    one_cell own place j within same =
+        let there = of_packet (λ cell. cell.output == j && own cell) in
+        let one = one_where (output_of t captures input k == j) (cells t captures input k) place within in
+        search (arith, rules, there, one, filter_agree, same)
 
 -- ## Tests of a cell, in another order
 
@@ -121,20 +108,24 @@ module _ (t : Tables) (captures : List (List Captured)) (sent : List Departure) 
 
     -- its last cell came in its flow, if it goes here
     came_last : tally ends (came_in_flow input class j arrived) ≡ bit goes
+    unfolding cell_of cells
     came_last =
+        let some : 0 < cells t captures input k = cells_above (length (packet_at captures input k).body) t.cell_bytes in
         let in_line : Arrival → Bool = λ a. a.cell.id.packet == k && (a.cell.output == j && a.cell.last) in
         tally-map ends (λ (a : Arrival). a.cell) (filter (comes_in_flow input class j) arrived)
         ∙ tally_both (λ (a : Arrival). ends a.cell) (comes_in_flow input class j) arrived
         ∙ tally_same (λ a. comes_in_flow input class j a && ends a.cell) (λ a. is_from input a && in_line a) arrived
         (search (arith, rules, all_weaker, flow_test, input_first, all_of_packets))
         ∙ sym (tally_both in_line (is_from input) arrived) ∙ ap (tally in_line) (at_input t captures input in_captures)
-        ∙ one_last t captures input k in_packets j
+        ∙ one_cell t captures input k in_packets (λ cell. cell.last) (cells t captures input k - 1) j (omega arith)
+        (λ i. search (arith, rules, cases_eq i (cells t captures input k - 1), eq-eqb, ne_eqb))
 
     -- and so did its first
     came_first : tally begins (came_at input arrived) ≡ bit goes
-    came_first = tally-map begins (λ (a : Arrival). a.cell) (filter (is_from input) arrived)
-        ∙ ap (tally (λ (a : Arrival). begins a.cell)) (at_input t captures input in_captures)
-        ∙ one_first t captures input k in_packets j
+    unfolding cell_of cells
+    came_first =
+        let one = one_cell t captures input k in_packets is_first 0 j in
+        search (arith, rules, tally-map, at_input, one, cells_above)
 
     leaves : times_left input k j sent ≡ cond taken (bit goes) 0
     leaves =
@@ -148,15 +139,13 @@ module _ (t : Tables) (captures : List (List Captured)) (sent : List Departure) 
     is_refused : times_refused input k j refused ≡ cond (not taken) (bit goes) 0
     is_refused =
         let p = parted input in_captures in
-        let of_it : Cell → Bool =
-        λ cell. (cell.output == j && is_first cell) && (cell.id.input == input && cell.id.packet == k) in
-        tally_same of_it (λ cell. cell.id.input == input && begins cell) refused
-        (search (arith, rules, all_weaker, input_first))
-        ∙ sym (tally_both begins (λ cell. cell.id.input == input) refused)
-        ∙ ap (tally begins) p.others
-        ∙ tally_of_kind (λ (cell : Cell). cell.id.packet) k (λ n. not (p.is_taken n))
-        (λ cell. cell.output == j && is_first cell) (came_at input arrived)
-        ∙ ap (λ (n : ℕ). cond (not taken) n 0) came_first
+        let at = λ (cell : Cell). cell.id.input == input in
+        let here = λ (cell : Cell). cell.output == j && is_first cell in
+        let same = tally_same (λ cell. here cell && (at cell && cell.id.packet == k)) (λ cell. at cell && begins cell)
+        refused (search (arith, rules, all_weaker, input_first)) in
+        let its = tally_of_kind (λ (cell : Cell). cell.id.packet) k (λ n. not (p.is_taken n)) here
+        (came_at input arrived) in
+        cc (tally_both begins at refused, p.others, came_first)
 
     pub each_once : times_left input k j sent + times_refused input k j refused ≡ bit goes
     each_once = search (arith, rules, leaves, is_refused, bit)
@@ -199,11 +188,10 @@ module _ (t : Tables) (captures : List (List Captured)) (sent : List Departure) 
         ∙ sym (length-filter (λ k. output_of t captures input k == j) (packets input))
 
     pub all_once : length (packets_out t captures sent j) + packets_refused j refused ≡ number_for t captures j
-    all_once = ap (λ (n : ℕ). n + packets_refused j refused) written ∙ ap (λ (n : ℕ). sum_by lefts inputs + n) counted
-        ∙ sym (sum_by_both lefts refusals inputs)
-        ∙ sum_by_same (λ input. lefts input + refusals input) (number_from t captures j) inputs
-        (all_in_row _ 0 (length captures)
-        (λ input less. from_input input (omega arith))) ∙ sym (sum-map (number_from t captures j) inputs)
+    all_once =
+        let same = sum_by_same (λ input. lefts input + refusals input) (number_from t captures j) inputs
+        (all_in_row _ 0 (length captures) (λ input less. from_input input (omega arith))) in
+        cc (written, counted, sum_by_both lefts refusals inputs, sum-map (number_from t captures j) inputs)
 
 -- What is refused has come: slot by slot the refused cells are some of those that arrive, and these are some of the
 -- arrivals. So what holds of each cell that comes holds of each that is refused.

@@ -1,7 +1,7 @@
 -- How many of a list pass a test. A tally of what passes one test, taken of what passes another, is one of what
 -- passes both; of numbers in a row of which one passes it is 1; and of two sums, one within the other, either may be
 -- taken first. So the tally of a list is the sum of those of its parts, where each item that passes is in one of them.
-use Rattle.cq_simulate.proofs.Terms.{bit, rules, ◌≡◌, ℕ, zero, suc, ◌+◌, ◌<◌, ◌≤◌, Bool, true, false, cond, List, [], ◌∷◌, length, map, filter, refl, sym, ◌∙◌, arith, common_steps, ◌&&◌, ◌==◌, sum_by, AllByRecursion, range_with_len, and_right, cases_eq, eq-eqb, ne_eqb, length-filter, sum_by-cons, cases_Bool, ap, filter_both}
+use Rattle.cq_simulate.proofs.Terms.{bit, rules, ◌≡◌, ℕ, zero, suc, ◌+◌, ◌<◌, ◌≤◌, Bool, true, false, cond, List, [], ◌∷◌, length, map, filter, refl, sym, ◌∙◌, arith, common_steps, ◌&&◌, ◌==◌, sum_by, AllByRecursion, range_with_len, and_right, cases_eq, eq-eqb, ne_eqb, length-filter, sum_by-cons, ap, filter_both, filter_agree}
 
 -- how many pass
 abbrev pub tally : {X : Type 0} → (X → Bool) → List X → ℕ
@@ -18,8 +18,7 @@ module _ {X : Type 0} where
   tally_both p q xs = ap length (filter_both p q xs)
 
   pub tally_turned : (p q : X → Bool) (xs : List X) → tally (λ x. p x && q x) xs ≡ tally p (filter q xs)
-  tally_turned p q [] = refl
-  tally_turned p q (x ∷ xs) = grind (arith, common_steps, one_more, tally_turned p q xs)
+  tally_turned p q xs = grind (arith, common_steps, filter_both p q, filter_agree (λ x. q x && p x) (λ x. p x && q x))
 
   pub tally_same : (p q : X → Bool) (xs : List X) → AllByRecursion (λ x. p x ≡ q x) xs → tally p xs ≡ tally q xs
   tally_same p q [] same = refl
@@ -49,15 +48,6 @@ one_summed : (f : ℕ → ℕ) (a n k : ℕ) → a ≤ k → k < a + n → ((i :
 one_summed f a zero k from to none = absurd (omega arith)
 one_summed f a (suc n) k from to none = search (rules, sum_by-cons, cases_eq, none_summed, one_summed f (a + 1) n k)
 
--- where one number alone passes, and it is among them, it is one, if something else holds too, and else none
-pub one_where : (b : Bool) (p : ℕ → Bool) (n k : ℕ) → (b ≡ true → k < n) → p k ≡ true → ((i : ℕ) → p i ≡ true → i ≡ k) →
-    tally (λ i. b && p i) (range_with_len 0 n) ≡ bit b
-one_where true p n k inside here only =
-    let low : k < n = inside refl in
-    length-filter p (range_with_len 0 n) ∙ one_summed (λ i. bit (p i)) 0 n k (omega arith) (omega arith)
-    (search (arith, rules, cases_Bool)) ∙ ap bit here
-one_where false p n k inside here only = grind (arith, common_steps, length-filter, none_summed)
-
 -- what holds of each number of a row
 pub all_in_row : (P : ℕ → Type 0) (a n : ℕ) → ((i : ℕ) → i < a + n → P i) → AllByRecursion P (range_with_len a n)
 all_in_row P a zero each = tt
@@ -71,6 +61,11 @@ none_is k a (suc n) past = grind (arith, common_steps, ne_eqb, none_is k (a + 1)
 pub one_is : (k a n : ℕ) → a ≤ k → k < a + n → filter (λ i. i == k) (range_with_len a n) ≡ k ∷ []
 one_is k a zero from to = absurd (omega arith)
 one_is k a (suc n) from to = grind (arith, common_steps, cases_eq, eq-eqb, ne_eqb, none_is, one_is k (a + 1) n)
+
+-- that number alone passes, if something else holds too, and else none
+pub one_where : (b : Bool) (n k : ℕ) → k < n → tally (λ i. b && i == k) (range_with_len 0 n) ≡ bit b
+one_where true n k inside = ap length (one_is k 0 n (omega arith) (omega arith))
+one_where false n k inside = grind (arith, common_steps, length-filter, none_summed)
 
 -- ## Sums
 
