@@ -1,7 +1,7 @@
 -- What arrives at an input are its packets, one after another, each from its first cell to its last. Cell 0 of a
 -- packet is its first cell and no other is, and the next packet has the next number. At what is no input nothing
 -- arrives.
-use Rattle.cq_simulate.proofs.Terms.{get_or_past, common_steps, rules, cond, filter, filter-append, Bool, ◌≡◌, ℕ, zero, suc, ◌+◌, ◌<◌, ◌≤◌, List, [], ◌∷◌, ◌++◌, length, map, refl, inr, arith, flat_map, range_with_len, cases_lt, ne_eqb, Arrival, arriving, enough, traffic_of, Cell, cells_above, at_input, traffic_is, arrivals, arrivals_at, arrivals_of, cell_of, cells, IsTraffic, come_in_order, AreOfPackets, cells_at, Captured, AreTables, ports_of, Tables, arrivals_for, map-append, true, sym, ap, ◌∙◌, AllByRecursion, flat_map-append, ◌&&◌, ◌==◌, Departure, came_in_flow, is_from, packet_at, packets_of, route, LeftInOrder, LeftInPackets, of_packet, filter_none, all_weaker, filter_both, filter_agree, cases_eq}
+use Rattle.cq_simulate.proofs.Terms.{get_or_past, common_steps, rules, cond, filter, filter-append, Bool, ◌≡◌, ℕ, zero, suc, ◌+◌, ◌<◌, ◌≤◌, List, [], ◌∷◌, ◌++◌, length, map, refl, arith, flat_map, range_with_len, cases_lt, ne_eqb, Arrival, arriving, enough, traffic_of, Cell, cells_above, at_input, traffic_is, arrivals, arrivals_at, arrivals_of, cell_of, cells, IsTraffic, come_in_order, AreOfPackets, cells_at, Captured, AreTables, ports_of, Tables, arrivals_for, map-append, true, sym, ap, ◌∙◌, AllByRecursion, flat_map-append, ◌&&◌, ◌==◌, Departure, came_in_flow, is_from, packet_at, packets_of, route, LeftInOrder, LeftInPackets, of_packet, filter_none, all_weaker, filter_both, filter_agree, cases_eq, min}
 use Rattle.std.proofs.lemmas.Simd.{map-map}
 use Rattle.cq_simulate.proofs.Runnable.{later_rise}
 use Rattle.cq_simulate.proofs.Tallies.{one_is}
@@ -14,18 +14,13 @@ all_or_none p f b same a zero = grind (arith, common_steps)
 all_or_none p f b same a (suc n) = grind (arith, common_steps, all_or_none p f b same (a + 1) n)
 
 module _ (t : Tables) (captures : List (List Captured)) (input : ℕ) where
-  -- the other cells of a packet, and then what is of packets behind it
-  others : (k a n : ℕ) (rest : List Cell) → 1 ≤ a → AreOfPackets (k + 1) rest →
-      AreOfPackets (k + 1) (map (cell_of t captures input k) (range_with_len a n) ++ rest)
+  -- the cells of a packet from one on, and then what is of packets behind it
+  others : (k a n : ℕ) (rest : List Cell) → 0 < a + n → AreOfPackets (k + 1) rest →
+      AreOfPackets (min 1 a + k) (map (cell_of t captures input k) (range_with_len a n) ++ rest)
   unfolding cell_of
-  others k a zero rest some of = of
+  others k zero zero rest some of = absurd (omega arith)
+  others k (suc a) zero rest some of = grind (arith, common_steps)
   others k a (suc n) rest some of = grind (arith, common_steps, ne_eqb, others k (a + 1) n rest)
-
-  one_packet : (k m : ℕ) (rest : List Cell) → 0 < m → AreOfPackets (k + 1) rest →
-      AreOfPackets k (map (cell_of t captures input k) (range_with_len 0 m) ++ rest)
-  unfolding cell_of
-  one_packet k zero rest some of = absurd (omega arith)
-  one_packet k (suc n) rest some of = (inr (omega arith, refl), others k 1 n rest (omega arith) of)
 
   -- all cells of a packet
   abbrev pub packet_cells : ℕ → List Cell
@@ -34,7 +29,7 @@ module _ (t : Tables) (captures : List (List Captured)) (input : ℕ) where
   packets : (k n : ℕ) → AreOfPackets k (flat_map packet_cells (range_with_len k n))
   unfolding cells
   packets k zero = tt
-  packets k (suc n) = grind (arith, common_steps, one_packet, cells_above, packets (k + 1) n)
+  packets k (suc n) = grind (arith, common_steps, others k 0, cells_above, packets (k + 1) n)
 
   -- some packets, as they arrive
   pub line_cells : (ks : List ℕ) →
@@ -54,12 +49,6 @@ module _ (t : Tables) (captures : List (List Captured)) (input : ℕ) where
   unfolding arrivals_at
   at_line = grind (arith, common_steps, line_cells, packets)
 
-pub of_packets : (t : Tables) (captures : List (List Captured)) (input : ℕ) → AreTables t →
-    length captures ≡ ports_of t.setup → input < length captures →
-    AreOfPackets 0 (cells_at input (traffic_of (arrivals t captures)))
-of_packets t captures input tables as_many inside =
-    search (rules, later_rise, traffic_is, come_in_order, at_input, at_line)
-
 -- ## What is no input
 
 module _ (ports classes : ℕ) (came : List Arrival) (traffic : IsTraffic ports classes came) (i : ℕ)
@@ -68,13 +57,11 @@ module _ (ports classes : ℕ) (came : List Arrival) (traffic : IsTraffic ports 
   none_from a zero = refl
   none_from a (suc n) = grind (arith, common_steps, arrivals_for ports classes came a traffic, none_from (a + 1) n)
 
-  none_come : cells_at i (traffic_of came) ≡ []
-  unfolding traffic_of
-  none_come = none_from 0 (enough came)
-
 pub packets_come : (t : Tables) (captures : List (List Captured)) (input : ℕ) → AreTables t →
     length captures ≡ ports_of t.setup → AreOfPackets 0 (cells_at input (traffic_of (arrivals t captures)))
-packets_come t captures input tables as_many = search (rules, of_packets, none_come, traffic_is, cases_lt)
+unfolding traffic_of
+packets_come t captures input tables as_many =
+    search (rules, later_rise, traffic_is, come_in_order, at_input, at_line, none_from, cases_lt)
 
 -- What arrives of a flow are the cells of its packets, one packet after another. So where some packets are taken of it,
 -- with all their cells, what is taken are the cells of a list of packets. The numbers of the packets rise: those that
@@ -85,9 +72,8 @@ packets_come t captures input tables as_many = search (rules, of_packets, none_c
 alone : (p : ℕ → Bool) (a n k : ℕ) → a ≤ k → k < a + n → p k ≡ true →
     filter (λ g. g == k) (filter p (range_with_len a n)) ≡ k ∷ []
 alone p a n k from to is =
-    filter_both (λ g. g == k) p (range_with_len a n)
-    ∙ filter_agree _ (λ g. g == k) (λ g. grind (arith, common_steps, cases_eq, ne_eqb)) (range_with_len a n)
-    ∙ one_is k a n from to
+    let same = filter_agree (λ g. p g && g == k) (λ g. g == k) (λ g. grind (arith, common_steps, cases_eq, ne_eqb)) in
+    cc (filter_both (λ g. g == k) p (range_with_len a n), same (range_with_len a n), one_is k a n from to)
 
 each_alone : (p q : ℕ → Bool) (a n b m : ℕ) → a ≤ b → b + m ≤ a + n →
     flat_map (λ k. filter (λ g. g == k) (filter p (range_with_len a n))) (filter q (filter p (range_with_len b m)))
@@ -147,11 +133,9 @@ module _ (t : Tables) (captures : List (List Captured)) (input : ℕ) where
       packets = λ c j. filter some.is_taken (packets_in c j);
       left = λ c j.
           let n = length (packets_of captures input) in
+          let ks = packets_in c j in
           let taken : Cell → Bool = λ cell. some.is_taken cell.id.packet in
-          some.left c j ∙ ap (filter taken) (flow_is c j)
-          ∙ by_packet t captures input taken some.is_taken (λ k m. refl) (packets_in c j)
-          ∙ ap (flat_map (packet_cells t captures input))
-          (sym (each_alone (goes_in c j) some.is_taken 0 n 0 n (omega arith) (omega arith)))
-          ∙ sym (parts_of (packets_in c j) (filter some.is_taken (packets_in c j)))
-          ∙ ap (λ cells. flat_map (of_packet cells) (filter some.is_taken (packets_in c j))) (sym (flow_is c j));
+          let kept = by_packet t captures input taken some.is_taken (λ k m. refl) ks in
+          let each = each_alone (goes_in c j) some.is_taken 0 n 0 n (omega arith) (omega arith) in
+          cc (some.left c j, flow_is c j, parts_of ks (filter some.is_taken ks));
     }

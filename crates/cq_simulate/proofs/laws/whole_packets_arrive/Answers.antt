@@ -1,5 +1,5 @@
-use Rattle.cq_simulate.proofs.OfPackets.{of_packets}
+use Rattle.cq_simulate.proofs.OfPackets.{packets_come}
 use Rattle.cq_simulate.proofs.laws.whole_packets_arrive.Goals as goal
 
 pub returns : goal.returns
-returns c = of_packets
+returns c = λ t captures input tables as_many _. packets_come t captures input tables as_many
