@@ -2,7 +2,7 @@
 -- are the others, and each output stands where a walk over its own departures would stand (`SoFar`), with the packets
 -- of that walk in its bytes (`Walked`). One departure more goes on with the walk at its output, and passes by those
 -- at all others.
-use Rattle.cq_simulate.proofs.Terms.{rules, ◌≡◌, ◌≢◌, ℕ, ◌+◌, ◌<◌, ◌≤◌, All, List, [], ◌∷◌, ◌++◌, length, map, drop, get_or, set, Option, Some, None, refl, sym, ap, ◌∙◌, subst, arith, suc, true, false, take, zero, cond, common_steps, IfSome, cases_eq, cond-true, cond-false, eq-eqb, ne_eqb, and_from, and_left, and_right, append-nil, drop_more, get_or-set_other, get_or-set_same, length-drop, length-set, map-append, take_more, take-append-drop, get_or_default, unpacked, Departure, Captured, longest_body, rows_from, ports_of, Tables, ArePacked, HaveLeftOf, ends_packet_at, leaving, packets_out, CanBeJoined, IsEmptied, Took, left_with, records_of, Fits, opened, piece_at, filter, filter-append, All-push, leaves_in_flow, left_in_flow, JoinerView, open_after, open_at, packet_at, packets_of, length-rows_from, PackedDeparture, written_with, OutPacket, PacketRow, flat_map-map, length-map-range_with_len, ◌-◌, ◌*◌, flat_map, min, ◌==◌, range_with_len, flat_map-append, Cell, cells, cells_of, cell_of, arrivals, came_in_flow, AreTables, of_packet, AreCutFrom, Piece, Open, bytes_taken, with_piece, pieces_give_frame, range_more, filter_none, recursion_from_All, JoinsOn}
+use Rattle.cq_simulate.proofs.Terms.{rules, ◌≡◌, ◌≢◌, ℕ, ◌+◌, ◌<◌, ◌≤◌, All, List, [], ◌∷◌, ◌++◌, length, map, drop, get_or, set, Option, Some, None, refl, sym, ap, ◌∙◌, subst, arith, suc, true, false, take, zero, cond, common_steps, IfSome, cases_eq, cond-true, cond-false, eq-eqb, ne_eqb, and_from, and_left, and_right, append-nil, drop_more, get_or-set_other, get_or-set_same, length-drop, length-set, map-append, take_more, take-append-drop, get_or_default, unpacked, Departure, Captured, longest_body, rows_from, ports_of, Tables, ArePacked, HaveLeftOf, ends_packet_at, leaving, packets_out, CanBeJoined, IsEmptied, Took, left_with, records_of, Fits, opened, piece_at, filter, filter-append, All-push, leaves_in_flow, left_in_flow, JoinerView, open_after, open_at, packet_at, packets_of, length-rows_from, PackedDeparture, written_with, OutPacket, PacketRow, length-map-range_with_len, ◌-◌, ◌*◌, flat_map, min, ◌==◌, range_with_len, flat_map-append, Cell, cells, cell_of, arrivals, came_in_flow, AreTables, of_packet, AreCutFrom, Piece, Open, pieces_give_frame, range_more, filter_none, recursion_from_All, JoinsOn, cells_above, length-append}
 use Rattle.cq_pcap.specs.Written.{written}
 use Rattle.cq_simulate.specs.declared.packing.Packing.{Packing}
 use Rattle.cq_simulate.proofs.Departed.{departed_captured, departed_class, departed_output}
@@ -33,16 +33,16 @@ module _ (t : Tables) (captures : List (List Captured)) (input : ℕ) (some : 0 
   abbrev frame : ℕ → List ℕ
   frame k = (packet_at captures input k).body
 
-  -- the pieces of the first cells of a packet
-  abbrev pieces : ℕ → ℕ → List ℕ
-  pieces k m = flat_map (piece_of (frame k) t.cell_bytes) (range_with_len 0 m)
-
-  pieces_more : (k m : ℕ) → pieces k (m + 1) ≡ pieces k m ++ piece_of (frame k) t.cell_bytes m
-  pieces_more k m = grind (arith, common_steps, flat_map, range_more, flat_map-append, append-nil)
-
   -- a cell of a packet, with what it carries
   abbrev carried : ℕ → ℕ → Piece
   carried k i = record { cell = cell_of t captures input k i; bytes = piece_of (frame k) t.cell_bytes i }
+
+  -- the pieces of the first cells of a packet
+  abbrev pieces : ℕ → ℕ → List ℕ
+  pieces k m = flat_map (λ (x : Piece). x.bytes) (map (carried k) (range_with_len 0 m))
+
+  pieces_more : (k m : ℕ) → pieces k (m + 1) ≡ pieces k m ++ piece_of (frame k) t.cell_bytes m
+  pieces_more k m = grind (arith, common_steps, flat_map, range_more, map-append, flat_map-append, append-nil)
 
   all_cut : (k m n : ℕ) → AreCutFrom (frame k) t.cell_bytes m (map (carried k) (range_with_len m n))
   unfolding cell_of
@@ -51,78 +51,45 @@ module _ (t : Tables) (captures : List (List Captured)) (input : ℕ) (some : 0 
 
   all_pieces : (k : ℕ) → pieces k (cells t captures input k) ≡ frame k
   unfolding cells
-  all_pieces k =
-      let n = cells_of (length (frame k)) t.cell_bytes in
-      sym (flat_map-map (λ (p : Piece). p.bytes) (carried k) (range_with_len 0 n))
-      ∙ pieces_give_frame (frame k) t.cell_bytes (map (carried k) (range_with_len 0 n)) some (all_cut k 0 n)
-      (length-map-range_with_len (carried k) 0 n)
+  all_pieces k = search (arith, rules, pieces_give_frame (frame k), all_cut, length-map-range_with_len)
 
   -- what is open after the first cells of a packet, where some are left
   abbrev open_at_cell : ℕ → ℕ → Option Open
   open_at_cell k zero = None
   open_at_cell k (suc m) = Some (record { packet = k; taken = suc m; body = pieces k (suc m) })
 
-  -- and where so many are left
-  abbrev open_with : ℕ → ℕ → ℕ → Option Open
-  open_with k m zero = None
-  open_with k m (suc r) = open_at_cell k m
-
-  taken_so_far : (k m : ℕ) → bytes_taken (open_at_cell k m) ≡ pieces k m
-  taken_so_far k zero = refl
-  taken_so_far k (suc m) = refl
-
-  piece_is : (k m : ℕ) → piece_at captures (cell_of t captures input k m) ≡ piece_of (frame k) t.cell_bytes m
-  unfolding cell_of
-  piece_is k m = refl
-
-  whole_is : (k m : ℕ) → (cell_of t captures input k m).last ≡ true →
-      bytes_taken (open_at_cell k m) ++ piece_at captures (cell_of t captures input k m) ≡ frame k
-  unfolding cell_of
-  whole_is k m last =
-      search (arith, rules, taken_so_far k m, piece_is k m, pieces_more k m, all_pieces k)
-
   fits : (k m : ℕ) → Fits captures (open_at_cell k m) (cell_of t captures input k m)
   unfolding cell_of
-  fits k zero = record { next = refl; first = λ _. refl; whole = whole_is k zero }
-  fits k (suc m) = record {
-    next = (refl, refl);
-    first = λ first. absurd (let P : ⊥ = cc in P);
-    whole = whole_is k (suc m);
-  }
+  fits k zero = search (arith, rules, pieces_more k zero, all_pieces k)
+  fits k (suc m) = search (arith, rules, pieces_more k (suc m), all_pieces k)
 
-  grown_is : (k m : ℕ) → Some (with_piece (open_at_cell k m) k (piece_of (frame k) t.cell_bytes m)) ≡ open_at_cell k
-      (m + 1)
-  grown_is k zero = grind (arith, common_steps, append-nil)
-  grown_is k (suc m) = search (arith, rules, pieces_more k (suc m))
-
-  after_cell : (k m r : ℕ) → m + suc r ≡ cells t captures input k →
-      open_after (open_at_cell k m) (cell_of t captures input k m) (piece_at captures (cell_of t captures input k m)) ≡
-      open_with k (m + 1) r
+  after_cell : (k m : ℕ) →
+      open_after (open_at_cell k m) (cell_of t captures input k m) (piece_at captures (cell_of t captures input k m))
+      ≡ cond (m + 1 == cells t captures input k) None (open_at_cell k (m + 1))
   unfolding cell_of
-  after_cell k m zero e = grind (arith, common_steps, eq-eqb)
-  after_cell k m (suc r) e = grind (arith, common_steps, ne_eqb, piece_is, grown_is)
-
-  closed_at_first : (k n : ℕ) → open_with k 0 n ≡ None
-  closed_at_first k zero = refl
-  closed_at_first k (suc n) = refl
+  after_cell k zero = grind (arith, common_steps, append-nil)
+  after_cell k (suc m) = search (arith, rules, pieces_more k (suc m))
 
   walk : (k : ℕ) (later : List Cell) (cell : Cell) (rest : List Cell) →
-      ((p : List Cell) → later ≡ p ++ cell ∷ rest → Fits captures (opened captures None p) cell) → (r m : ℕ) → m + r ≡
-      cells t captures input k → (p : List Cell) → map (cell_of t captures input k) (range_with_len m r) ++ later ≡ p ++
-      cell ∷ rest → Fits captures (opened captures (open_with k m r) p) cell
-  walk k later cell rest go zero m e p is = go p is
-  walk k later cell rest go (suc r) m e [] is =
-      let same : cell_of t captures input k m ≡ cell = cc in subst (Fits captures (open_at_cell k m)) same (fits k m)
-  walk k later cell rest go (suc r) m e (x ∷ p) is = search (rules, after_cell, walk k later cell rest go r (m + 1))
+      ((p : List Cell) → later ≡ p ++ cell ∷ rest → Fits captures (opened captures None p) cell) → (n m : ℕ) → 0 < n →
+      m + n ≡ cells t captures input k → (p : List Cell) →
+      map (cell_of t captures input k) (range_with_len m n) ++ later ≡ p ++ cell ∷ rest →
+      Fits captures (opened captures (open_at_cell k m) p) cell
+  walk k later cell rest go zero m some e p is = absurd (omega arith)
+  walk k later cell rest go (suc n) m some e [] is = search (arith, rules, fits k m)
+  walk k later cell rest go (suc zero) m some e (x ∷ p) is =
+      search (arith, rules, after_cell, eq-eqb, cond-true, go p)
+  walk k later cell rest go (suc (suc n)) m some e (x ∷ p) is =
+      search (arith, rules, after_cell, ne_eqb, cond-false, walk k later cell rest go (suc n) (m + 1))
 
   -- each cell of some packets, one after another
   each_fits : (ks : List ℕ) (p : List Cell) (cell : Cell) (rest : List Cell) →
       flat_map (packet_cells t captures input) ks ≡ p ++ cell ∷ rest → Fits captures (opened captures None p) cell
-  each_fits [] [] cell rest is = absurd (let P : ⊥ = cc in P)
-  each_fits [] (x ∷ p) cell rest is = absurd (let P : ⊥ = cc in P)
-  each_fits (k ∷ ks) p cell rest is = subst (λ (o : Option Open). Fits captures (opened captures o p) cell)
-      (closed_at_first k (cells t captures input k)) (walk k (flat_map (packet_cells t captures input) ks) cell rest
-      (λ q same. each_fits ks q cell rest same) (cells t captures input k) 0 (omega arith) p is)
+  unfolding cells
+  each_fits [] p cell rest is = absurd (omega (arith, ap (λ (l : List Cell). length l) is, length-append {A = Cell}))
+  each_fits (k ∷ ks) p cell rest is =
+      walk k (flat_map (packet_cells t captures input) ks) cell rest (λ q same. each_fits ks q cell rest same)
+      (cells t captures input k) 0 (cells_above (length (frame k)) t.cell_bytes) (omega arith) p is
 
   -- ## A flow of some packets
 
@@ -155,15 +122,12 @@ module _ (captures : List (List Captured)) (input k : ℕ) (capture : List Captu
   capture_is : capture ≡ packets_of captures input
   capture_is = is ∙ get_or_default captures input capture [] in_captures
 
-  in_capture : k < length capture
-  in_capture = let e = ap (λ (l : List Captured). length l) capture_is in omega arith
-
   pub in_rows : (rows : List PacketRow) → rows ≡ rows_from 24 capture → k < length rows
-  in_rows rows e = grind (arith, common_steps, length-rows_from, in_capture)
+  in_rows rows e = search (arith, rules, length-rows_from, capture_is)
 
   pub original_is : (rows : List PacketRow) (d : PacketRow) → rows ≡ rows_from 24 capture →
       (get_or rows k d).original ≡ (packet_at captures input k).original
-  original_is rows d e = rw e (search (arith, rules, original_at, in_capture, capture_is))
+  original_is rows d e = rw e (search (arith, rules, original_at, capture_is))
 
 -- ## One after another
 
@@ -235,15 +199,13 @@ module _ (t : Tables) (captures : List (List Captured)) (sent : List Departure) 
     cell_fits so_far of_run few =
         let i = d.queued.cell.id.input in
         let c = d.queued.cell.class in
-        let parts = ap (λ (l : List Departure). take k sent ++ l)
-        (sym (drop_more sent k e inside)) ∙ take-append-drop k sent in
         let l = of_run.whole i in
         let left = l.left c output in
         let split = flow-append i c output (take k sent) (d ∷ drop (k + 1) sent) in
         let first = of_flow i c output d (drop (k + 1) sent) own_cell in
-        rw (so_far.open_packets i c few) (flow_fits t captures i (omega arith)
-        of_run.tables of_run.captures c output (l.packets c output)
-        (left_in_flow i c output (take k sent)) d.queued.cell (left_in_flow i c output (drop (k + 1) sent)) (cc))
+        rw (so_far.open_packets i c few) (flow_fits t captures i (omega arith) of_run.tables of_run.captures c output
+        (l.packets c output) (left_in_flow i c output (take k sent)) d.queued.cell
+        (left_in_flow i c output (drop (k + 1) sent)) (cc (drop_more sent k e inside, take-append-drop k sent)))
 
     module _ {joiner joiner_new : JoinerView} {packets : List OutPacket}
         (so_far : SoFar t captures sent output k joiner packets) (joined : JoinsOn captures d joiner joiner_new) where
@@ -351,13 +313,9 @@ module _ {t : Tables} {captures : List (List Captured)} {sent : List Departure} 
         gone_on : Walked t captures sent d.output (so_far.done + 1) new
         gone_on =
             let o = left_with t captures (get_or sent so_far.done d) in
-            record {
-              packets = own.packets ++ listed o;
-              so_far =
-                  went_on t captures sent d.output so_far.done d inside its_output own.so_far took_here.joined o refl
-                  refl took_here.small;
-              bytes = took_here.bytes ∙ ap (λ (bs : List ℕ). bs ++ records_of o) own.bytes ∙ written_on o;
-            }
+            let on = went_on t captures sent d.output so_far.done d inside its_output own.so_far took_here.joined o refl
+            refl took_here.small in
+            let bytes = written_on o in search (arith, rules, on, own.bytes, took_here.bytes)
 
         at_another : (j : ℕ) (p : Packing) → j < length places → j ≢ d.output →
             Walked t captures sent j (so_far.done + 1) (get_or (set places d.output new) j p)

@@ -5,8 +5,7 @@ use Rattle.cq_simulate.proofs.packets.put_together.Goals as goal
 use Rattle.cq_simulate.proofs.packets.put_together.Goals.{then-departure-output+in_ok-left+in-Some+in_ok-push-in-Some, then-departure-output+in_ok-left+in-None, else-departure-output}
 
 pub departures-init : goal.departures-init
-departures-init c = at_first c.args.tables.now c.args.captures.now c.args.sent.now c.args.output c.args.joiner.now
-    c.args.packets.now.items c.requires.inputs c.requires.classes c.requires.nothing c.requires.none
+departures-init c = search (arith, rules, at_first)
 
 pub take-requires-clause-input : goal.take-requires-clause-input
 take-requires-clause-input c = search (arith, rules, departed_captured)

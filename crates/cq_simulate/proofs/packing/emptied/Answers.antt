@@ -1,14 +1,11 @@
-use Rattle.cq_simulate.proofs.Terms.{rules, arith, All, sym, subst, All-push, IsEmptied}
+use Rattle.cq_simulate.proofs.Terms.{rules, arith, All-push, IsEmptied}
 use Rattle.cq_simulate.proofs.packing.emptied.Goals as goal
 
 pub places-preserved : goal.places-preserved
 places-preserved c =
     let is = IsEmptied c.args.ports c.args.classes in
-    record {
-      most = omega (arith, c.len.ensures, c.places-test.true, c.in_ok-push.ensures.len);
-      each = subst (All is) (sym c.in_ok-push.ensures.items)
-          (All-push is c.places.places.items c.in_ok-new.field-0 c.places.invariant.each c.in_ok-new.ensures);
-    }
+    let each = All-push is c.places.places.items c.in_ok-new.field-0 c.places.invariant.each c.in_ok-new.ensures in
+    search (arith, rules, each)
 
 pub returns-clause-outputs : goal.returns-clause-outputs
 returns-clause-outputs c = search (arith, rules)

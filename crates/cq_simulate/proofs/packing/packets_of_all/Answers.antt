@@ -7,9 +7,8 @@ departures-init c = search (arith, rules, none_yet)
 
 pub index_mut-requires : goal.index_mut-requires
 index_mut-requires c =
-    let inside : c.departure-departure.result.output < length c.departures.places.items =
-    at_port c.departures.invariant c.in-Some.ensures c.departure-departure.ensures c.requires in
-    omega (arith, c.departures.places.ok.0)
+    let inside = at_port c.departures.invariant c.in-Some.ensures c.departure-departure.ensures c.requires in
+    search (arith, rules)
 
 pub take-requires-clause-can : goal.take-requires-clause-can
 take-requires-clause-can c =
