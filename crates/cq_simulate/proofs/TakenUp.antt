@@ -1,8 +1,7 @@
 -- A fabric can go on from where it stands, whether it is fresh or was taken up. What waits in it came before the slot
 -- that it stands at, and what is to come comes from that slot on, so both together are no more than what comes in all:
 -- at each input, for each output, and of all cells.
-use Rattle.cq_simulate.proofs.Terms.{length-filter_both, ◌≡◌, ℕ, ◌+◌, ◌-◌, ◌*◌, ◌≤◌, ◌<◌, ◌^◌, Bool, false, List, [], ◌∷◌, length, map, Option, refl, sym, ◌∙◌, arith, rules, common_steps, ◌==◌, All, sum, range_with_len, slice_index, cases_lt, le-leb, le-ltb, lt-leb, lt-ltb, ne_eqb, length-map, length-replicate, get_or-map-range_with_len, Arrival, RoomView, Departure, Transfer, IsTraffic, is_from, is_to, number_of, Scheduled, Setup, CanGoOn, EngineView, fresh_engine, thawed_engine, total, total_more, total_none, zero_fits, input, fabric_held, held_for, empty_list, Machine, class_count, GoesOn, came_before, goes_on, switch_of, Taken, classes_of, ports_of, Tables, fixed_of, machine_from, machine_of, machines_of, ArePortsFor, GoesOnFrom, IsReadyOn, to_come, CanBeTakenUp, IsScheduleFor, Ports, All-from_recursion, IsSoundFabric, nothing_for, fabric_listed}
-use Rattle.cq_simulate.proofs.FabricCounts.{summed, total_most}
+use Rattle.cq_simulate.proofs.Terms.{length-filter_both, ◌≡◌, ℕ, ◌+◌, ◌-◌, ◌*◌, ◌≤◌, ◌<◌, ◌^◌, Bool, false, List, [], ◌∷◌, length, map, Option, refl, sym, ◌∙◌, arith, rules, common_steps, ◌==◌, All, sum, range_with_len, slice_index, cases_lt, le-leb, le-ltb, lt-leb, lt-ltb, ne_eqb, length-map, length-replicate, get_or-map-range_with_len, Arrival, RoomView, Departure, Transfer, IsTraffic, is_from, is_to, number_of, Scheduled, Setup, CanGoOn, EngineView, fresh_engine, thawed_engine, zero_fits, input, fabric_held, held_for, empty_list, Machine, class_count, GoesOn, came_before, goes_on, switch_of, Taken, classes_of, ports_of, Tables, fixed_of, machine_from, machine_of, machines_of, ArePortsFor, GoesOnFrom, IsReadyOn, to_come, CanBeTakenUp, IsScheduleFor, Ports, All-from_recursion, IsSoundFabric, nothing_for, fabric_listed, zero, suc, filter, filter_both, filter_agree, not, cases_eq, sum_by-cons}
 use Rattle.cq_simulate.specs.ScheduleFor.{by_port}
 
 -- ## What came and what is to come
@@ -19,23 +18,14 @@ all_parts next came = grind (arith, common_steps, length-filter_both, lt-ltb, le
 
 -- ## Of all inputs, and for all outputs
 
--- the arrivals of each kind, together no more than all
-of_kinds : (kind : Arrival → ℕ) (xs : List Arrival) (n : ℕ) →
-    total (λ k. number_of (λ a. kind a == k) xs) 0 n ≤ length xs
-of_kinds kind [] n = let none = total_none (λ k. number_of (λ a. kind a == k) []) 0 n (λ k. refl) in omega arith
-of_kinds kind (a ∷ xs) n =
-    let rest = of_kinds kind xs n in
-    let more = total_more (λ k. number_of (λ b. kind b == k) (a ∷ xs)) (λ k. number_of (λ b. kind b == k) xs) (kind a) 1
-    0 n (λ k ne. let off = ne_eqb (kind a) k (λ e. ne (sym e)) in grind (arith, common_steps))
-    (grind (arith, common_steps)) in
-    omega arith
-
 -- where none of these numbers is more than the arrivals of its kind, all together are no more than the arrivals
-kinds_few : (f : ℕ → ℕ) (kind : Arrival → ℕ) (xs : List Arrival) (n : ℕ) →
-    ((k : ℕ) → f k ≤ number_of (λ a. kind a == k) xs) → sum (map f (range_with_len 0 n)) ≤ length xs
-kinds_few f kind xs n few =
-    let each = total_most f (λ k. number_of (λ a. kind a == k) xs) (λ k. 0) 0 n (λ k. omega (arith, few k)) in
-    rw (summed f 0 n) (search (arith, rules, total_none, of_kinds))
+kinds_few : (kind : Arrival → ℕ) (f : ℕ → ℕ) (a n : ℕ) (xs : List Arrival) →
+    ((k : ℕ) → a ≤ k → f k ≤ number_of (λ x. kind x == k) xs) → sum (map f (range_with_len a n)) ≤ length xs
+kinds_few kind f a zero xs few = omega arith
+kinds_few kind f a (suc n) xs few =
+    let others = kinds_few kind f (a + 1) n (filter (λ x. not (kind x == a)) xs) (λ k more.
+    search (arith, rules, few k, filter_both, filter_agree, cases_eq, ne_eqb)) in
+    grind (arith, common_steps, sum_by-cons, length-filter_both, few)
 
 -- ## It goes on
 
@@ -74,8 +64,9 @@ goes_from {t} {s} e sent note fit has machines classes from to running few sent_
     let every = all_parts e.next s.came in
     let before = came_before e.next s.came in
     let ports = length e.fabric.inputs in
-    let held = kinds_few (λ j. held_for j e.fabric) (λ a. a.cell.output) before ports has.buffers in
-    let listed = kinds_few (λ i. length (input e.fabric i)) (λ a. a.cell.id.input) before ports has.lists in
+    let held = kinds_few (λ a. a.cell.output) (λ j. held_for j e.fabric) 0 ports before (λ j _. has.buffers j) in
+    let listed = kinds_few (λ a. a.cell.id.input) (λ i. length (input e.fabric i)) 0 ports
+    before (λ i _. has.lists i) in
     search (arith, rules, both_parts, room_at, has.lost)
 
 -- ## A fresh one
