@@ -2,12 +2,9 @@
 -- output has sent no more cells than the number of that slot, and no more than the slots so far: a slot in which it
 -- sends adds one cell, and then the slots are one more than the number of that slot. What was counted before goes on
 -- so, and before the first slot nothing was counted.
-use Rattle.cq_simulate.proofs.Terms.{bit, common_steps, rules, ◌≡◌, ℕ, zero, suc, ◌+◌, ◌≤◌, Bool, false, cond, List, [], ◌∷◌, map, Option, None, refl, arith, All, All-from_recursion, max, fold, is_some, slice_index_or, AllByRecursion, enumerate_from, list_any, cond_both, Cell, Queued, Figures, Marked, Machine, IsInputBest, Fabric, SlotRecord, FabricRun, LimitedFabricRun, LimitedRecord, slots_in, recorded, sends, output_after, figures_after, figures_of, OutputFigures, figures_fold, no_figures}
+use Rattle.cq_simulate.proofs.Terms.{bit, common_steps, rules, ◌≡◌, ℕ, zero, suc, ◌+◌, ◌≤◌, false, cond, List, [], ◌∷◌, map, Option, None, refl, arith, All, All-from_recursion, max, fold, is_some, slice_index_or, AllByRecursion, enumerate_from, list_any, cond_both, Cell, Queued, Figures, Marked, Machine, IsInputBest, Fabric, SlotRecord, FabricRun, LimitedFabricRun, LimitedRecord, slots_in, recorded, sends, output_after, figures_after, figures_of, OutputFigures, figures_fold, no_figures, recursion_from_All, get_or-replicate, length-replicate}
 
 -- ## The records of a run
-
-one_at_most : (b : Bool) → bit b ≤ 1
-one_at_most b = grind (arith, common_steps)
 
 -- numbered in turn, from this slot on
 abbrev pub AreNumbered : ℕ → List SlotRecord → Type 0
@@ -49,7 +46,7 @@ outputs_after : (r : SlotRecord) (slots j : ℕ) (ys : List OutputFigures) → s
 unfolding output_after
 outputs_after r slots j [] low each = tt
 outputs_after r slots j (y ∷ ys) low each =
-    search (arith, rules, one_at_most, cond_both, none_sent, outputs_after r slots (j + 1) ys low each.1)
+    search (arith, rules, cond_both, none_sent, outputs_after r slots (j + 1) ys low each.1)
 
 counts_after : (r : SlotRecord) (x : Figures) → CountsBefore r.slot x → CountsBefore (r.slot + 1) (figures_after x r)
 unfolding figures_after
@@ -62,8 +59,7 @@ counts_on slot (r ∷ rs) x numbered before =
     grind (arith, common_steps, counts_after, counts_on (slot + 1) rs (figures_after x r) numbered.1)
 
 none_yet : (ports : ℕ) → AllByRecursion (λ y. y.cells ≤ 0) (no_figures ports).outputs
-none_yet zero = tt
-none_yet (suc n) = (omega arith, none_yet n)
+none_yet ports = search (arith, rules, recursion_from_All, get_or-replicate, length-replicate)
 
 pub once_a_slot : (ms : List Machine) (traffic : List (List (Option Cell))) (f g : Fabric) (rs : List SlotRecord)
     (ports : ℕ) → FabricRun IsInputBest ms 0 traffic f rs g → All (λ x. x.cells ≤ (figures_of ports rs).slots)
