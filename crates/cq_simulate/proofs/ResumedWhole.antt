@@ -2,7 +2,7 @@
 -- state says was sent, and then what waits in it, are the arrivals that it names, in their order. What waits leaves
 -- first, as it does from the list of the ideal switch beside it, and then what is admitted of what comes. A packet
 -- that the state names is named with all its cells, and goes on as it began.
-use Rattle.cq_simulate.proofs.Terms.{rules, ◌≡◌, ℕ, ◌+◌, ◌<◌, ◌≤◌, Bool, not, List, [], ◌∷◌, ◌++◌, length, filter, Option, refl, sym, ap, ◌∙◌, ⊎_elim, arith, common_steps, All, AllByRecursion, cases_lt, append_assoc, map-append, take_all, filter-append, get_or-map-range_with_len, Arrival, Cell, traffic_is, arrivals, schedule_of, IsTraffic, come_in_order, comes_at_input, AreOfClasses, present, flow_came, no_port, is_of_flow, of_flow, shown, is_run_of, comes_from, line_at, rest_of, Marked, admitted_in, arriving_from, IsRunnable, came_in_flow, comes_in_flow, left_in_flow, departures_of, IdealState, LimitedRan, AreForPorts, AreOfPackets, cells_at, agrees_of, empty_together, Agrees, Fabric, ideal_of, LimitedRunsAlike, LimitedFabricRun, LimitedRecord, admissions_in, slots_in, gone_in, Captured, list_of, IsInputBest, machine_at, firsts_at, frozen_told, is_refused, latest, marks_told, sent_told, taken_of, IsResumed, Kept, RunsOn, IsSound, HasShape, Switch, switch_of, fabric_told, is_named, named_in, Taken, EachPair, GoesOn, goes_on, all_from_has, AreTables, classes_of, ports_of, Tables, openings_of, LeaveInOrder, LeaveWhole, LeftInOrder, CanBeTakenUp, IsInRange, State, slots_fit, all_filter, all_in_range, class_in_slot, none_came, flow_on, whole_on, StandAt, stand_in, best_act_alike, most_ports}
+use Rattle.cq_simulate.proofs.Terms.{rules, ◌≡◌, ℕ, ◌+◌, ◌<◌, ◌≤◌, Bool, not, List, [], ◌∷◌, ◌++◌, length, filter, Option, refl, sym, ap, ◌∙◌, ⊎_elim, arith, common_steps, All, AllByRecursion, cases_lt, append_assoc, map-append, take_all, filter-append, get_or-map-range_with_len, Arrival, Cell, traffic_is, arrivals, schedule_of, IsTraffic, come_in_order, comes_at_input, AreOfClasses, present, flow_came, no_port, is_of_flow, of_flow, shown, is_run_of, comes_from, line_at, rest_of, Marked, admitted_in, arriving_from, IsRunnable, came_in_flow, comes_in_flow, left_in_flow, departures_of, IdealState, LimitedRan, AreForPorts, AreOfPackets, cells_at, agrees_of, empty_together, Agrees, Fabric, ideal_of, LimitedRunsAlike, LimitedFabricRun, LimitedRecord, admissions_in, slots_in, gone_in, Captured, list_of, IsInputBest, machine_at, firsts_at, frozen_told, is_refused, latest, marks_told, sent_told, taken_of, IsResumed, Kept, RunsOn, IsSound, HasShape, Switch, switch_of, fabric_told, is_named, named_in, Taken, EachPair, GoesOn, goes_on, all_from_has, AreTables, classes_of, ports_of, Tables, openings_of, LeaveInOrder, LeaveWhole, LeftInOrder, CanBeTakenUp, IsInRange, State, slots_fit, all_filter, all_in_range, class_in_slot, none_came, flow_on, whole_on, StandAt, stand_in, best_act_alike, most_ports, filter_both, filter_agree}
 use Rattle.cq_ideal.proofs.RestAtInput.{cells_of}
 use Rattle.cq_simulate.proofs.NamedFlow.{line_rises, told_flow, stands_there, IsEarlier, early_of, is_taken, packets_behind, parted_at, taken_before, taken_behind, next_after, packet}
 use Rattle.cq_simulate.proofs.OfPackets.{as_packets, none_at, none_from, packets_come}
@@ -20,8 +20,7 @@ cells_kept p q (a ∷ xs) same = grind (arith, common_steps, cells_kept p q xs s
 -- the arrivals of a flow come to its input
 flow_at : (i c j : ℕ) (came : List Arrival) →
     filter (comes_in_flow i c j) came ≡ filter (comes_in_flow i c j) (line_at i came)
-flow_at i c j [] = refl
-flow_at i c j (a ∷ came) = grind (arith, common_steps, flow_at i c j came)
+flow_at i c j came = search (rules, filter_both, filter_agree)
 
 no_first : (xs ys : List Cell) → xs ++ ys ≡ [] → xs ≡ []
 no_first [] ys none = refl
@@ -90,12 +89,9 @@ module _ (t : Tables) (captures : List (List Captured)) (are : AreTables t) (man
   fabric_runs : LimitedFabricRun IsInputBest w.limits w.machines next slots start rs resumed.end
   fabric_runs = rw (take_all (length rs) rs (omega arith)) at runs_on.after
 
-  fits : AllByRecursion (AreForPorts (length f.inputs) (classes_of t.setup)) slots
-  fits = grind (arith, common_steps, many_are, slots_fit, comes_as)
-
   alike : LimitedRunsAlike w.limits w.machines next slots beside rs resumed.end
   alike = (best_act_alike w.limits w.machines).run next (classes_of t.setup) slots start resumed.end beside rs
-      (record { states = agrees; marks = refl }) fits fabric_runs
+      (record { states = agrees; marks = refl }) (search (arith, rules, many_are, slots_fit, comes_as)) fabric_runs
 
   abbrev ran : LimitedRan
   ran = record { admissions = admissions_in rs; gone = gone_in (slots_in rs); after = alike.after }
@@ -185,9 +181,8 @@ module _ (t : Tables) (captures : List (List Captured)) (are : AreTables t) (man
       waits = shown i c (list_of (ideal_of f).lists j)
 
       came_parts : came_in_flow i c j came ≡ cells_of (filter flow early) ++ later
-      came_parts = ap cells_of
-          (flow_at i c j came ∙ ap (filter flow) (parted_at next line rises) ∙ filter-append flow early late)
-          ∙ map-append (λ (a : Arrival). a.cell) (filter flow early) (filter flow late)
+      came_parts =
+          let parts = parted_at next line rises in grind (arith, common_steps, flow_at, filter-append, map-append)
 
       early_taken : filter takes_cell (cells_of (filter flow early)) ≡ cells_of told
       early_taken = cells_kept takes_cell named (filter flow early) (all_filter (λ a. takes (packet a) ≡ named a) flow
@@ -234,21 +229,15 @@ module _ (t : Tables) (captures : List (List Captured)) (are : AreTables t) (man
       elsewhere past =
           let lists = agrees.ports in
           let all = many_are in
-          let high : length (ideal_of f).lists ≤ j = omega arith in
           let none = none_came w.machines ports i c j came runs.for_switch past in
-          let nothing = ap (filter takes_cell) none in
-          let none_told = no_first (cells_of told) (filter taken_cell later) (sym takes_parts ∙ nothing) in
-          let none_first = no_first first_left waits (told_first ∙ none_told) in
+          let none_told = no_first (cells_of told) (filter taken_cell later) in
+          let none_first = no_first first_left waits in
           let ideal_runs = is_run_of w.limits w.machines next slots beside ran alike.ran in
-          let admitted = admitted_in (admissions_in rs) in
-          let none_left = no_port w.machines i c j admitted next (ideal_of f) _ ideal_runs high in
-          rw (left_is, none_first, none_left, nothing)
-
-    left_taken : (c j : ℕ) → left_in_flow i c j kept.sent ≡ filter takes_cell (came_in_flow i c j came)
-    left_taken c j = search (arith, rules, at_port, elsewhere, cases_lt)
+          let none_left = no_port w.machines i c j _ next (ideal_of f) _ ideal_runs (omega arith) in
+          grind (arith, common_steps, left_is, takes_parts, told_first)
 
     pub in_order : LeftInOrder came i kept.sent
-    in_order = record { is_taken = takes; left = left_taken }
+    in_order = record { is_taken = takes; left = λ c j. search (arith, rules, at_port, elsewhere, cases_lt) }
 
 pub resumed_in_order : (t : Tables) (captures : List (List Captured)) (from : Taken) (kept : Kept) → AreTables t →
     length captures ≡ ports_of t.setup → CanBeTakenUp (switch_of t (schedule_of t captures)) from →
