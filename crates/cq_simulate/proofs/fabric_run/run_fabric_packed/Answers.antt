@@ -1,4 +1,4 @@
-use Rattle.cq_simulate.proofs.Terms.{arith, rules, IfErr-weaker, IfOk-weaker, Ok, ap, sym, ◌∙◌, unpacked_run}
+use Rattle.cq_simulate.proofs.Terms.{arith, rules, IfErr-weaker, IfOk-weaker, Ok, ap, sym, ◌∙◌}
 use Rattle.cq_simulate.proofs.FabricLaws.{kept_refuses, sends_as_ideal}
 use Rattle.cq_simulate.proofs.FabricOpening.{IsMade, can_begin, no_run, run_is_kept}
 use Rattle.cq_simulate.proofs.TakenUp.{machine_count}
@@ -25,9 +25,7 @@ returns-clause-as_ideal g c = IfOk-weaker c.run_on.result _ _
     (returns-clause-run g c)
 
 pub returns-clause-refuses_as_ideal : goal.returns-clause-refuses_as_ideal
-returns-clause-refuses_as_ideal g c = IfOk-weaker c.run_on.result _ _
-    (λ run kept. kept_refuses c.args.tables.now c.args.schedule.now.came (unpacked_run run) c.requires.traffic kept)
-    (returns-clause-run g c)
+returns-clause-refuses_as_ideal g c = search (arith, rules, IfOk-weaker, kept_refuses, returns-clause-run g c)
 
 pub returns-clause-refused : goal.returns-clause-refused
 returns-clause-refused g c = IfErr-weaker c.run_on.result _ _

@@ -12,11 +12,7 @@ run_of c = run_of_tables c.in_ok-ideal.ensures
 
 pub run_slots-ran-requires-clause-ready : goal.run_slots-ran-requires-clause-ready
 run_slots-ran-requires-clause-ready c =
-    let total = c.total.ensures.cells in
-    let ports = c.port_count-ports.ensures in
-    let spare = c.in_ok-sent.ensures.spare in
-    ready_ideal c.in_ok-ideal.ensures c.in_ok-sent.sent c.requires.tables.setup c.requires.traffic c.requires.short
-    c.in_ok-sent.ensures.items (omega arith)
+    let ready = ready_ideal c.in_ok-ideal.ensures c.in_ok-sent.sent in search (arith, rules, ready)
 
 pub run_slots-ran-requires-clause-ports : goal.run_slots-ran-requires-clause-ports
 run_slots-ran-requires-clause-ports c = search (arith, rules, machine_count)

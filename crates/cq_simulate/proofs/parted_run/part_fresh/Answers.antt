@@ -12,12 +12,8 @@ made g c = search (arith, rules)
 
 pub run_before-requires-clause-ready : goal.run_before-requires-clause-ready
 run_before-requires-clause-ready g c =
-    let next = ap (λ (e : EngineView). e.next) c.requires.fresh.fresh in
-    λ _ _. record {
-      ready = can_begin (made g (goal.at.run_before-requires-clause-ready g c).In_ok-note);
-      next = omega arith;
-      early = c.requires.slots;
-    }
+    let ready = can_begin (made g (goal.at.run_before-requires-clause-ready g c).In_ok-note) in
+    let next = ap (λ (e : EngineView). e.next) c.requires.fresh.fresh in search (arith, rules)
 
 pub freeze-requires : goal.freeze-requires
 freeze-requires g c = c.in_ok-run_before.ensures.run.went.running
