@@ -4,7 +4,7 @@
 use Rattle.cq_simulate.proofs.Terms.{all_in_range, bit, common_steps, rules, append-nil, flat_map, ◌≡◌, ℕ, ◌<◌, List, length, Ok, ap, arith, ◌+◌, Bool, [], ◌∷◌, map, Option, cond, not, filter, refl, sym, ◌∙◌, ◌-◌, AllByRecursion, range_with_len, All-from_recursion, all_from_has, all_of_has, Arrival, arriving, Departure, traffic_is, at_input, arrivals, packets_of, arrivals_at, arrivals_of, cell_of, cells, packet_at, come_in_order, departures_of, departures_limited, whole_limited_run, slots_of_limited_run, LimitedRan, refused_in, packets_refused, AreOfPackets, came_at, AreJudged, LimitedRecord, Captured, AreTables, ports_of, Tables, machines_of, openings_of, IsFabricRun, departures_in_run, refused_in_run, ideal_departures, ran_ideal, Cell, all_found, all_present, all_weaker, present, judged, Admission, Marked, admission, refused, is_first, arriving_from, IdealState, Machine, ◌&&◌, ◌==◌, sum_by, length-map, length-filter, sum-map, is_from, came_in_flow, comes_in_flow, ends_packet_at, leaving, packets_out, eq-eqb, cells_above, route, each_leaves_or_is_refused, refuses_none_elsewhere, KeepTheirOutput, LeaveOrAreRefused, most_ports, filter_agree, cases_eq, ne_eqb}
 use Rattle.cq_simulate.proofs.Departed.{all_cells, came_as, left_in_packets}
 use Rattle.cq_simulate.proofs.FabricLaws.{slot_by_slot}
-use Rattle.cq_simulate.proofs.OfPackets.{by_packet, line_cells, packet_cells, packets_come}
+use Rattle.cq_simulate.proofs.OfPackets.{by_packet, line_cells, packets_come}
 use Rattle.cq_simulate.proofs.Runnable.{runnable}
 use Rattle.cq_simulate.specs.EachPacket.{EachPacketOnce, number_for, number_from, output_of, times_left, times_refused}
 use Rattle.cq_simulate.proofs.Tallies.{all_in_row, sum_by_both, sum_by_same, tally, tally-map, tally_both, tally_by_parts, tally_of_kind, tally_same, one_is, one_where}

@@ -1,7 +1,7 @@
 -- No output of a run that goes on from a sound state has sent more cells than there were slots. In the state each of
 -- them has one `sent` line a slot at most, and the lines stand slot by slot: so from the first of them on, the cells
 -- that it sent are no more than the slots up to the last line. From there on an output sends one cell a slot at most.
-use Rattle.cq_simulate.proofs.Terms.{common_steps, rules, ◌≡◌, ℕ, ◌+◌, ◌<◌, ◌≤◌, All, List, [], ◌∷◌, length, Some, arith, max, AllPairs, AllByRecursion, filter_map, cond_both, eqb-true, take_all, All-from_recursion, recursion_from_All, Arrival, Departure, schedule_of, slots_of, Captured, EachPair, each_pair, departure_of, figures_told, frozen_told, output_told, IsResumed, Kept, IsSentBefore, switch_of, output_of, Taken, AreTables, ports_of, Tables, Sent, State, CanBeTakenUp, all_made, all_from_has, arrivals, all_weaker}
+use Rattle.cq_simulate.proofs.Terms.{common_steps, rules, ◌≡◌, ℕ, ◌+◌, ◌<◌, ◌≤◌, All, List, [], ◌∷◌, length, Some, arith, max, AllPairs, AllByRecursion, filter_map, cond_both, eqb-true, take_all, All-from_recursion, recursion_from_All, Arrival, Departure, schedule_of, slots_of, Captured, EachPair, each_pair, departure_of, figures_told, frozen_told, IsResumed, Kept, IsSentBefore, switch_of, output_of, Taken, AreTables, ports_of, Tables, Sent, State, CanBeTakenUp, all_made, all_from_has, arrivals, all_weaker}
 use Rattle.cq_resume.specs.Counted.{sent_by}
 use Rattle.cq_simulate.proofs.OnceASlot.{CountsBefore, counts_on, limited_numbered}
 

@@ -2,7 +2,7 @@
 -- state says was sent, and then what waits in it, are the arrivals that it names, in their order. What waits leaves
 -- first, as it does from the list of the ideal switch beside it, and then what is admitted of what comes. A packet
 -- that the state names is named with all its cells, and goes on as it began.
-use Rattle.cq_simulate.proofs.Terms.{rules, ◌≡◌, ℕ, ◌+◌, ◌<◌, ◌≤◌, Bool, not, List, [], ◌∷◌, ◌++◌, length, filter, Option, refl, sym, ap, ◌∙◌, ⊎_elim, arith, common_steps, All, AllByRecursion, cases_lt, append_assoc, map-append, take_all, filter-append, get_or-map-range_with_len, Arrival, Cell, traffic_is, arrivals, schedule_of, IsTraffic, come_in_order, comes_at_input, AreOfClasses, present, flow_came, no_port, is_of_flow, of_flow, shown, is_run_of, comes_from, line_at, rest_of, Marked, admitted_in, arriving_from, IsRunnable, came_in_flow, comes_in_flow, left_in_flow, departures_of, IdealState, LimitedRan, AreForPorts, AreOfPackets, cells_at, agrees_of, empty_together, Agrees, Fabric, ideal_of, LimitedRunsAlike, LimitedFabricRun, LimitedRecord, admissions_in, slots_in, gone_in, Captured, list_of, IsInputBest, machine_at, firsts_at, frozen_told, is_refused, latest, marks_told, sent_told, taken_of, IsResumed, Kept, RunsOn, IsSound, HasShape, Switch, switch_of, fabric_told, is_named, named_in, Taken, EachPair, GoesOn, goes_on, all_from_has, AreTables, classes_of, ports_of, Tables, openings_of, LeaveInOrder, LeaveWhole, LeftInOrder, CanBeTakenUp, IsInRange, State, slots_fit, all_filter, all_in_range, class_in_slot, none_came, flow_on, whole_on, StandAt, stand_in, best_act_alike, most_ports, filter_both, filter_agree}
+use Rattle.cq_simulate.proofs.Terms.{rules, ◌≡◌, ℕ, ◌+◌, ◌<◌, ◌≤◌, Bool, not, List, [], ◌∷◌, ◌++◌, length, filter, Option, refl, sym, ap, ◌∙◌, ⊎_elim, arith, common_steps, All, AllByRecursion, cases_lt, append_assoc, map-append, take_all, filter-append, get_or-map-range_with_len, Arrival, Cell, traffic_is, arrivals, schedule_of, IsTraffic, come_in_order, comes_at_input, AreOfClasses, present, flow_came, no_port, is_of_flow, of_flow, shown, is_run_of, comes_from, line_at, rest_of, Marked, arriving_from, IsRunnable, came_in_flow, comes_in_flow, left_in_flow, departures_of, IdealState, LimitedRan, AreOfPackets, cells_at, agrees_of, empty_together, Agrees, Fabric, ideal_of, LimitedRunsAlike, LimitedFabricRun, LimitedRecord, admissions_in, slots_in, gone_in, Captured, list_of, IsInputBest, machine_at, firsts_at, frozen_told, is_refused, latest, marks_told, sent_told, taken_of, IsResumed, Kept, RunsOn, IsSound, HasShape, Switch, switch_of, fabric_told, is_named, named_in, Taken, EachPair, GoesOn, goes_on, all_from_has, AreTables, classes_of, ports_of, Tables, openings_of, LeaveInOrder, LeaveWhole, LeftInOrder, CanBeTakenUp, IsInRange, State, slots_fit, all_filter, all_in_range, class_in_slot, none_came, flow_on, whole_on, StandAt, stand_in, best_act_alike, most_ports, filter_both, filter_agree}
 use Rattle.cq_ideal.proofs.RestAtInput.{cells_of}
 use Rattle.cq_simulate.proofs.NamedFlow.{line_rises, told_flow, stands_there, IsEarlier, early_of, is_taken, packets_behind, parted_at, taken_before, taken_behind, next_after, packet}
 use Rattle.cq_simulate.proofs.OfPackets.{as_packets, none_at, none_from, packets_come}

@@ -1,4 +1,4 @@
-use Rattle.cq_simulate.proofs.Terms.{rules, length, map, ap, arith, ◌<◌, unpacked}
+use Rattle.cq_simulate.proofs.Terms.{rules, length, map, ap, arith, unpacked}
 use Rattle.cq_simulate.proofs.AllPacked.{all_packed, at_port, can_take, none_yet, one_more}
 use Rattle.cq_simulate.proofs.packing.packets_of_all.Goals as goal
 
