@@ -1,4 +1,4 @@
-use Rattle.cq_reasm.proofs.Terms.{None, rules, set-get_or}
+use Rattle.cq_reasm.proofs.Terms.{None, rules, set-get_or, arith}
 use Rattle.cq_reasm.proofs.Tables.{closed_seen, closed_table, none_open}
 use Rattle.cq_reasm.proofs.open_packets.OpenPackets.close.Goals as goal
 
@@ -9,8 +9,7 @@ returns-in_err-key-clause-closed c =
     search (rules, set-get_or c.args.self.now c.args.place None)
 
 pub invariant_of-self : goal.invariant_of-self
-invariant_of-self c = closed_table c.self.inside.packets c.finish.new.packets _ _ _ _ c.self.invariant c.self.view_is
-    c.requires c.finish.ensures.others _ c.index.ensures c.in_ok-key.was c.finish.ensures.gone
+invariant_of-self c = search (arith, rules, closed_table)
 
 pub returns-clause-closed : goal.returns-clause-closed
 returns-clause-closed c = closed_seen c.self.inside.packets c.finish.new.packets _ _ _ _ c.self.invariant c.self.view_is
