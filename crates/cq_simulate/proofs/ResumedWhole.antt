@@ -180,10 +180,6 @@ module _ (t : Tables) (captures : List (List Captured)) (are : AreTables t) (man
       abbrev waits : List Cell
       waits = shown i c (list_of (ideal_of f).lists j)
 
-      came_parts : came_in_flow i c j came ≡ cells_of (filter flow early) ++ later
-      came_parts =
-          let parts = parted_at next line rises in grind (arith, common_steps, flow_at, filter-append, map-append)
-
       early_taken : filter takes_cell (cells_of (filter flow early)) ≡ cells_of told
       early_taken = cells_kept takes_cell named (filter flow early) (all_filter (λ a. takes (packet a) ≡ named a) flow
           early (taken_before w s i sound.packets rises line_is.0 taken goes_as_marked))
@@ -196,7 +192,9 @@ module _ (t : Tables) (captures : List (List Captured)) (are : AreTables t) (man
           ∙ sym (cells_kept taken_cell (λ a. taken (packet a)) (filter flow late) (all_from_has _ _ (λ _ _. refl)))
 
       takes_parts : filter takes_cell (came_in_flow i c j came) ≡ cells_of told ++ filter taken_cell later
-      takes_parts = grind (arith, common_steps, came_parts, filter-append, cells_of, early_taken, late_taken)
+      takes_parts =
+          let parts = parted_at next line rises in
+          grind (arith, common_steps, flow_at, map-append, filter-append, cells_of, early_taken, late_taken)
 
       flow_late : flow_came i c j slots ≡ later
       unfolding of_flow
