@@ -236,10 +236,6 @@ unfolding packets_out
 nowhere {t} {captures} {sent} output of_run none =
     search (rules, filter_none, recursion_from_All, departed_output, and_left, ne_eqb)
 
--- with a cell that is not the last nothing leaves
-pub none_left : (bytes : List ℕ) (left is : Option OutPacket) → left ≡ is → left ≡ None → bytes ≡ bytes ++ records_of is
-none_left bytes left is same none = grind (arith, common_steps, append-nil)
-
 -- ## All outputs
 
 -- the walk at an output, after so many departures: its packets stand in the bytes
