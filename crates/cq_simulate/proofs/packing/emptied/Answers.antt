@@ -6,6 +6,3 @@ places-preserved c =
     let is = IsEmptied c.args.ports c.args.classes in
     let each = All-push is c.places.places.items c.in_ok-new.field-0 c.places.invariant.each c.in_ok-new.ensures in
     search (arith, rules, each)
-
-pub returns-clause-outputs : goal.returns-clause-outputs
-returns-clause-outputs c = search (arith, rules)

@@ -1,9 +1,6 @@
 use Rattle.cq_simulate.proofs.Terms.{rules, arith, take_all, take_more}
 use Rattle.cq_simulate.proofs.parted_run.holding.Goals as goal
 
-pub items-init : goal.items-init
-items-init g c = search (arith, rules)
-
 pub items-preserved : goal.items-preserved
 items-preserved g c = search (arith, rules, take_more)
 
