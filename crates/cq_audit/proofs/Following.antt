@@ -2,20 +2,15 @@
 -- the slot's transfers are the same, so are those of each phase, and they tell the matchings
 -- (`transfers_tell_the_matching`). All else follows from the state and what arrives. In a run the transfers of a
 -- slot stand before those of later ones.
-use Rattle.cq_audit.proofs.Terms.{common_steps, rules, ◌≡◌, ℕ, zero, suc, ◌+◌, ◌<◌, ◌≤◌, List, [], ◌∷◌, length, Option, Some, refl, sym, ◌∙◌, arith, AllByRecursion, filter_map, range_with_len, Cell, Queued, Transfer, Machine, Marked, orders_of, transfers_of, Orders, IsStable, Partners, Fabric, FabricSlot, SlotRecord, LimitedFabricRun, LimitedFabricSlot, LimitedRecord, slots_in, Transfers, transfers_in, transfers_of_run, one_arrival, one_departure, one_transfer, same_record, transfers_tell, all_weaker, in_phase, all_both}
+use Rattle.cq_audit.proofs.Terms.{common_steps, rules, ◌≡◌, ℕ, ◌+◌, ◌<◌, ◌≤◌, List, [], ◌∷◌, length, Option, refl, sym, ◌∙◌, arith, AllByRecursion, Cell, Queued, Machine, Marked, orders_of, transfers_of, Orders, IsStable, Partners, Fabric, FabricSlot, SlotRecord, LimitedFabricRun, LimitedFabricSlot, LimitedRecord, slots_in, Transfers, transfers_in, transfers_of_run, one_arrival, one_departure, one_transfer, same_record, transfers_tell, all_weaker, in_phase, all_both, all_from_has, looked_up}
 use Rattle.cq_audit.proofs.BySlot.{of_two, one_parting}
 
 -- ## What is noted of a phase
 
-pub all_noted : (h : ℕ → Option Transfer) (Q : Transfer → Type 0) (a n : ℕ) →
-    ((i : ℕ) (t : Transfer) → a ≤ i → h i ≡ Some t → Q t) → AllByRecursion Q (filter_map h (range_with_len a n))
-all_noted h Q a zero each = tt
-all_noted h Q a (suc n) each = grind (arith, common_steps, all_noted h Q (a + 1) n)
-
 pub transfers_at : (m : Partners) (lists : List (List Queued)) (slot phase : ℕ) →
     AllByRecursion (λ t. (t.slot ≡ slot) × (t.phase ≡ phase)) (transfers_of m lists slot phase)
 unfolding transfers_of
-transfers_at m lists slot phase = all_noted _ _ 0 (length m) (λ i t low e. grind (arith, common_steps))
+transfers_at m lists slot phase = search (arith, rules, all_from_has, looked_up)
 
 -- the transfers of a slot, phase by phase
 pub each_moved : (r : SlotRecord) →

@@ -1,5 +1,5 @@
 -- The words of this crate's proofs that stand elsewhere, each passed on from its place.
-pub use Rattle.cq_base.proofs.Library.{AllByRecursion, Bool, Err, IfErr, IfSome, IsOk, IsTrue, List, None, Ok, OnOk, Option, Result, Some, [], and_from, and_left, and_parts, and_right, ap, append-nil, append_assoc, append_cancel_left, arith, cases_Bool, cases_eq, cases_lt, cases_order, common_steps, cond-false, cond_both, drop, drop_more, eq-eqb, eqb-true, err_from_is_err_and, ext_get_or, false, false_from_ne_true, filter, filter-append, filter_map, find-append, get_or, get_or-map-range_with_len, get_or-set_other, get_or-set_same, get_or-take, get_or_past, inl, inr, le-ltb, length, length-append, length-map, length-map-range_with_len, length-replicate, length-set, length-take-le, lit≤, lt-ltb, ltb-true, map, min, ne_eqb, not, option_map, position_or_len, range_with_len, refl, replicate, rules, slice_get, subst, suc, sym, take, take-append-drop, take-append-le, take-take, take_all, take_more, take_rest, true, zero, ℕ, ⊎_elim, ⊤, ◌*◌, ◌++◌, ◌+◌, ◌-◌, ◌<◌, ◌^◌, ◌↔◌, ◌∙◌, ◌∷◌, ◌≡◌, ◌≢◌, ◌≤◌, ◌⊎◌}
+pub use Rattle.cq_base.proofs.Library.{AllByRecursion, Bool, Err, IfErr, IfSome, IsOk, IsTrue, List, None, Ok, OnOk, Option, Result, Some, [], and_from, and_left, and_parts, and_right, ap, append-nil, append_assoc, append_cancel_left, arith, cases_Bool, cases_eq, cases_lt, cases_order, common_steps, cond-false, cond_both, drop, drop_more, eq-eqb, eqb-true, err_from_is_err_and, ext_get_or, false, false_from_ne_true, filter, filter-append, filter_map, find-append, get_or, get_or-map, get_or-map-range_with_len, get_or-set_other, get_or-set_same, get_or-take, get_or_past, inl, inr, le-ltb, length, length-append, length-map, length-map-range_with_len, length-replicate, length-set, length-take-le, lit≤, lt-ltb, ltb-true, map, min, ne_eqb, not, option_map, position_or_len, range_with_len, refl, replicate, rules, slice_get, subst, suc, sym, take, take-append-drop, take-append-le, take-take, take_all, take_more, take_rest, true, zero, ℕ, ⊎_elim, ⊤, ◌*◌, ◌++◌, ◌+◌, ◌-◌, ◌<◌, ◌^◌, ◌↔◌, ◌∙◌, ◌∷◌, ◌≡◌, ◌≢◌, ◌≤◌, ◌⊎◌}
 pub use Rattle.cq_base.proofs.Lists.{all_at, all_insert, all_left, first_here, first_later}
 pub use Rattle.cq_base.specs.Arrivals.{arrival_at, no_arrivals}
 pub use Rattle.cq_base.specs.Arriving.{Arrival, arriving, end_of, enough}
@@ -49,7 +49,7 @@ pub use Rattle.cq_traffic.proofs.ForPorts.{arrivals_for, one_found, slots_fit}
 pub use Rattle.cq_traffic.proofs.FromInputs.{arrives_found, come_from, first_more, from_here, from_last, no_more_from, one_if, some_one}
 pub use Rattle.cq_traffic.proofs.Quiet.{quiet_of, quiet_slots}
 pub use Rattle.cq_audit.specs.Terms.{AreInOrder, Cell, Comes, FirstIsLeast, IsLog, IsLogExact, IsLogFault, IsOf, IsReady, IsStill, IsStillUntil, IsTransfer, IsTransferBefore, Machine, RunEnds, Setup, Transfer, numbers_behind}
-pub use Rattle.cq_base.proofs.Each.{all_both, all_front, all_weaker, all_back, all_give, filter_all, filter_none}
+pub use Rattle.cq_base.proofs.Each.{all_both, all_front, all_weaker, all_back, all_give, all_made, filter_all, filter_none}
 pub use Rattle.cq_base.specs.declared.cell.CellId.{CellId}
 pub use Rattle.cq_scfq.specs.Discipline.{machine_from}
 pub use Rattle.cq_ideal.proofs.{FlowFound.all_found, LimitedParts.limited_parts, LimitedRuns.run_fault, Resting.length-idle, Sending.length-told, Slot.by_marks}
@@ -62,3 +62,6 @@ pub use Rattle.cq_fabric.specs.Held.{HoldsFabric}
 pub use Rattle.cq_fabric.proofs.{Kept.limited_lists_kept, Kept.limited_outputs_kept, Known.AreRanked, Known.BuffersHaveRoom, Known.HaveArrived, Known.HaveJudged, Known.HaveMoved, Known.HaveSent, Rested.rested_agrees, Rested.rested_limited_run, Rested.still_held}
 pub use Rattle.cq_traffic.specs.{Rooms.rooms_of, Stretch.IsQuietUntil}
 pub use Rattle.cq_traffic.proofs.{ToOutputs.come_for, ToOutputs.for_here, ToOutputs.for_last, ToOutputs.no_more_to}
+pub use Rattle.cq_base.proofs.{Having.all_from_has, Having.all_of_has, Pooled.looked_up, Pooled.pairs_looked_up, Pooled.pairs_joined}
+pub use Rattle.cq_base.specs.Items.{EachPair, Has}
+pub use Rattle.cq_laws.proofs.{AfterArrivals.came_or_was, Members.from_first, Members.was_waiting}

@@ -1,7 +1,7 @@
 -- The departures and the transfers of a run: what a slot adds to the departures, at each output the cell that it sent,
--- if it sent one; that departures stand in order, slot by slot and those of a slot by output; that transfers which a
--- log can hold do so, and are in range; and the figures that are read off them.
-use Rattle.cq_stopped.proofs.Terms.{list_any, filter_none, ◌≡◌, ℕ, zero, suc, ◌+◌, ◌<◌, List, [], ◌∷◌, ◌++◌, Option, Some, None, refl, arith, rules, ◌≤◌, ◌⊎◌, length, map, ◌-◌, Bool, true, false, ◌∙◌, eq-eqb, ne_eqb, and_from, and_parts, cases_lt, eqb-true, common_steps, map-append, get_or_past, length-map, filter-append, sum_by-cons, AllByRecursion, range_with_len, cons_option, enumerate_from, ◌==◌, filter, slice_index_or, count_by, filter_map, is_some, option_map, Arrival, Departure, Queued, Transfer, listed, slots_of, departures_of, departures_from, departures_in, SlotRecord, LimitedRecord, slots_in, figures_of, input_figures, output_figures, sent_by, wait_at, came_to, gone_in, EachPair, all_both, all_weaker, Differ, all_from_has, all_of_has, Has, has_kept, kept_has, AreApart, Stands, no_more, pairs_kept, figures_told, input_told, output_told, sent_told, seen_as, IsTransferBefore, named_in, Named, State, has_number, AreNumbered, IsMoved, AreWritten, ◌^◌, any_has, has_any, pairs_joined, Figures, InputFigures, Seen}
+-- if it sent one; that departures stand in order, slot by slot and those of a slot by output; what is asked of
+-- transfers; and the figures that are read off the departures.
+use Rattle.cq_stopped.proofs.Terms.{list_any, filter_none, ◌≡◌, ℕ, zero, suc, ◌+◌, ◌<◌, List, [], ◌∷◌, ◌++◌, Option, Some, None, refl, arith, rules, ◌≤◌, ◌⊎◌, length, map, ◌-◌, Bool, true, false, ◌∙◌, eq-eqb, ne_eqb, and_from, and_parts, cases_lt, eqb-true, common_steps, map-append, get_or_past, length-map, filter-append, sum_by-cons, AllByRecursion, range_with_len, cons_option, enumerate_from, ◌==◌, filter, slice_index_or, count_by, filter_map, is_some, option_map, Arrival, Departure, Queued, Transfer, listed, slots_of, departures_of, departures_from, departures_in, SlotRecord, LimitedRecord, slots_in, figures_of, input_figures, output_figures, sent_by, wait_at, came_to, gone_in, EachPair, all_both, all_weaker, Differ, all_from_has, all_of_has, Has, has_kept, kept_has, AreApart, Stands, no_more, pairs_kept, figures_told, input_told, output_told, sent_told, seen_as, IsTransferBefore, named_in, Named, State, has_number, AreNumbered, IsMoved, range_rises, any_has, has_any, pairs_joined, Figures, InputFigures, Seen}
 use Rattle.cq_stopped.proofs.Joined.{pairs_in}
 use Rattle.cq_stopped.proofs.Ran.{left_at, came_in, came_of, is_name_at}
 
@@ -73,16 +73,6 @@ departures_in_order slot [] = tt
 departures_in_order slot (gone ∷ slots) =
     search (rules, pairs_joined, slot_in_order, all_of_has, of_slot, no_earlier, departures_in_order (slot + 1) slots)
 
--- ## Numbers in a row
-
-range_from : (b a n : ℕ) → b ≤ a → AllByRecursion (λ (k : ℕ). b ≤ k) (range_with_len a n)
-range_from b a zero le = tt
-range_from b a (suc n) le = (le, range_from b (a + 1) n (omega arith))
-
-pub range_rises : (a n : ℕ) → EachPair (λ (i k : ℕ). i < k) (range_with_len a n)
-range_rises a zero = tt
-range_rises a (suc n) = grind (arith, common_steps, all_weaker, range_from, range_rises (a + 1) n)
-
 -- ## Transfers
 
 -- those of the slots before one stand in order and are in range
@@ -90,12 +80,6 @@ pub record AreMoved (ports end : ℕ) (note : List Transfer) : Type 0 where
   pub pairs : EachPair IsTransferBefore note
   pub all : AllByRecursion (IsMoved ports) note
   pub times : AllByRecursion (λ t. t.slot < end) note
-
--- and do so where they can be written
-pub are_moved : (ports end : ℕ) (note : List Transfer) → end < 2 ^ 63 → AreWritten ports note →
-    AllByRecursion (λ t. t.slot < end) note → AreMoved ports end note
-are_moved ports end [] low written times = record { pairs = tt; all = tt; times = tt }
-are_moved ports end (t ∷ note) low written times = search (rules, are_moved ports end note low written.3 times.1)
 
 -- ## The figures. What an output sent and how long it kept a cell are read off its departures, one for each slot in
 -- which it sent. And as many names are of an input as cells came to it: names of one input have different slots, and

@@ -62,7 +62,7 @@ pub use Rattle.cq_resume.specs.Told.{arriving_cell, buffer_told, class_in, class
 unfoldable pub use Rattle.cq_resume.specs.Told.{fabric_told}
 pub use Rattle.cq_resume.specs.declared.taken.Taken.{Taken}
 pub use Rattle.cq_stopped.specs.Stopped.{AreRecorded, CanBeTakenUp, StoppedRunsAreSound, told_state}
-pub use Rattle.cq_audit.proofs.Noted.{AreWritten, FitsLine, written_in_run}
+pub use Rattle.cq_audit.proofs.Noted.{FitsLine, range_rises, written_in_run}
 pub use Rattle.cq_base.proofs.Each.{all_back, all_both, all_front, all_weaker, few_kept, of_images, all_give, all_made, filter_all, filter_none}
 pub use Rattle.cq_base.proofs.Putting.{all_put}
 pub use Rattle.cq_base.specs.{declared.cell.TagFault.TagFault, declared.figures.Figures.Figures, declared.figures.InputFigures.InputFigures, declared.key.Key.Key, declared.setup.ClassRow.ClassRow, declared.setup.Kind.Kind, declared.setup.Kind.TheVariants.FirstCome, declared.setup.Kind.TheVariants.Fair}
