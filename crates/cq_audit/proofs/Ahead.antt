@@ -15,10 +15,6 @@ module _ (o : Orders) (m : Partners) (i : ℕ) where
   pub order_ends : partner_place o m i ≤ length (outputs_of o i)
   order_ends = grind (arith, common_steps, place_in-le-length)
 
-  pub blocks_ahead : (j : ℕ) → place_of o i j < partner_place o m i → (HasBetterInput o m i j → ⊥) →
-      IsBlocking o m i j
-  blocks_ahead j ahead none = search (arith, rules, order_ends)
-
   -- ## The least of the outputs so far
 
   abbrev IsUpTo : Option ℕ → ℕ → Type 0
@@ -64,4 +60,4 @@ module _ (o : Orders) (m : Partners) (i : ℕ) where
       -- it blocks, and is less
       pub taken : {found : Option ℕ} → LeastUntil n found → (HasBetterInput o m i output → ⊥) →
           ((l : ℕ) → found ≡ Some l → output < l) → LeastUntil (n + 1) (Some output)
-      taken had none less = search (arith, rules, others, blocks_ahead, stands)
+      taken had none less = search (arith, rules, others, order_ends, stands)

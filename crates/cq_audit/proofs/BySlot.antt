@@ -25,9 +25,6 @@ module _ (keep : Transfer → Bool) where
 -- ## Lines before a slot
 
 module _ (slot : ℕ) where
-  pub before_all : (xs : List Transfer) → AllByRecursion (λ t. t.slot < slot) xs → before_slot slot xs ≡ xs
-  before_all xs all = grind (arith, common_steps, filter_all, all_weaker, lt-ltb)
-
   pub before_is : (xs ys : List Transfer) → AllByRecursion (λ t. t.slot < slot) xs →
       AllByRecursion (λ t. slot ≤ t.slot) ys → before_slot slot (xs ++ ys) ≡ xs
   before_is xs ys all none = grind (arith, common_steps, keeps_first, all_weaker, lt-ltb, le-ltb)
@@ -115,13 +112,7 @@ module _ (ports slot phase : ℕ) where
   all_behind t rest behind = all_weaker _ _ (λ u after. grind arith) rest
 
   none_of_it : (rest : List Transfer) → AllBehind slot phase rest → in_phase slot phase rest ≡ []
-  none_of_it [] all = refl
-  none_of_it (u ∷ rest) all = grind (arith, common_steps, cond_both, and_parts, eqb-true, none_of_it rest all.1)
-
-  -- a line that is not of this phase and not earlier is behind it
-  is_behind : (t : Transfer) → is_at slot phase t ≡ false → (slot < t.slot) ⊎ ((slot ≡ t.slot) × (phase ≤ t.phase)) →
-      (slot < t.slot) ⊎ ((slot ≡ t.slot) × (phase < t.phase))
-  is_behind t other none = grind (arith, common_steps, eq-eqb, cases_lt)
+  none_of_it rest all = search (arith, rules, filter_none, all_weaker, and_parts, eqb-true, ne_eqb)
 
   pub parted : (note : List Transfer) (end : ℕ) → end ≡ position_or_len (λ t. not (is_at slot phase t)) note →
       AreInOrder ports note → NoneBefore slot phase note →
@@ -134,5 +125,5 @@ module _ (ports slot phase : ℕ) where
       let step = first_later (λ u. not (is_at slot phase u)) t note (ap not here) in
       let next : end ≡ suc rest = omega arith in
       rw next (at_front t note (take rest note) (drop rest note) here order.0 order.1 had))
-      (λ away. grind (arith, common_steps, first_here, is_behind, all_behind, none_of_it))
+      (λ away. grind (arith, common_steps, first_here, eq-eqb, cases_lt, all_behind, none_of_it))
       (cases_Bool (is_at slot phase t))

@@ -5,20 +5,15 @@
 -- Where no line of a phase is wrong, the transfers of the pairs that they tell are the lines. What is noted of an
 -- input is its line: its partner is the output that the line names, and its first cell for that output is the one.
 -- And the lines of all inputs, in order, are the lines.
-use Rattle.cq_audit.proofs.Terms.{common_steps, ◌≡◌, ◌≢◌, ℕ, zero, suc, ◌+◌, ◌<◌, ◌≤◌, ◌⊎◌, List, [], ◌∷◌, length, Option, None, Some, refl, ◌∙◌, ⊎_elim, arith, rules, inl, inr, sym, AllByRecursion, filter_map, range_with_len, option_map, length-map, get_or_past, cases_eq, cond_both, eqb-true, eq-eqb, cases_lt, Queued, Transfer, Waiting, cells_of, list_of, orders_of, HasCellFor, output_order, noted, transfers_of, Orders, ports, IsOffered, place_of, position_of, Partners, partner_of, HasBetterInput, HasBetterOutput, IsMatching, IsStable, partner_place, AreOfPhase, AreRight, IsBlocking, IsStableTold, RiseByInput, line_of_input, told, first_id, output_told, all_weaker, get_or-map-range_with_len, length-map-range_with_len, is_output_order, outputs_at, CellId, sender, all_give}
+use Rattle.cq_audit.proofs.Terms.{common_steps, ◌≡◌, ◌≢◌, ℕ, zero, suc, ◌+◌, ◌<◌, ◌≤◌, ◌⊎◌, List, [], ◌∷◌, length, Option, None, Some, refl, ◌∙◌, ⊎_elim, arith, rules, sym, AllByRecursion, filter_map, range_with_len, option_map, length-map, get_or_past, cases_eq, cond_both, eqb-true, cases_lt, Queued, Transfer, Waiting, cells_of, list_of, orders_of, output_order, noted, transfers_of, Orders, ports, IsOffered, Partners, partner_of, HasBetterInput, HasBetterOutput, IsMatching, IsStable, AreOfPhase, AreRight, IsBlocking, IsStableTold, RiseByInput, line_of_input, told, first_id, output_told, all_weaker, get_or-map-range_with_len, length-map-range_with_len, is_output_order, outputs_at, CellId, sender, all_give}
 use Rattle.cq_audit.proofs.TellingLines.{line_holds, line_is_of, no_line}
 
 -- ## Settled
 
 module _ (o : Orders) (m : Partners) (matching : IsMatching o m) (none : (i j : ℕ) → IsBlocking o m i j → ⊥) where
   settled : (i j : ℕ) → IsOffered o i j → partner_of m i ≢ Some j → HasBetterOutput o m i j ⊎ HasBetterInput o m i j
-  settled i j offered outside = ⊎_elim (λ better. inl better) (λ (worse : place_of o i j ≤ partner_place o m i).
-      let block : (HasBetterInput o m i j → ⊥) → ⊥ = λ no. none i j
-      (record { offered = offered; outside = outside; no_better_output = λ b. omega arith; no_better_input = no }) in
-      ⊎_elim (λ joined. ⊎_elim (λ better. inr (joined.0, joined.1, better)) (λ (low : position_of o j i ≤ _).
-      absurd (block (λ b. grind arith)))
-      (cases_lt (position_of o j joined.0) (position_of o j i))) (λ free. absurd (block (λ b. free b.0 b.1)))
-      (sender m j)) (cases_lt (partner_place o m i) (place_of o i j))
+  settled i j offered outside = ⊎_elim (λ joined. grind (arith, common_steps, none i j, cases_lt))
+      (λ free. grind (arith, common_steps, none i j, cases_lt)) (sender m j)
 
 -- ## What the lines tell
 
@@ -38,13 +33,10 @@ module _ (lists : List (List Queued)) (lines : List Transfer) where
   unfolding told
   told_at i inside = get_or-map-range_with_len (output_told lines) 0 (length lists) i i None inside (omega arith)
 
-  pub told_long : length (told (length lists) lines) ≡ length lists
-  told_long = told_size (length lists) lines
-
   -- a partner is that of an input, and its line names it
   module _ (i j : ℕ) (is : partner_of (told (length lists) lines) i ≡ Some j) where
     pub told_line : output_told lines i ≡ Some j
-    told_line = search (arith, rules, told_at, get_or_past, told_long, cases_lt)
+    told_line = search (arith, rules, told_at, get_or_past, told_size, cases_lt)
 
   module _ (right : AreRight lists lines) where
     -- the line of an input names its first cell for an output, so there is one
@@ -52,17 +44,15 @@ module _ (lists : List (List Queued)) (lines : List Transfer) where
         first_id t.output (list_of lists i) ≡ Some t.id
     names_first i t stands = grind (arith, common_steps, same_id (first_id t.output (list_of lists i)) t.id, right i)
 
-    has_cell : (i : ℕ) (t : Transfer) → line_of_input i lines ≡ Some t → HasCellFor (list_of lists i) t.output
-    has_cell i t stands = grind (arith, common_steps, some_of, names_first i t stands)
-
     apart : (i k j : ℕ) → output_told lines i ≡ Some j → output_told lines k ≡ Some j → i < k → ⊥
     apart i k j at_i at_k before = grind (arith, common_steps, right k)
 
     pub told_matching : IsMatching (orders_of lists) (told (length lists) lines)
     told_matching = record {
-      size = told_long ∙ sym (length-map lists output_order);
+      size = told_size (length lists) lines ∙ sym (length-map lists output_order);
       offered = λ i j is. let line = some_of (λ t. t.output) (line_of_input i lines) j (told_line i j is) in
-          search (arith, rules, outputs_at lists i, is_output_order (list_of lists i), has_cell i line.0 line.1);
+          let first = names_first i line.0 line.1 in
+          search (arith, rules, outputs_at lists i, is_output_order (list_of lists i), some_of, first);
       once = search (arith, rules, apart, told_line, cases_lt);
     }
 
@@ -71,9 +61,6 @@ module _ (lists : List (List Queued)) (lines : List Transfer) where
     told_stable none = record { matching = told_matching; settled = settled _ _ told_matching none }
 
 -- ## The lines of all inputs
-
-pub line_first : (i : ℕ) (t : Transfer) (lines : List Transfer) → t.input ≡ i → line_of_input i (t ∷ lines) ≡ Some t
-line_first i t lines is = grind (arith, common_steps, cond_both, eq-eqb)
 
 pub line_later : (i : ℕ) (t : Transfer) (lines : List Transfer) → t.input ≢ i → line_of_input i (t ∷ lines) ≡
     line_of_input i lines
@@ -117,7 +104,7 @@ module _ (lists : List (List Queued)) (lines : List Transfer) (right : AreRight 
 pub told_moves : (lists : List (List Queued)) (lines : List Transfer) (slot phase : ℕ) → AreRight lists lines →
     AreOfPhase (length lists) slot phase lines → transfers_of (told (length lists) lines) lists slot phase ≡ lines
 unfolding transfers_of
-told_moves lists lines slot phase right are = search (rules, told_long, lines_by_input, line_is_noted, all_weaker)
+told_moves lists lines slot phase right are = search (rules, told_size, lines_by_input, line_is_noted, all_weaker)
 
 -- the same of lists, and of the offers of what they hold
 pub judged_stable : (lists : List Waiting) (lines : List Transfer) (slot phase : ℕ) (m : Partners) (o : Orders) →

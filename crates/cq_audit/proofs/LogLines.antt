@@ -40,16 +40,12 @@ log_is_exact ports = exact log_line (Comes ports) (λ _. ⊤) (record {
   some = λ p q t more step e. let size = ap length e in grind (arith, common_steps, append_assoc, length-append);
 }) None (λ _. ⊤) tt
 
-all_before : (t u : Transfer) (note : List Transfer) → IsTransferBefore t u → AllByRecursion (IsTransferBefore u) note →
-    AllByRecursion (IsTransferBefore t) note
-all_before t u note first = grind (arith, common_steps, all_weaker)
-
 -- what comes behind a line, if there is one, is behind it
 leads_in_order : (ports : ℕ) (last end : Option Transfer) (note : List Transfer) → Leads (Comes ports) last note end →
     AreInOrder ports note × IfSome last (λ t. AllByRecursion (IsTransferBefore t) note)
 leads_in_order ports last end [] leads = grind (arith, common_steps)
 leads_in_order ports last end (t ∷ note) leads =
-    grind (arith, common_steps, all_before, leads_in_order ports (Some t) end note (rw leads.1.3 at leads.2))
+    grind (arith, common_steps, all_weaker, leads_in_order ports (Some t) end note (rw leads.1.3 at leads.2))
 
 pub log_in_order : (ports : ℕ) (note : List Transfer) (log : List ℕ) → IsLog ports note log → AreInOrder ports note
 log_in_order ports note log is = (leads_in_order ports None is.last note is.allowed).0

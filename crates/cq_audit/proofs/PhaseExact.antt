@@ -3,7 +3,7 @@
 -- partner. So no line is wrong, the pairs that the lines tell are the matching, and none blocks it.
 use Rattle.cq_audit.proofs.Terms.{common_steps, rules, ◌≡◌, ℕ, zero, suc, ◌+◌, ◌<◌, ◌≤◌, ◌⊎◌, List, length, Option, None, Some, refl, ap, sym, subst, ◌∙◌, arith, filter_map, range_with_len, option_map, cases_lt, cases_eq, ext_get_or, length-map, Queued, Transfer, HasCellFor, list_of, output_order, noted, transfers_of, IsListed, Partners, partner_of, is_output_order, outputs_at, transfers_tell, IsPhaseExact, IsPhaseFault, IsStableTold, IsWrongLine, first_id, line_of_input, output_told, told, PhaseFault}
 use Rattle.cq_audit.specs.declared.phase.PhaseFault.TheVariants.{WrongLine, Blocking}
-use Rattle.cq_audit.proofs.LinesMoved.{line_first, line_later, some_of, told_at, told_long}
+use Rattle.cq_audit.proofs.LinesMoved.{line_later, some_of, told_at, told_size}
 
 -- ## The line of an input among those of all
 
@@ -18,7 +18,7 @@ module _ (h : ℕ → Option Transfer) (own : OwnInput h) where
 
   line_here : (i a n : ℕ) → a ≤ i → i < a + n → line_of_input i (filter_map h (range_with_len a n)) ≡ h i
   line_here i a zero low high = absurd (omega arith)
-  line_here i a (suc n) low high = search (rules, line_first, line_later, none_here, cases_eq, line_here i (a + 1) n)
+  line_here i a (suc n) low high = search (rules, line_later, none_here, cases_eq, line_here i (a + 1) n)
 
 -- ## The transfers of a stable matching
 
@@ -72,8 +72,8 @@ module _ (lists : List (List Queued)) (slot phase : ℕ) (lines : List Transfer)
       (subst (λ order. IsListed order j) (outputs_at lists i) (is.stable.matching.offered i j joined))))
 
   pub told_is : told (length lists) lines ≡ m
-  told_is = ext_get_or None (told (length lists) lines) m (told_long lists lines ∙ sym size)
-      (search (arith, rules, told_long, size, told_at, partner_told))
+  told_is = ext_get_or None (told (length lists) lines) m (told_size (length lists) lines ∙ sym size)
+      (search (arith, rules, told_size, size, told_at, partner_told))
 
 -- ## One verdict
 

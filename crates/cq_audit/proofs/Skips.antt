@@ -1,6 +1,6 @@
 -- Slots that a replay skips. No cell arrives up to the next arrival, and no line is of a slot before the first one's.
 -- And a stretch of no slots leaves everything as it is.
-use Rattle.cq_audit.proofs.Terms.{rules, ◌≡◌, ℕ, ◌≤◌, inl, inr, min, List, [], ◌∷◌, replicate, Option, None, Some, refl, arith, slice_get, AllByRecursion, cases_lt, no_arrivals, Arrival, Transfer, Machine, Marked, IsStable, Fabric, LimitedFabricRun, quiet_limited_slots, quiet_of, NoneBefore, HasRested, IsInStep, IsMadeAs, ReplayView, ports_in, FirstIsLeast, IsStill, IsStillUntil, all_weaker, common_steps, IsQuietUntil}
+use Rattle.cq_audit.proofs.Terms.{rules, ◌≡◌, ℕ, ◌≤◌, inl, inr, min, List, [], ◌∷◌, replicate, Option, None, Some, arith, slice_get, AllByRecursion, cases_lt, no_arrivals, Arrival, Transfer, Machine, Marked, IsStable, Fabric, LimitedFabricRun, quiet_limited_slots, quiet_of, NoneBefore, HasRested, IsInStep, ReplayView, ports_in, FirstIsLeast, IsStill, IsStillUntil, all_weaker, common_steps, IsQuietUntil}
 
 -- ## Up to where nothing happens
 
@@ -34,14 +34,8 @@ until_here came slot (u ∷ lines) t before first here =
 
 -- ## A stretch of no slots
 
-pub made_alike : (v : ReplayView) → IsMadeAs v v
-made_alike v = record { fixed = refl; limits = refl; from_inputs = refl; to_outputs = refl }
-
-pub made_on : {u v w : ReplayView} → IsMadeAs u v → IsMadeAs v w → IsMadeAs u w
-made_on one two = grind (arith, common_steps)
-
 pub no_rest : (ms : List Machine) (slot : ℕ) (v : ReplayView) → IsInStep ms slot v → HasRested ms slot slot v v
-no_rest ms slot v step = search (arith, rules, made_alike)
+no_rest ms slot v step = search rules
 
 -- and a fabric that rests for no slots is as it was
 pub same_fabric : (limits : List (Option ℕ)) (ms : List Machine) (k slot : ℕ) (old : ReplayView) (new : Marked Fabric) →

@@ -4,15 +4,10 @@
 -- each step leaves: what comes is judged and ranked and arrives, the lines of the first phase are gone by, the outputs
 -- send, and the lines of the second are gone by.
 -- A replay before its first slot, and after slots in which nothing happens.
-use Rattle.cq_audit.proofs.Terms.{common_steps, rules, ◌≡◌, ℕ, ◌+◌, ◌<◌, ◌≤◌, ◌^◌, Bool, List, ◌++◌, length, map, get_or, Option, Ok, Err, sym, ap, ◌∙◌, subst, arith, append_assoc, length-append, [], replicate, length-map, length-replicate, Cell, Queued, TagFault, Transfer, RoomView, Machine, class_count, AreForOneSwitch, admitted, marked, marks_after, marks_down, count_for, ranking, admitted_arrives, admitted_for_ports, list_of, SlotRecord, fabric_admission, LimitedFabricRun, empty_limited_fabric, Arrives, transfers_in, ComeApart, FitLists, Queues, fabric_of, admits_are, admitted_room, numbers_fit, still_holds, holds_first, AllBehind, IsPhaseFault, NoneBefore, in_phase, CanCome, CanReplay, IsInStep, IsSlotFault, ReplayView, SlotReplayed, shown, IsHalfPast, SlotFault, all_weaker, no_arrivals, IsStable, IsEmptyFabric, empty_fabric, quiet_limited_slots, empty_agree, fronts, ComeToPorts, LimiterView, RanksView, idled, length-told, by_marks, SendsAlike, HoldsFabric, AreRanked, BuffersHaveRoom, HaveArrived, HaveJudged, HaveMoved, HaveSent, stable_limited_run, rested_agrees, rested_limited_run, still_held}
+use Rattle.cq_audit.proofs.Terms.{common_steps, rules, ◌≡◌, ℕ, ◌+◌, ◌<◌, ◌≤◌, ◌^◌, Bool, List, ◌++◌, length, map, get_or, Option, Ok, Err, sym, ap, ◌∙◌, subst, arith, append_assoc, length-append, [], replicate, length-map, length-replicate, Cell, Queued, TagFault, Transfer, RoomView, Machine, class_count, AreForOneSwitch, admitted, marked, marks_after, marks_down, count_for, ranking, admitted_arrives, admitted_for_ports, list_of, SlotRecord, fabric_admission, LimitedFabricRun, empty_limited_fabric, Arrives, transfers_in, ComeApart, FitLists, Queues, fabric_of, admits_are, admitted_room, numbers_fit, still_holds, holds_first, IsPhaseFault, in_phase, CanCome, CanReplay, IsInStep, IsSlotFault, ReplayView, SlotReplayed, shown, IsHalfPast, SlotFault, all_weaker, no_arrivals, IsStable, IsEmptyFabric, empty_fabric, quiet_limited_slots, empty_agree, fronts, ComeToPorts, LimiterView, RanksView, idled, length-told, by_marks, SendsAlike, HoldsFabric, AreRanked, BuffersHaveRoom, HaveArrived, HaveJudged, HaveMoved, HaveSent, stable_limited_run, rested_agrees, rested_limited_run, still_held}
 use Rattle.cq_fabric.proofs.Slot.{alike as sends_alike, arrive as slot_arrives, can_cross_first, can_cross_second, come_apart, depart as slot_departs, few_cross, fill as slot_fills, fits_lists, held_before, is_slot, recorded}
 use Rattle.cq_audit.specs.SlotSteps.{CanGoBy, CanSend, HasGoneBy, HaveAllSent, HaveCome}
 use Rattle.cq_audit.proofs.BySlot.{second_behind}
-
--- ## The lines of two phases
-
-pub second_may_come : (slot : ℕ) (lines : List Transfer) → AllBehind slot 1 lines → NoneBefore slot 2 lines
-second_may_come slot lines = grind (arith, common_steps, all_weaker)
 
 -- ## Before a slot
 
@@ -127,14 +122,10 @@ module _ {M : List ℕ → Machine} {slot : ℕ} {cells : List (Option Cell)} {l
     moved1 : HaveMoved one.crossed.pairs q1 q2
     moved1 = search (arith, rules)
 
-    -- so many outputs may send
-    gone_long : length (fronts q2.buffers) ≡ length ranks0.fixed
-    gone_long = grind (arith, common_steps, length-map, first_long)
-
     pub can_send : CanSend ranks1 q2 judged
     can_send =
         let before = held_before ranked arrived room moved1 (holds M ranks0 q0 l known.can.come) judges in
-        search (arith, rules, gone_long, first_long, length-map, before)
+        search (arith, rules, first_long, length-map, before)
 
     module _ {ranks2 : RanksView} {q3 : Queues} {after : LimiterView}
         (sent : HaveAllSent (map M ranks1.fixed) ranks1 ranks2 q2 q3 judged after) where
@@ -151,7 +142,7 @@ module _ {M : List ℕ → Machine} {slot : ℕ} {cells : List (Option Cell)} {l
           let same = ap length one.crossed.told.moved in
           let long = first_long in
           search
-          (arith, rules, second_long, can_cross_second, ranked, arrived, room, moved1, have_sent, second_may_come)
+          (arith, rules, second_long, can_cross_second, ranked, arrived, room, moved1, have_sent, all_weaker)
 
       half : IsHalfPast ms slot (in_phase slot 1 lines) (fabric_of q1 ranks1.states) (fabric_of q3 ranks2.states)
       half =
@@ -173,12 +164,11 @@ module _ {M : List ℕ → Machine} {slot : ℕ} {cells : List (Option Cell)} {l
         alike : SendsAlike ms slot comes ranked.ideal (fronts q2.buffers) (fabric_of q4 ranks2.states)
         alike = sends_alike ranked arrived room moved1 have_sent moved2
 
-        holds_still : HoldsFabric (fabric_of q4 ranks2.states) after
-        holds_still = still_holds ranked (fronts q2.buffers) (fabric_of q4 ranks2.states) l judged after alike
-            (holds M ranks0 q0 l known.can.come) judges sent.released
-
         next_step : IsInStep ms (slot + 1) (shown ranks2 q4 after)
-        next_step = search (arith, rules, second_long, have_sent, length-told, judges, holds_still, alike)
+        next_step =
+            let still = still_holds ranked (fronts q2.buffers) (fabric_of q4 ranks2.states) l judged after alike
+            (holds M ranks0 q0 l known.can.come) judges sent.released in
+            search (arith, rules, second_long, have_sent, length-told, judges, still, alike)
 
         moved : transfers_in of_slot ≡ one.own ++ two.own
         unfolding transfers_in

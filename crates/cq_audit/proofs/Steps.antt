@@ -8,9 +8,9 @@
 -- than arrive at its input, and an output holds no more cells more than arrive for it. So no list and no output holds
 -- more than arrives in all. Beside the fabric an ideal switch runs, with which it agrees. So where the whole run of
 -- that one meets no tag fault, the fabric meets none, and it goes on for no more slots than that one.
-use Rattle.cq_audit.proofs.Terms.{common_steps, rules, ◌≡◌, ◌↔◌, ℕ, ◌+◌, ◌-◌, ◌<◌, ◌≤◌, Bool, false, List, [], length, map, Option, Result, Err, arith, length-append, ◌*◌, zero, suc, ◌∷◌, ◌++◌, refl, append_assoc, IfErr, IsOk, IsTrue, OnOk, cases_lt, append-nil, take_all, take-append-le, Arrival, arriving, end_of, enough, RoomView, Cell, Transfer, Machine, class_count, Marked, first_slots, arriving_from, ranking, IsStable, Fabric, IsEmptyFabric, LimitedFabricRun, empty_limited_fabric, fabric_admission, IsLimitedFault, LimitedFabricSlot, LimitedRecord, arrivals_for, refusal_of, AreInOrder, in_phase, NoneBefore, CanReplay, HasRested, IsInStep, IsSlotFault, ReplayView, SlotReplayed, ports_in, IsMadeAs, IsReady, IsStill, RunEnds, Reaches, StableRun, before_slot, AuditRefusal, Left, SlotFault, arriving_length, arriving_parts, quiet_limited_slots, transfers_in, transfers_of_run, AfterBy, run_length, first_more, quiet_slots, Ok, Some, TagFault, arrival_at, IsTraffic, is_from, is_to, number_of, count_for, whole_limited_run, empty_limited, input, reach, empty_list, empty_together, nothing_for, slots_fit, arrives_found, come_from, from_here, from_last, no_more_from, one_if, some_one, idled, all_go_on, transfers_one, quiet_transfers, limited_parts, run_fault, held_for, LimitedAgrees, LimitedRunsAlike, same_limited_fault, begin, same_limited_run, limited_lists_kept, limited_outputs_kept, come_for, for_here, for_last, no_more_to, replicate, no_arrivals, ap, empty_fabric}
+use Rattle.cq_audit.proofs.Terms.{common_steps, rules, ◌≡◌, ◌↔◌, ℕ, ◌+◌, ◌-◌, ◌<◌, ◌≤◌, Bool, false, List, [], length, map, Option, Result, Err, arith, length-append, ◌*◌, zero, suc, ◌∷◌, ◌++◌, refl, append_assoc, IfErr, IsOk, IsTrue, OnOk, cases_lt, append-nil, take_all, take-append-le, Arrival, arriving, end_of, enough, RoomView, Cell, Transfer, Machine, class_count, Marked, first_slots, arriving_from, ranking, IsStable, Fabric, IsEmptyFabric, LimitedFabricRun, empty_limited_fabric, fabric_admission, IsLimitedFault, LimitedFabricSlot, LimitedRecord, arrivals_for, refusal_of, AreInOrder, NoneBefore, CanReplay, HasRested, IsInStep, IsSlotFault, ReplayView, SlotReplayed, ports_in, IsMadeAs, IsReady, IsStill, RunEnds, Reaches, StableRun, before_slot, AuditRefusal, Left, SlotFault, arriving_length, arriving_parts, quiet_limited_slots, transfers_of_run, AfterBy, run_length, first_more, quiet_slots, Ok, Some, TagFault, arrival_at, IsTraffic, is_from, is_to, number_of, count_for, whole_limited_run, empty_limited, input, reach, empty_list, empty_together, nothing_for, slots_fit, arrives_found, come_from, from_here, from_last, no_more_from, one_if, some_one, idled, all_go_on, transfers_one, quiet_transfers, limited_parts, run_fault, held_for, LimitedAgrees, LimitedRunsAlike, same_limited_fault, begin, same_limited_run, limited_lists_kept, limited_outputs_kept, come_for, for_here, for_last, no_more_to, replicate, no_arrivals, ap, empty_fabric}
 use Rattle.cq_audit.proofs.BySlot.{before_is, phase_later, none_first, none_from, none_next}
-use Rattle.cq_audit.proofs.Skips.{all_late, made_alike, same_fabric, made_on}
+use Rattle.cq_audit.proofs.Skips.{all_late, same_fabric}
 use Rattle.cq_audit.proofs.WholeFollowing.{all_before, moved, moved_parts}
 use Rattle.cq_audit.proofs.Following.{one_stable_run}
 use Rattle.cq_ideal.proofs.LimitedEnds.{last, limited_ends, limited_not_more, limited_whole_fault}
@@ -135,12 +135,9 @@ pub replaying_first : (M : List ℕ → Machine) (came : List Arrival) (lines : 
     (note : RoomView Transfer) → IsReady (map M first.fixed) came lines first note →
     Replaying M came lines first 0 lines first note
 unfolding arriving_from transfers_of_run
-replaying_first M came lines first note ready = search (arith, rules, none_first, made_alike)
+replaying_first M came lines first note ready = search (arith, rules, none_first)
 
 -- ## What is moved by one slot more, and by slots in which nothing happens
-
-moved_more : (rs : List LimitedRecord) (r : LimitedRecord) → moved (rs ++ r ∷ []) ≡ moved rs ++ transfers_in r.of_slot
-moved_more rs r = grind (arith, common_steps, moved_parts, transfers_one)
 
 none_moved_by : (ms : List Machine) (k slot ports : ℕ) (ranks : List (List ℕ)) (marks : List Bool) →
     moved (quiet_limited_slots ms k slot ports ranks marks) ≡ []
@@ -163,10 +160,6 @@ module _ {M : List ℕ → Machine} {came : List Arrival} {lines : List Transfer
   -- what was moved is what the lines before the slot say
   told_before : moved b.records ≡ before_slot slot lines
   told_before = grind (arith, common_steps, before_is, moved, all_before, all_late)
-
-  -- and the lines of a phase of the slot are among those that are left
-  same_lines : (phase : ℕ) → in_phase slot phase lines ≡ in_phase slot phase rest
-  same_lines phase = grind (arith, common_steps, phase_later, moved, all_before)
 
   pub rest_is_short : length rest ≤ length lines
   rest_is_short = grind (arith, common_steps, length-append, moved)
@@ -191,7 +184,7 @@ module _ {M : List ℕ → Machine} {came : List Arrival} {lines : List Transfer
         (IsLimitedFault first.limits (map M first.fixed)) in
         let parts = moved_parts b.records quiet_records in
         let before = none_from (ports_in now) next rest b.in_order still.no_line in
-        let made = made_on b.made rested.made in
+        let made : IsMadeAs first new = search rules in
         -- what arrives up to the slot, and then nothing, is what arrives up to the other
         let parts_are = arriving_parts came 0 slot slot (next - slot) next in
         let are : first_slots came slot ++ replicate (next - slot) no_arrivals ≡ first_slots came next =
@@ -220,13 +213,13 @@ module _ {M : List ℕ → Machine} {came : List Arrival} {lines : List Transfer
     at_next cells left new note' are had =
         let step = rw (b.made.limits, b.made.fixed) at had.is_slot in
         let one = one_each in
-        let more_moved = moved_more b.records had.of_slot in
+        let more_moved = rw transfers_one at (moved_parts b.records (had.of_slot ∷ [])) in
         let joined = all_go_on (LimitedFabricSlot IsStable first.limits (map M first.fixed))
         (IsLimitedFault first.limits (map M first.fixed)) in
         let long = arriving_length came 0 slot in
         let in_step = rw (← had.made.fixed) at had.in_step in
         let in_order = rw (← had.made.fixed) at had.in_order in
-        let made = made_on b.made had.made in
+        let made : IsMadeAs first new = search rules in
         search (arith, rules, first_more, joined, take-append-le, not_over, append_assoc, length-append, none_next)
 
     -- ## A fault
@@ -237,7 +230,7 @@ module _ {M : List ℕ → Machine} {came : List Arrival} {lines : List Transfer
     pub at_fault : (cells : List (Option Cell)) (fault : SlotFault) → cells ≡ arriving came slot →
         IsSlotFault (map M now.fixed) slot cells rest now fault →
         RunEnds (map M first.fixed) came lines first (Err (refusal_of slot fault))
-    at_fault cells fault are is = search (rules, same_lines, reached)
+    at_fault cells fault are is = search (rules, phase_later, all_before, reached)
 
     -- ## What a slot asks for
 
@@ -250,15 +243,11 @@ module _ {M : List ℕ → Machine} {came : List Arrival} {lines : List Transfer
       pub a_slot_left : slot < enough came
       a_slot_left = search (arith, rules, slots_bounded, run_from_start, not_over)
 
-      fit : IsOk (ranking (map M now.fixed) slot 0 (fabric_admission now.limits (arriving came slot) now.fabric).cells
-          now.fabric.state.ranks)
-      fit = grind (arith, common_steps, ranks_fit, run_from_start)
-
       pub can_replay : (cells : List (Option Cell)) → cells ≡ arriving came slot → note.items ≡ [] →
           CanReplay (map M now.fixed) slot cells rest now note
       can_replay cells are none =
           let for_ports = arrivals_for (ports_in first) (class_count (map M first.fixed)) came slot ready.traffic in
-          search (arith, rules, fit, a_slot_left, list_is_short, output_is_short)
+          search (arith, rules, ranks_fit, run_from_start, a_slot_left, list_is_short, output_is_short)
 
   -- ## The end of the loop
 

@@ -5,8 +5,8 @@
 -- the run. So of two faults of phases neither stands before the other, for a run that goes on past a phase has made
 -- the transfers of a stable matching there, as its lines say. For the same reason no fault stands within a whole run
 -- that moves what the lines say, and none behind it, for the run is over there. And two such runs are one.
-use Rattle.cq_audit.proofs.Terms.{common_steps, rules, ◌≡◌, ℕ, ◌+◌, ◌<◌, ◌≤◌, List, [], ◌∷◌, ◌++◌, length, take, drop, Option, refl, sym, arith, append_assoc, ◌-◌, AllByRecursion, cases_lt, take-append-drop, take-take, Arrival, end_of, Transfer, Marked, arriving_from, first_slots, arriving_length, Machine, IsStable, Fabric, IsEmptyFabric, LimitedFabricRun, LimitedFabricSlot, LimitedRecord, slots_in, transfers_of_run, AfterBy, reach, run_of_whole, Reaches, StableRun, before_slot, all_weaker, suc, ◌⊎◌, inl, inr, ⊎_elim, cases_order, Partners, one_arrival, one_departure, IsNoOf, phase_refusal, IsStableTold, in_phase, Begins, BeginsFirst, IsFaultAt, IsLeftAt, IsOfStableRun, PhaseFault, AuditRefusal, Left}
-use Rattle.cq_audit.proofs.BySlot.{before_all, before_is, before_later, phase_before, phase_later, phase_now}
+use Rattle.cq_audit.proofs.Terms.{common_steps, rules, ◌≡◌, ℕ, ◌+◌, ◌<◌, ◌≤◌, List, [], ◌∷◌, ◌++◌, length, take, drop, Option, refl, sym, arith, append_assoc, ◌-◌, AllByRecursion, cases_lt, take-append-drop, take-take, Arrival, end_of, Transfer, Marked, arriving_from, first_slots, arriving_length, Machine, IsStable, Fabric, IsEmptyFabric, LimitedFabricRun, LimitedFabricSlot, LimitedRecord, slots_in, transfers_of_run, AfterBy, reach, run_of_whole, Reaches, StableRun, before_slot, all_weaker, suc, ◌⊎◌, inl, inr, ⊎_elim, cases_order, Partners, one_arrival, one_departure, IsNoOf, phase_refusal, IsStableTold, in_phase, Begins, BeginsFirst, IsFaultAt, IsLeftAt, IsOfStableRun, PhaseFault, AuditRefusal, Left, filter_all, lt-ltb}
+use Rattle.cq_audit.proofs.BySlot.{before_is, before_later, phase_before, phase_later, phase_now}
 use Rattle.cq_audit.proofs.Following.{each_moved, one_move, one_stable_run, run_later, run_within}
 use Rattle.cq_audit.proofs.PhaseExact.{phase_is_exact}
 
@@ -47,7 +47,7 @@ module _ (limits : List (Option ℕ)) (ms : List Machine) (came : List Arrival) 
     -- where they are all lines, it moves what those up to its end say
     pub followed : (rs : List LimitedRecord) (g : Marked Fabric) (note : List Transfer) → Whole rs g →
         moved rs ≡ note → moved rs ≡ before_slot (length rs) note
-    followed rs g note w same = grind (arith, common_steps, before_all, all_before, whole_run)
+    followed rs g note w same = grind (arith, common_steps, filter_all, all_weaker, lt-ltb, all_before, whole_run)
 
     module _ (note : List Transfer) where
       -- ## A run that goes on past a slot
@@ -66,10 +66,6 @@ module _ (limits : List (Option ℕ)) (ms : List Machine) (came : List Arrival) 
           let parts = moved_parts (take m rs) (drop m rs) in
           let whole = take-append-drop m rs in
           let same = before_later m n note le in search (arith, rules, all_before, run_later, before_is)
-
-      pub reaches : (m n : ℕ) (rs : List LimitedRecord) (end : Marked Fabric) (h : Halfway m n rs end) →
-          Going m rs → Reaches limits ms came start note m h.state
-      reaches m n rs end h going = search (arith, rules, take-take)
 
       -- ## A whole run that moves what the lines up to its end say
 
@@ -157,7 +153,7 @@ module _ (limits : List (Option ℕ)) (ms : List Machine) (came : List Arrival) 
           let h = halfway slot n rs end (omega arith) run told in
           let left : n - slot ≡ suc (n - slot - 1) = omega arith in
           let earlier = all_before slot start h.state (take slot rs) h.after in
-          search (arith, rules, next_settled slot (n - slot - 1), reaches slot n rs end h, phase_later, phase_before)
+          search (arith, rules, next_settled slot (n - slot - 1), take-take, phase_later, phase_before)
 
       -- ## Two faults
 
