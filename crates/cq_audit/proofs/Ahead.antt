@@ -44,7 +44,7 @@ module _ (o : Orders) (m : Partners) (i : ℕ) where
       stands = grind (arith, common_steps, order_ends, all_ahead, place_of-at, get_or-take)
 
       pub is_offered : IsOffered o i output
-      is_offered = grind (arith, common_steps, stands)
+      is_offered = grind (arith, common_steps, order_ends, all_ahead, place_of-at, get_or-take)
 
       pub in_range : length m ≡ ports o → output < length m
       in_range square = grind (arith, common_steps, output_in_range, stands)

@@ -1,12 +1,8 @@
 -- What is told of the lists of some queues is told of their inputs, and so are the transfers of what the lines tell.
-use Rattle.cq_audit.proofs.Terms.{common_steps, arith, ◌≡◌, ◌+◌, ◌++◌, ℕ, List, length, length-map, Queued, Transfer, RoomView, Waiting, cells_of, Moves, transfers_of, Partners, Queues, IsPhaseFault, IsStableTold, PhaseFault}
+use Rattle.cq_audit.proofs.Terms.{common_steps, arith, ◌≡◌, ◌+◌, ◌++◌, ℕ, List, length, Queued, Transfer, RoomView, Waiting, cells_of, Moves, transfers_of, Partners, Queues, IsPhaseFault, IsStableTold, PhaseFault}
 use Rattle.cq_audit.specs.Crossing.{AreNoted, HaveCrossed}
 
 -- there are as many lists as inputs
-pub lists_long : (lists : List Waiting) (inputs : List (List Queued)) → cells_of lists ≡ inputs →
-    length lists ≡ length inputs
-lists_long lists inputs is = grind (arith, common_steps, length-map)
-
 pub fault_there : (lists : List Waiting) (inputs : List (List Queued)) (lines : List Transfer) (fault : PhaseFault) →
     cells_of lists ≡ inputs → IsPhaseFault (cells_of lists) lines fault → IsPhaseFault inputs lines fault
 fault_there lists inputs lines fault is wrong = rw is at wrong

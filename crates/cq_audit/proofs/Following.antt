@@ -2,7 +2,7 @@
 -- the slot's transfers are the same, so are those of each phase, and they tell the matchings
 -- (`transfers_tell_the_matching`). All else follows from the state and what arrives. In a run the transfers of a
 -- slot stand before those of later ones.
-use Rattle.cq_audit.proofs.Terms.{common_steps, rules, ◌≡◌, ℕ, ◌+◌, ◌<◌, ◌≤◌, List, [], ◌∷◌, length, Option, refl, sym, ◌∙◌, arith, AllByRecursion, Cell, Queued, Machine, Marked, orders_of, transfers_of, Orders, IsStable, Partners, Fabric, FabricSlot, SlotRecord, LimitedFabricRun, LimitedFabricSlot, LimitedRecord, slots_in, Transfers, transfers_in, transfers_of_run, one_arrival, one_departure, one_transfer, same_record, transfers_tell, all_weaker, in_phase, all_both, all_from_has, looked_up}
+use Rattle.cq_audit.proofs.Terms.{common_steps, rules, ◌≡◌, ℕ, ◌+◌, ◌<◌, ◌≤◌, List, [], ◌∷◌, length, Option, refl, sym, ◌∙◌, arith, AllByRecursion, Cell, Queued, Machine, Marked, orders_of, transfers_of, Orders, IsStable, Partners, Fabric, FabricSlot, SlotRecord, LimitedFabricRun, LimitedRecord, slots_in, Transfers, transfers_in, transfers_of_run, one_arrival, one_departure, one_transfer, same_record, transfers_tell, all_weaker, in_phase, all_both, all_from_has, looked_up}
 use Rattle.cq_audit.proofs.BySlot.{of_two, one_parting}
 
 -- ## What is noted of a phase
@@ -52,13 +52,6 @@ slot_at MayChoose ms slot cells f g r step = grind (arith, common_steps, all_bot
 -- ## One run
 
 module _ (limits : List (Option ℕ)) (ms : List Machine) where
-  one_limited_slot : (slot : ℕ) (cells : List (Option Cell)) (f g h : Marked Fabric) (r s : LimitedRecord) →
-      LimitedFabricSlot IsStable limits ms slot cells f r g → LimitedFabricSlot IsStable limits ms slot cells f s h →
-      transfers_in r.of_slot ≡ transfers_in s.of_slot → (r ≡ s) × (g ≡ h)
-  one_limited_slot slot cells f g h r s x y moved =
-      search
-      (arith, rules, one_stable_slot ms slot r.admission.cells f.state g.state h.state r.of_slot s.of_slot x.runs)
-
   -- the transfers of a run are of its slots
   pub run_within : (slot : ℕ) (traffic : List (List (Option Cell))) (f g : Marked Fabric) (rs : List LimitedRecord) →
       LimitedFabricRun IsStable limits ms slot traffic f rs g →
@@ -89,5 +82,6 @@ module _ (limits : List (Option ℕ)) (ms : List Machine) where
       let parts = one_parting (slot + 1) (transfers_in r.of_slot) _ (transfers_in s.of_slot) _
       (all_weaker _ _ (λ t at. omega arith) _ here) (run_later (slot + 1) traffic x.0 g rs x.2)
       (all_weaker _ _ (λ t at. omega arith) _ there) (run_later (slot + 1) traffic y.0 h ss y.2) moved in
-      search (arith, rules, one_limited_slot slot cells f x.0 y.0 r s, one_stable_run (slot + 1) traffic x.0 g h rs ss)
+      let one = one_stable_slot ms slot r.admission.cells f.state x.0.state y.0.state r.of_slot s.of_slot x.1.runs in
+      search (arith, rules, one, one_stable_run (slot + 1) traffic x.0 g h rs ss)
   one_stable_run slot traffic f g h rs ss x y moved = absurd y

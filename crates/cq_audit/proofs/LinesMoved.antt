@@ -5,7 +5,7 @@
 -- Where no line of a phase is wrong, the transfers of the pairs that they tell are the lines. What is noted of an
 -- input is its line: its partner is the output that the line names, and its first cell for that output is the one.
 -- And the lines of all inputs, in order, are the lines.
-use Rattle.cq_audit.proofs.Terms.{common_steps, ◌≡◌, ◌≢◌, ℕ, zero, suc, ◌+◌, ◌<◌, ◌≤◌, ◌⊎◌, List, [], ◌∷◌, length, Option, None, Some, refl, ◌∙◌, ⊎_elim, arith, rules, sym, AllByRecursion, filter_map, range_with_len, option_map, length-map, get_or_past, cases_eq, cond_both, eqb-true, cases_lt, Queued, Transfer, Waiting, cells_of, list_of, orders_of, output_order, noted, transfers_of, Orders, ports, IsOffered, Partners, partner_of, HasBetterInput, HasBetterOutput, IsMatching, IsStable, AreOfPhase, AreRight, IsBlocking, IsStableTold, RiseByInput, line_of_input, told, first_id, output_told, all_weaker, get_or-map-range_with_len, length-map-range_with_len, is_output_order, outputs_at, CellId, sender, all_give}
+use Rattle.cq_audit.proofs.Terms.{common_steps, ◌≡◌, ◌≢◌, ℕ, zero, suc, ◌+◌, ◌<◌, ◌≤◌, ◌⊎◌, List, [], ◌∷◌, length, Option, None, Some, refl, ◌∙◌, ⊎_elim, arith, rules, sym, AllByRecursion, filter_map, range_with_len, option_map, length-map, get_or_past, cases_eq, cond_both, eqb-true, cases_lt, Queued, Transfer, Waiting, cells_of, list_of, orders_of, output_order, noted, transfers_of, Orders, ports, IsOffered, Partners, partner_of, HasBetterInput, HasBetterOutput, IsMatching, AreOfPhase, AreRight, IsBlocking, IsStableTold, RiseByInput, line_of_input, told, first_id, output_told, all_weaker, get_or-map-range_with_len, length-map-range_with_len, is_output_order, outputs_at, CellId, sender, all_give}
 use Rattle.cq_audit.proofs.TellingLines.{line_holds, line_is_of, no_line}
 
 -- ## Settled
@@ -56,10 +56,6 @@ module _ (lists : List (List Queued)) (lines : List Transfer) where
       once = search (arith, rules, apart, told_line, cases_lt);
     }
 
-    pub told_stable : ((i j : ℕ) → IsBlocking (orders_of lists) (told (length lists) lines) i j → ⊥) →
-        IsStable (orders_of lists) (told (length lists) lines)
-    told_stable none = record { matching = told_matching; settled = settled _ _ told_matching none }
-
 -- ## The lines of all inputs
 
 pub line_later : (i : ℕ) (t : Transfer) (lines : List Transfer) → t.input ≢ i → line_of_input i (t ∷ lines) ≡
@@ -97,14 +93,10 @@ module _ (lists : List (List Queued)) (lines : List Transfer) (right : AreRight 
   note_is None is = refl
   note_is (Some t) is = search (arith, rules, some_of, names_first lists lines right i t is, line_holds, line_is_of)
 
-  line_is_noted : i < length lists →
-      noted slot phase i (list_of lists i) (partner_of (told (length lists) lines) i) ≡ line_of_input i lines
-  line_is_noted inside = rw (told_at lists lines i inside) (note_is (line_of_input i lines) refl)
-
 pub told_moves : (lists : List (List Queued)) (lines : List Transfer) (slot phase : ℕ) → AreRight lists lines →
     AreOfPhase (length lists) slot phase lines → transfers_of (told (length lists) lines) lists slot phase ≡ lines
 unfolding transfers_of
-told_moves lists lines slot phase right are = search (rules, told_size, lines_by_input, line_is_noted, all_weaker)
+told_moves lists lines slot phase right are = search (rules, told_size, lines_by_input, told_at, note_is, all_weaker)
 
 -- the same of lists, and of the offers of what they hold
 pub judged_stable : (lists : List Waiting) (lines : List Transfer) (slot phase : ℕ) (m : Partners) (o : Orders) →
@@ -113,8 +105,9 @@ pub judged_stable : (lists : List Waiting) (lines : List Transfer) (slot phase :
     IsStableTold (cells_of lists) slot phase lines m
 judged_stable lists lines slot phase m o orders pairs right are none =
     let long = length-map lists (λ (w : Waiting). w.cells) in
+    let is = told_matching (cells_of lists) lines right in
     rw (pairs, ← long) (record {
-      stable = told_stable (cells_of lists) lines right (rw (orders, pairs, ← long) at none);
+      stable = record { matching = is; settled = settled _ _ is (rw (orders, pairs, ← long) at none) };
       moved = told_moves (cells_of lists) lines slot phase right (rw (← long) at are);
     })
 

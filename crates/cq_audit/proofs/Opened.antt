@@ -1,7 +1,7 @@
 -- How the replay of a log begins that is made for a setup: the machines are those of the disciplines, each in its
 -- opening state, and there is room for all cells that arrive, and for what one slot notes. And what its end says of
 -- the log.
-use Rattle.cq_audit.proofs.Terms.{common_steps, rules, ◌≡◌, ℕ, ◌*◌, List, [], length, map, Option, Result, arith, IfErr, IsOk, OnOk, get_or-map-range_with_len, Arrival, RoomView, Transfer, Setup, IsShort, IsTraffic, is_from, is_to, rooms_of, Machine, class_count, machines_of, openings_of, Marked, whole_limited_run, empty_limited, Fabric, empty_limited_fabric, IsNo, IsYes, opening_fabric, AreInOrder, IsLog, IsInStep, ReplayView, ports_in, IsReady, RunEnds, AuditRefusal}
+use Rattle.cq_audit.proofs.Terms.{common_steps, rules, ◌≡◌, ℕ, ◌*◌, List, [], length, map, Option, Result, arith, IfErr, IsOk, OnOk, get_or-map-range_with_len, Arrival, RoomView, Transfer, Setup, IsShort, IsTraffic, is_from, is_to, rooms_of, Machine, class_count, machines_of, openings_of, whole_limited_run, empty_limited, IsNo, IsYes, opening_fabric, AreInOrder, IsLog, IsInStep, ReplayView, ports_in, IsReady, RunEnds, AuditRefusal}
 
 -- The replay of a switch of this setup with these limits, before its first slot.
 pub record IsOpened (M : List ℕ → Machine) (setup : Setup) (limits : List (Option ℕ)) (first : ReplayView) : Type 0
@@ -10,13 +10,6 @@ pub record IsOpened (M : List ℕ → Machine) (setup : Setup) (limits : List (O
     pub machines : map M first.fixed ≡ machines_of setup
     pub limits_are : first.limits ≡ limits
     pub fabric : first.fabric ≡ opening_fabric setup
-
--- so it is where it was made of the disciplines
-pub opened : (M : List ℕ → Machine) (setup : Setup) (limits : List (Option ℕ)) (ports : ℕ)
-    (fixed states : List (List ℕ)) (first : ReplayView) → ports ≡ length setup.kinds → length fixed ≡ ports →
-    map M fixed ≡ machines_of setup → states ≡ openings_of setup → first.fixed ≡ fixed → first.limits ≡ limits →
-    first.fabric ≡ empty_limited_fabric ports states → IsOpened M setup limits first
-opened M setup limits ports fixed states first many long machines openings same limits_are fabric = search (rules)
 
 module _ {M : List ℕ → Machine} {setup : Setup} {limits : List (Option ℕ)} {first : ReplayView}
     (is : IsOpened M setup limits first) (came : List Arrival) where
@@ -33,12 +26,7 @@ module _ {M : List ℕ → Machine} {setup : Setup} {limits : List (Option ℕ)}
 
   -- ## What the end says of the log
 
-  -- of what it is made, and of the setup
-  of_setup : (P : List (Option ℕ) → List Machine → Marked Fabric → Type 0) →
-      P first.limits (map M first.fixed) first.fabric → P limits (machines_of setup) (opening_fabric setup)
-  of_setup P ends = grind (arith, common_steps)
-
   pub verdict : (lines : List Transfer) (log : List ℕ) (result : Result (Unit {0}) AuditRefusal) →
       IsLog (length setup.kinds) lines log → RunEnds (map M first.fixed) came lines first result →
       OnOk result (IsYes setup limits came log) × IfErr result (IsNo setup limits came log)
-  verdict lines log result read ends = grind (arith, common_steps, of_setup)
+  verdict lines log result read ends = grind (arith, common_steps)

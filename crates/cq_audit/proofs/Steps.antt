@@ -8,7 +8,7 @@
 -- than arrive at its input, and an output holds no more cells more than arrive for it. So no list and no output holds
 -- more than arrives in all. Beside the fabric an ideal switch runs, with which it agrees. So where the whole run of
 -- that one meets no tag fault, the fabric meets none, and it goes on for no more slots than that one.
-use Rattle.cq_audit.proofs.Terms.{common_steps, rules, ◌≡◌, ◌↔◌, ℕ, ◌+◌, ◌-◌, ◌<◌, ◌≤◌, Bool, false, List, [], length, map, Option, Result, Err, arith, length-append, ◌*◌, zero, suc, ◌∷◌, ◌++◌, refl, append_assoc, IfErr, IsOk, IsTrue, OnOk, cases_lt, append-nil, take_all, take-append-le, Arrival, arriving, end_of, enough, RoomView, Cell, Transfer, Machine, class_count, Marked, first_slots, arriving_from, ranking, IsStable, Fabric, IsEmptyFabric, LimitedFabricRun, empty_limited_fabric, fabric_admission, IsLimitedFault, LimitedFabricSlot, LimitedRecord, arrivals_for, refusal_of, AreInOrder, NoneBefore, CanReplay, HasRested, IsInStep, IsSlotFault, ReplayView, SlotReplayed, ports_in, IsMadeAs, IsReady, IsStill, RunEnds, Reaches, StableRun, before_slot, AuditRefusal, Left, SlotFault, arriving_length, arriving_parts, quiet_limited_slots, transfers_of_run, AfterBy, run_length, first_more, quiet_slots, Ok, Some, TagFault, arrival_at, IsTraffic, is_from, is_to, number_of, count_for, whole_limited_run, empty_limited, input, reach, empty_list, empty_together, nothing_for, slots_fit, arrives_found, come_from, from_here, from_last, no_more_from, one_if, some_one, idled, all_go_on, transfers_one, quiet_transfers, limited_parts, run_fault, held_for, LimitedAgrees, LimitedRunsAlike, same_limited_fault, begin, same_limited_run, limited_lists_kept, limited_outputs_kept, come_for, for_here, for_last, no_more_to, replicate, no_arrivals, ap, empty_fabric}
+use Rattle.cq_audit.proofs.Terms.{common_steps, rules, ◌≡◌, ℕ, ◌+◌, ◌-◌, ◌<◌, ◌≤◌, Bool, List, [], length, map, Option, Result, Err, arith, length-append, ◌*◌, zero, suc, ◌∷◌, ◌++◌, refl, append_assoc, IfErr, IsOk, OnOk, cases_lt, append-nil, take_all, take-append-le, Arrival, arriving, end_of, enough, RoomView, Cell, Transfer, Machine, class_count, Marked, first_slots, arriving_from, ranking, IsStable, Fabric, IsEmptyFabric, LimitedFabricRun, empty_limited_fabric, fabric_admission, IsLimitedFault, LimitedFabricSlot, LimitedRecord, arrivals_for, refusal_of, AreInOrder, NoneBefore, CanReplay, HasRested, IsInStep, IsSlotFault, ReplayView, SlotReplayed, ports_in, IsMadeAs, IsReady, IsStill, RunEnds, Reaches, StableRun, before_slot, AuditRefusal, Left, SlotFault, arriving_length, arriving_parts, quiet_limited_slots, transfers_of_run, AfterBy, run_length, first_more, quiet_slots, Ok, Some, TagFault, arrival_at, IsTraffic, is_from, is_to, number_of, count_for, whole_limited_run, empty_limited, input, reach, empty_list, empty_together, nothing_for, slots_fit, arrives_found, come_from, from_here, from_last, no_more_from, one_if, some_one, idled, all_go_on, transfers_one, quiet_transfers, limited_parts, run_fault, held_for, LimitedAgrees, LimitedRunsAlike, same_limited_fault, begin, same_limited_run, limited_lists_kept, limited_outputs_kept, come_for, for_here, for_last, no_more_to, replicate, no_arrivals}
 use Rattle.cq_audit.proofs.BySlot.{before_is, phase_later, none_first, none_from, none_next}
 use Rattle.cq_audit.proofs.Skips.{all_late, same_fabric}
 use Rattle.cq_audit.proofs.WholeFollowing.{all_before, moved, moved_parts}
@@ -43,9 +43,8 @@ module _ (limits : List (Option ℕ)) (ms : List Machine) (came : List Arrival) 
           length (input f.state i) < number_of (is_from i) came
       list_is_short i cell at =
           let grown = (grow slot 0 (empty_limited_fabric ports ranks) f rs run).0 i in
-          let none : length (input (empty_fabric ports ranks) i) ≡ 0 = ap length (empty_list ports i) in
           let all = no_more_from i came (suc slot) in
-          let comes = arrives_found came slot i in search (arith, rules, one_if, from_last)
+          let comes = arrives_found came slot i in grind (arith, common_steps, empty_list, one_if, from_last)
 
       -- the cells that an output holds and those that arrive for it in the next slot are no more than arrive for it in
       -- all
@@ -74,8 +73,7 @@ module _ (limits : List (Option ℕ)) (ms : List Machine) (came : List Arrival) 
             let here = (same_limited_fault limits ms slot (arriving came slot) f beside.after fault agree_now).1 is in
             let parts = limited_parts limits ms 0 slot (first_slots came slot) (arriving came slot ∷ []) start at in
             let stops = run_fault limits ms slot (arriving came slot) [] beside.after fault here in
-            limited_whole_fault limits ms ports ranks came (slot + 1) fault
-            (cc (first_more came slot, parts, beside.ran, stops))
+            search (rules, limited_whole_fault limits ms ports ranks came (slot + 1), first_more came slot)
 
         -- the ranks of what is admitted in the next slot fit
         pub ranks_fit : IsOk (whole_limited_run limits ms came (empty_limited ports ranks)) →
@@ -146,10 +144,6 @@ none_moved_by ms zero slot ports ranks marks = refl
 none_moved_by ms (suc k) slot ports ranks marks =
     grind (arith, common_steps, quiet_transfers, none_moved_by ms k (slot + 1) ports (idled ms ports ranks) marks)
 
-pub goes_on : (b : Bool) (end slot : ℕ) (Empty : Type 0) → b ≡ false → (IsTrue b ↔ ((end ≤ slot) × Empty)) →
-    end ≤ slot → Empty → ⊥
-goes_on b end slot Empty going iff le none = grind (arith, common_steps, iff.1)
-
 module _ {M : List ℕ → Machine} {came : List Arrival} {lines : List Transfer} {first : ReplayView} {slot : ℕ}
     {rest : List Transfer} {now : ReplayView} {note : RoomView Transfer}
     (b : Replaying M came lines first slot rest now note) where
@@ -184,7 +178,6 @@ module _ {M : List ℕ → Machine} {came : List Arrival} {lines : List Transfer
         (IsLimitedFault first.limits (map M first.fixed)) in
         let parts = moved_parts b.records quiet_records in
         let before = none_from (ports_in now) next rest b.in_order still.no_line in
-        let made : IsMadeAs first new = search rules in
         -- what arrives up to the slot, and then nothing, is what arrives up to the other
         let parts_are = arriving_parts came 0 slot slot (next - slot) next in
         let are : first_slots came slot ++ replicate (next - slot) no_arrivals ≡ first_slots came next =
@@ -225,7 +218,7 @@ module _ {M : List ℕ → Machine} {came : List Arrival} {lines : List Transfer
     -- ## A fault
 
     reached : Reaches first.limits (map M first.fixed) came first.fabric lines slot now.fabric
-    reached = grind (arith, common_steps, moved, told_before, goes_on, not_over)
+    reached = grind (arith, common_steps, moved, told_before, not_over)
 
     pub at_fault : (cells : List (Option Cell)) (fault : SlotFault) → cells ≡ arriving came slot →
         IsSlotFault (map M now.fixed) slot cells rest now fault →

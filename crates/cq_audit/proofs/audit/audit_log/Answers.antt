@@ -1,5 +1,5 @@
-use Rattle.cq_audit.proofs.Terms.{rules, ◌≡◌, length, ◌∙◌, arith, length-map, err_from_is_err_and, IsLog, machine_from}
-use Rattle.cq_audit.proofs.Opened.{IsOpened, opened, ready, verdict}
+use Rattle.cq_audit.proofs.Terms.{rules, ◌≡◌, length, ◌∙◌, arith, length-map, err_from_is_err_and, machine_from}
+use Rattle.cq_audit.proofs.Opened.{IsOpened, ready, verdict}
 use Rattle.cq_audit.proofs.LogLines.{log_in_order}
 use Rattle.cq_audit.proofs.audit.audit_log.Goals as goal
 use Rattle.cq_audit.proofs.audit.audit_log.Goals.{After-as_slice, After-len-ports, In_ok-ranks}
@@ -17,12 +17,7 @@ counted c = omega (arith, c.len-ports.ensures, c.in_ok-ranks.ranks.ok)
 -- the replay is that of the setup, before its first slot
 stands : (c : After-as_slice) → length c.in_ok-ranks.ranks.items ≡ length c.args.setup.now.kinds →
     IsOpened machine_from c.args.setup.now c.args.limits.now c.in_ok-replay.replay
-stands c kinds = search (arith, rules, opened, length-map)
-
--- and it goes by the lines of the log
-logged : (c : After-as_slice) → c.len-ports.result ≡ length c.args.setup.now.kinds →
-    IsLog (length c.args.setup.now.kinds) c.as_slice.result.now c.args.log.now
-logged c as_many = search (arith, rules)
+stands c kinds = search (arith, rules, length-map)
 
 -- ## What is asked, and what the audit says
 
@@ -46,17 +41,12 @@ replay_run-requires c =
     let at = goal.at.replay_run-requires c in
     let kinds = ranked at.In_ok-ranks in
     let many = counted at.After-len-ports in
-    let made = c.in_ok-replay.ensures in
-    ready (stands at.After-as_slice kinds) c.args.schedule.now.came c.as_slice.result.now c.in_ok-note.note
-    c.len-ports.result (many ∙ kinds) made.in_step (c.in_ok-ranks.ensures.classes c.requires.some) c.requires.traffic
-    c.requires.short c.requires.ranked (rw (← many) at made.from_inputs) (rw (← many) at made.to_outputs)
-    (rw c.as_slice.ensures.value
-    (log_in_order c.len-ports.result c.in_ok-lines.lines.items c.args.log.now c.in_ok-lines.ensures.read))
-    c.in_ok-note.ensures.items c.in_ok-note.ensures.spare
+    let begins = stands at.After-as_slice kinds in
+    let classes = c.in_ok-ranks.ensures.classes c.requires.some in search (arith, rules, ready, log_in_order)
 
 pub returns : goal.returns
 returns c =
     let at = goal.at.returns c in
     let kinds = ranked at.In_ok-ranks in
     let many = counted at.After-len-ports in
-    let begins = stands at.After-as_slice kinds in search (arith, rules, verdict, logged)
+    let begins = stands at.After-as_slice kinds in search (arith, rules, verdict)

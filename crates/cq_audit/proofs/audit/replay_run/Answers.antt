@@ -1,5 +1,5 @@
-use Rattle.cq_audit.proofs.Terms.{rules, ◌≤◌, ◌∙◌, arith, end_of, IsEmptyFabric}
-use Rattle.cq_audit.proofs.Steps.{Replaying, a_slot_left, at_end, at_fault, at_next, can_replay, cleared, goes_on, not_over_past, past, replaying_first, rest_is_short}
+use Rattle.cq_audit.proofs.Terms.{rules, common_steps, ◌≤◌, ◌∙◌, arith, end_of, IsEmptyFabric}
+use Rattle.cq_audit.proofs.Steps.{Replaying, a_slot_left, at_end, at_fault, at_next, can_replay, cleared, not_over_past, past, replaying_first, rest_is_short}
 use Rattle.cq_audit.proofs.audit.replay_run.Given as given
 use Rattle.cq_audit.proofs.audit.replay_run.Goals as goal
 use Rattle.cq_audit.proofs.audit.replay_run.Goals.{After-skip-slot}
@@ -17,7 +17,7 @@ there g c = past (cleared c.slots.invariant c.clear.new.self c.clear.ensures.ite
 more : (g : given.Over) (c : After-skip-slot g) → end_of c.args.schedule.now.came ≤ c.skip-slot.result →
     IsEmptyFabric c.skip-slot.new.replay.fabric.state → ⊥
 more g c = not_over_past c.slots.invariant c.skip-slot.ensures.still c.skip-slot.ensures.rested
-    (search (arith, rules, goes_on))
+    (λ late empty. grind (arith, common_steps, c.is_over.ensures.1))
 
 pub slot-requires : goal.slot-requires
 slot-requires g c =

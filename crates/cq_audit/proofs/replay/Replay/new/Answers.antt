@@ -27,6 +27,5 @@ returns g c =
       fabric = opening_is is c.of.result c.of.ensures.states;
       from_inputs = rw each at c.in_ok-queues_for.ensures.from_inputs;
       to_outputs = rw each at c.in_ok-queues_for.ensures.to_outputs;
-      in_step = in_step_first is c.of.result (search (arith, rules)) (search (arith, rules, length-map))
-          (search (arith, rules, length-map));
+      in_step = search (arith, rules, in_step_first is c.of.result, length-map);
     }
