@@ -190,7 +190,8 @@ module _ (limits : List (Option ℕ)) (ms : List Machine) (came : List Arrival) 
           let at = reached_at slot phase fault f in
           ⊎_elim (λ (within : slot < n). none_passed slot phase fault (passed slot n w.records w.end within run
           w.told (whole_going slot w.records w.end within w.runs)) f)
-          (λ (behind : n ≤ slot). search (arith, rules, halfway n slot at.1.records at.0, one_stable_run)) (cases_lt slot n)
+          (λ (behind : n ≤ slot). search (arith, rules, halfway n slot at.1.records at.0, one_stable_run))
+          (cases_lt slot n)
 
       -- no line is left of those that it moves all
       none_left : (n : ℕ) → IsOfStableRun limits ms came start note → IsLeftAt limits ms came start note n → ⊥
