@@ -58,9 +58,6 @@ module _ (w : Switch) where
     sent_is : Sound (slot + 1) r.of_slot.sent
     sent_is = search (rules, after_sent)
 
-    arrived_many : length r.of_slot.arrived.inputs ≡ length w.machines
-    arrived_many = k.step.arrive.ports ∙ k.ports
-
     -- what holds of each cell that was there or came holds of each at every moment of the slot
     module _ (P : Queued → Type 0) (all : (j : ℕ) (q : Queued) → HasFor f.state j q ⊎ CameFor r.of_slot.came j q → P q)
       where
@@ -108,7 +105,7 @@ module _ (w : Switch) where
     -- a phase makes no more than the number of ports squared
     proposed_few : length w.machines ≤ most_ports → sum (proposals_in r.of_slot) ≤ 8192
     unfolding proposals_in
-    proposed_few few = search (arith, rules, proposals_few, arrived_is, sent_is, arrived_many, square_few)
+    proposed_few few = search (arith, rules, proposals_few, arrived_is, sent_is, k.step, k.ports, square_few)
 
     none_proposed : waits f.state ≡ 0 → came ≡ 0 → sum (proposals_in r.of_slot) ≡ 0
     none_proposed none quiet =

@@ -12,14 +12,9 @@ module _ {X : Type 0} where
   abbrev pub all_of : List (List X) → List X
   all_of xss = flat_map (λ xs. xs) xss
 
-  pub record IsAt (xss : List (List X)) (x : X) : Type 0 where
-    pub place : ℕ
-    pub has : Has (list_at xss place) x
-
-  pub is_at : (xss : List (List X)) (x : X) → Has (all_of xss) x → IsAt xss x
+  pub is_at : (xss : List (List X)) (x : X) → Has (all_of xss) x → (i : ℕ) × Has (list_at xss i) x
   is_at [] x has = absurd has
-  is_at (xs ∷ xss) x has = ⊎_elim (λ here. record { place = zero; has = here })
-      (λ later. let it = is_at xss x later in record { place = suc it.place; has = it.has })
+  is_at (xs ∷ xss) x has = ⊎_elim (λ here. (zero, here)) (λ later. let it = is_at xss x later in (suc it.0, it.1))
       (has_cases xs (all_of xss) x has)
 
   pub has_at_place : (xss : List (List X)) (i : ℕ) (x : X) → Has (list_at xss i) x → Has (all_of xss) x
@@ -38,7 +33,7 @@ module _ {X : Type 0} where
     pairs_of_all [] within across = tt
     pairs_of_all (xs ∷ xss) within across = pairs_joined R xs (all_of xss) (within zero) (pairs_of_all xss
         (λ i. within (suc i)) (λ i k x y lt one two. across (suc i) (suc k) x y (omega arith) one two))
-        (λ x y one two. let it = is_at xss y two in across zero (suc it.place) x y (omega arith) one it.has)
+        (λ x y one two. let it = is_at xss y two in across zero (suc it.0) x y (omega arith) one it.1)
 
   pub pairs_both : (R S : X → X → Type 0) (xs : List X) → EachPair R xs → EachPair S xs →
       EachPair (λ x y. R x y × S x y) xs
@@ -87,7 +82,7 @@ module _ {X : Type 0} (number : X → ℕ) where
 
   pub sift : (xss : List (List X)) → ((k : ℕ) (x : X) → Has (list_at xss k) x → number x ≡ k) → (i : ℕ) →
       filter (is_numbered i) (all_of xss) ≡ list_at xss i
-  sift xss own i = sifted 0 i xss (λ k x has. let e = own k x has in omega arith) i (omega arith)
+  sift xss own i = sifted 0 i xss (search (arith, rules, own)) i (omega arith)
 
 -- lists by their places
 pub by_places : {X : Type 0} (f : ℕ → X) (d : X) (xs : List X) →

@@ -115,11 +115,6 @@ pub is_less : (a b : Key) → a.level ≡ b.level → a.rank ≤ b.rank → a.sl
 unfolding is_before
 is_less a b level rank slot = search (arith, rules, lt-ltb, le-ltb, eq-eqb, cases_lt)
 
--- what comes before none that a cell comes before does not come before the cell
-none_before : (n x y : Key) → is_before n x ≡ true → is_before y x ≡ false → is_before y n ≡ false
-none_before n x y h k =
-    false_from_ne_true (is_before y n) (λ back. both_ways (is_before y x) k (key_laws.on y n x back h))
-
 -- ## One cell is put
 
 module _ (R : Queued → Queued → Type 0) (q : Queued) where
@@ -132,7 +127,7 @@ module _ (R : Queued → Queued → Type 0) (q : Queued) where
   waiting_pairs [] order pairs ahead after = (tt, tt)
   waiting_pairs (x ∷ xs) order pairs ahead after =
       let rest = waiting_pairs xs order.1 pairs.1 ahead.1 after.1 in
-      search (arith, rules, cond_both, key_laws.one_way, all_from_has, all_of_has, none_before, all_put)
+      search (arith, rules, cond_both, key_laws, all_from_has, all_of_has, both_ways, false_from_ne_true, all_put)
 
   pub put_pairs : (left xs : List Queued) → EachPair NoLater xs → EachPair R (left ++ xs) →
       AllByRecursion (λ x. R x q) (left ++ xs) → AllByRecursion MayStandBehind xs → EachPair R (left ++ put q xs)

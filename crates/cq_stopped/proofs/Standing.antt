@@ -3,7 +3,7 @@
 -- are one, and of all others the names differ. Each name in the state is of such a cell, and comes to it: each list to
 -- the list of its input, each buffer to that of its output, and each departure to itself. So the clauses hold that ask
 -- for a sound state, but for the fourth.
-use Rattle.cq_stopped.proofs.Terms.{rules, ◌≡◌, ℕ, ◌<◌, List, [], length, Option, refl, sym, ◌∙◌, inl, inr, arith, true, ◌++◌, map, Some, None, ap, ⊎_elim, ◌≤◌, false_from_ne_true, and_from, and_parts, eq-eqb, eqb-true, common_steps, map-append, list_any, filter_map, ◌==◌, is_some, slice_index_or, filter, option_map, IsSome, IsBefore, is_for, Departure, Queued, Transfer, HasWaited, IdealState, apart_from, not_before_itself, Fabric, buffer, input, fabric_in, HasFor, list_of, machine_at, EachPair, all_pairs, all_weaker, cell_with, Differ, Has, all_from_has, all_of_has, has_left, has_right, pair_of_has, has_cases, has_image, image_has, kept_has, pairs_cross, pairs_left, pairs_right, pairs_with, sent_told, named_as, sent_as, state_of, HaveSlack, AreArrivals, IsBufferedBefore, IsTransferBefore, StandInOrder, KeepArrivalOrder, OfOneFlow, AreBelowFloors, IsBelowFloor, Switch, HasShape, class_in, class_of, named_in, output_in, output_of, queued_in, buffer_told, fabric_told, list_told, queued_of, arriving_cell, is_ahead, Taken, Named, Sent, told_state, State, has_all, any_has, has_any, pairs_joined, pairs_mapped}
+use Rattle.cq_stopped.proofs.Terms.{rules, ◌≡◌, ℕ, ◌<◌, List, [], length, Option, refl, sym, ◌∙◌, inl, inr, arith, true, ◌++◌, map, Some, None, ap, ◌≤◌, false_from_ne_true, and_from, and_parts, eq-eqb, eqb-true, common_steps, map-append, list_any, filter_map, ◌==◌, is_some, slice_index_or, filter, option_map, IsSome, IsBefore, is_for, Departure, Queued, Transfer, HasWaited, IdealState, apart_from, not_before_itself, Fabric, buffer, input, fabric_in, HasFor, list_of, machine_at, EachPair, all_pairs, all_weaker, cell_with, Differ, Has, all_from_has, all_of_has, has_left, has_right, pair_of_has, has_cases, has_image, image_has, kept_has, pairs_cross, pairs_left, pairs_right, pairs_with, sent_told, named_as, sent_as, state_of, HaveSlack, AreArrivals, IsBufferedBefore, IsTransferBefore, StandInOrder, KeepArrivalOrder, OfOneFlow, AreBelowFloors, IsBelowFloor, Switch, HasShape, class_in, class_of, named_in, output_in, output_of, queued_in, buffer_told, fabric_told, list_told, queued_of, arriving_cell, is_ahead, Taken, Named, Sent, told_state, State, has_all, any_has, has_any, pairs_joined, pairs_mapped}
 use Rattle.cq_stopped.proofs.Joined.{pairs_in, all_of, has_number, pairs_by_number, pairs_of_all, has_at_place, is_at, pairs_both, filter_images, sift, told_again, by_places, image_pairs}
 use Rattle.cq_stopped.proofs.Lined.{AreMoved, DepartsBefore}
 use Rattle.cq_stopped.proofs.Ran.{Follows, IsOwn, IsSentRight, Known, left_at, pool_at, IsHeld, came_in, is_name_at}
@@ -41,11 +41,6 @@ module _ {w : Switch} (at : Taken) {ideal : IdealState} {cs : List (List (Option
     pub kept : IsKept q
     pub there : Has (list_of ideal.lists q.cell.output) q
 
-  -- one that left
-  pub record Left (d : Departure) : Type 0 where
-    pub kept : IsKept d.queued
-    pub there : Has (left_at d.queued.cell.output at.sent) d.queued
-
   kept_at : (q : Queued) → q.cell.output < length w.machines → Has (pool_at q.cell.output at.sent ideal) q → IsKept q
   kept_at q inside has = grind (arith, common_steps, all_of_has, IsOwn, pool_at)
 
@@ -63,7 +58,9 @@ module _ {w : Switch} (at : Taken) {ideal : IdealState} {cs : List (List (Option
   right_at : (d : Departure) → Has at.sent d → IsSentRight w at.frozen.next d
   right_at d has = all_of_has (IsSentRight w at.frozen.next) at.sent d known.departed has
 
-  pub has_left_it : (d : Departure) → Has at.sent d → Left d
+  -- one that left
+  pub has_left_it : (d : Departure) → Has at.sent d →
+      IsKept d.queued × Has (left_at d.queued.cell.output at.sent) d.queued
   has_left_it d has =
       let right = right_at d has in
       let there = has_number (λ (e : Departure). e.output) (λ (e : Departure). e.queued) at.sent d _ right.own has in
@@ -127,13 +124,9 @@ module _ {w : Switch} (at : Taken) {ideal : IdealState} {cs : List (List (Option
 
   -- ## The names: each is of a cell that left or waits, and each such cell has its name
 
-  of_image : (lists : List (List Queued)) (c : Named) → ((i : ℕ) (q : Queued) → Has (list_of lists i) q → Waits q) →
-      Has (map named_as (all_of lists)) c → IsNameOf Waits c
-  of_image lists c waits has = search (rules, image_has, all_of, is_at)
-
   is_waiting : (c : Named) → Has (queued_in st) c → IsNameOf Waits c
   unfolding state_of
-  is_waiting c has = search (rules, has_cases, of_image, waits_at, waits_behind)
+  is_waiting c has = search (rules, has_cases, image_has, all_of, is_at, waits_at, waits_behind)
 
   -- the names of what left
   abbrev gone : List Named
@@ -159,16 +152,11 @@ module _ {w : Switch} (at : Taken) {ideal : IdealState} {cs : List (List (Option
 
   name_left : (d : Departure) → Has at.sent d → Has (named_in st) (named_as d.queued)
   unfolding state_of
-  name_left d has = has_right (map named_as listed ++ map named_as buffered) gone (named_as d.queued)
-      (has_image (λ (e : Sent). e.cell) (map sent_as at.sent) (sent_as d) (has_image sent_as at.sent d has))
+  name_left d has = search (rules, has_right, has_image (λ (e : Sent). e.cell), has_image sent_as at.sent d has)
 
   name_held : (t i : ℕ) (q : Queued) → IsHeld ideal at.sent t i q → Has (named_in st) (named_as q)
   name_held t i q it =
-      let j = q.cell.output in
-      ⊎_elim (search (arith, rules, image_has, kept_has, name_left)) (λ there. waits_named q (⊎_elim
-      (λ w. has_left listed _ q (has_at_place at.frozen.lists w.0 q w.1))
-      (λ b. has_right listed _ q (has_at_place at.frozen.buffers j q b)) ((known.agrees.same j q).0 there)))
-      (has_cases (left_at j at.sent) (list_of ideal.lists j) q it.held)
+      search (arith, rules, has_cases, image_has, kept_has, name_left, waits_named, has_left, has_right, has_at_place)
 
   -- ## An arrival is named where its cell came in
 
@@ -224,10 +212,7 @@ module _ {w : Switch} (at : Taken) {ideal : IdealState} {cs : List (List (Option
 
   crossed : (a b : Queued) → Has listed a → Has buffered b → Other a b
   crossed a b first second slot place =
-      let x = is_at at.frozen.lists a first in
-      let y = is_at at.frozen.buffers b second in
-      let same = same_waiting a b (waits_at x.place a x.has) (waits_behind y.place b y.has) slot place in
-      let apart = (apart_from f known.agrees.differ).between x.place y.place a b in search (arith, rules)
+      search (arith, rules, is_at, same_waiting, waits_at, waits_behind, apart_from f known.agrees.differ)
 
   queued_pairs : EachPair Differ (queued_in st)
   unfolding state_of
@@ -258,24 +243,13 @@ module _ {w : Switch} (at : Taken) {ideal : IdealState} {cs : List (List (Option
   Flow a b = OfOneFlow w.came a b
 
   -- two cells are of one input, output and class
-  record AreOfOne (a b : Queued) : Type 0 where
-    pub input : a.key.input ≡ b.key.input
-    pub output : a.cell.output ≡ b.cell.output
-    pub class : a.cell.class ≡ b.cell.class
-
-  of_one : (a b : Queued) → IsKept a → IsKept b → Flow (named_as a) (named_as b) → AreOfOne a b
+  of_one : (a b : Queued) → IsKept a → IsKept b → Flow (named_as a) (named_as b) →
+      (a.key.input ≡ b.key.input) × (a.cell.output ≡ b.cell.output) × (a.cell.class ≡ b.cell.class)
   of_one a b first second flow = grind (arith, common_steps, its_output, its_class)
 
   waits_after : (d : Departure) (q : Queued) → Has at.sent d → Waits q → Flow (named_as d.queued) (named_as q) →
       d.queued.key.slot < q.key.slot
-  waits_after d q has waits flow =
-      let both = of_one d.queued q (has_left_it d has).kept waits.kept flow in
-      (follows_left d q has waits both.output).later both.input both.class
-
-  goes_first : (a b : Queued) → Waits a → Waits b → Flow (named_as a) (named_as b) → a.key.slot < b.key.slot →
-      IsBefore a b
-  goes_first a b first second flow earlier =
-      search (arith, rules, pairs_right, pairs_at, pair_of_has, Follows, pairs_both IsBefore Follows, of_one)
+  waits_after d q has waits flow = search (arith, rules, follows_left d q has waits, of_one, has_left_it)
 
   pub keep_order : KeepArrivalOrder w st
   unfolding state_of
@@ -288,7 +262,8 @@ module _ {w : Switch} (at : Taken) {ideal : IdealState} {cs : List (List (Option
             (each_sent _ (search (arith, rules, of_one, has_left_it, right_at)));
         after = has_all _ (map sent_as at.sent) (λ d has. let image = image_has sent_as at.sent d has in
             has_all (After d) queued (search (arith, rules, is_waiting, waits_after)));
-        queued = has_all _ queued (λ a first. has_all (Ahead a) queued (search (arith, rules, is_waiting, goes_first)));
+        queued = has_all _ queued (λ a first. has_all (Ahead a) queued (search
+            (arith, rules, is_waiting, pairs_right, pairs_at, pair_of_has, pairs_both IsBefore Follows, of_one)));
       }
 
   -- ## The sixth clause: what waits is not above the floor of its class
@@ -307,7 +282,7 @@ module _ {w : Switch} (at : Taken) {ideal : IdealState} {cs : List (List (Option
   out j q has = its_output q (waits_behind j q has).kept ∙ known.agrees.fabric.own j q has
 
   left_by : (d : Departure) → Has at.sent d → output_of w.came (named_as d.queued) ≡ d.output
-  left_by d has = its_output d.queued (has_left_it d has).kept ∙ sym (right_at d has).own
+  left_by d has = its_output d.queued (has_left_it d has).0 ∙ sym (right_at d has).own
 
   pub stand_in_order : EachPair DepartsBefore at.sent → AreMoved (length w.machines) at.frozen.next at.note →
       StandInOrder w st

@@ -1,7 +1,7 @@
 -- One slot of a run that may be stopped. The ideal switch goes on beside the fabric. At each output the cells that
 -- come queue up behind those that left and those that wait, and where one leaves it is the first that waits: what left
 -- and then what waits is the same list. So what is known before the slot is known after it.
-use Rattle.cq_stopped.proofs.Terms.{rules, ◌≡◌, ℕ, zero, suc, ◌+◌, ◌<◌, ◌≤◌, List, [], ◌∷◌, ◌++◌, length, Option, Some, None, Ok, ◌∙◌, ◌⊎◌, ⊎_elim, arith, length-append, cases_lt, common_steps, append_assoc, get_or-append-add, get_or-map, get_or_append_left, get_or_past, length-map, append-nil, get_or-replicate, length-replicate, AllByRecursion, slice_get, slice_index_or, arrival_at, arriving, arriving_at, Cell, Departure, Queued, admitted_arrives, Came, came_from, AreOfClasses, present, Served, listed, served, HasWaited, Marked, admission, arriving_from, departures_of, empty_ideal, IdealState, all_told, departures_from, departures_in, filled, fronts, ideal_slot, put_all, rests, AreForPorts, ranking, CameFor, Keyed, limited_empty_agree, keyed, ports_kept, same_slot, SendsAlike, Agrees, Fabric, IsAmong, input, empty_fabric, FabricSlot, LimitedFabricSlot, LimitedRecord, slots_in, came_to, KeepLaws, gone_in, list_of, IsInputBest, IsStable, machine_at, all_both, all_weaker, found_at, has_there, Has, all_from_has, all_of_has, has_cases, has_left, has_right, opening, Runs, Switch, fewer, HasFor, length-filled, rest_of, among_put_all, list_after, put_all_keeps, put_all_new, stable_slot, admission_for_ports, arrivals_for, place_of, RunBy, came_or_was, was_waiting}
+use Rattle.cq_stopped.proofs.Terms.{rules, ◌≡◌, ℕ, zero, suc, ◌+◌, ◌<◌, ◌≤◌, List, [], ◌∷◌, ◌++◌, length, Option, Some, None, Ok, ◌∙◌, ◌⊎◌, ⊎_elim, arith, length-append, cases_lt, common_steps, append_assoc, get_or-append-add, get_or-map, get_or_append_left, get_or_past, length-map, append-nil, get_or-replicate, length-replicate, AllByRecursion, slice_get, slice_index_or, arrival_at, arriving, arriving_at, Cell, Departure, Queued, admitted_arrives, Came, came_from, AreOfClasses, present, Served, listed, served, HasWaited, Marked, admission, arriving_from, departures_of, empty_ideal, IdealState, all_told, departures_from, departures_in, filled, fronts, ideal_slot, put_all, rests, AreForPorts, ranking, CameFor, Keyed, limited_empty_agree, keyed, ports_kept, same_slot, SendsAlike, Agrees, Fabric, input, empty_fabric, FabricSlot, LimitedFabricSlot, LimitedRecord, slots_in, came_to, KeepLaws, gone_in, list_of, IsInputBest, IsStable, machine_at, all_both, all_weaker, found_at, has_there, Has, all_from_has, all_of_has, has_cases, has_left, has_right, opening, Runs, Switch, fewer, HasFor, length-filled, rest_of, among_put_all, list_after, put_all_keeps, put_all_new, stable_slot, admission_for_ports, arrivals_for, place_of, RunBy, came_or_was, was_waiting, marks_kept}
 use Rattle.cq_ideal.specs.IdealSlot.{Sent}
 use Rattle.cq_stopped.proofs.Configured.{IsConfigured}
 use Rattle.cq_stopped.proofs.Lined.{each_departs, left_more}
@@ -48,6 +48,7 @@ pub record KnownSlot (w : Switch) (n : ℕ) (cells : List (Option Cell)) (f : Ma
   pub step : FabricSlot IsStable w.machines n r.admission.cells f.state r.of_slot g.state
   pub keyed : (j : ℕ) (q : Queued) → HasFor f.state j q ⊎ CameFor r.of_slot.came j q → IsKeyed w q
   pub fewer : length (present r.admission.cells) ≤ length (present cells)
+  pub marks : length g.marks ≡ length f.marks
 
 -- and of the run of so many slots from this one on
 abbrev pub KnownRun : Switch → ℕ → ℕ → Marked Fabric → List LimitedRecord → Marked Fabric → Type 0
@@ -144,9 +145,6 @@ module _ (w : Switch) (ranks : List (List ℕ)) (configured : IsConfigured w ran
         let first = get_or-map (λ (zs : List Queued). slice_get zs 0) lists j [] None in
         grind (arith, common_steps, first, lists_many, made_is, full_is)
 
-    none_gone : (j : ℕ) → length w.machines ≤ j → slice_index_or r.of_slot.gone j None ≡ None
-    none_gone j outside = grind (arith, common_steps, lists_many, length-map, made_is, get_or_past)
-
     abbrev sent_next : List Departure
     sent_next = sent ++ departures_in n r.of_slot.gone
 
@@ -191,18 +189,13 @@ module _ (w : Switch) (ranks : List (List ℕ)) (configured : IsConfigured w ran
       its_served : Served w.machines j n (configured.laws j inside) 0 0 (present r.admission.cells) ideal
           (record { gone = r.of_slot.gone; after = next })
       its_served = served w.machines j n (configured.laws j inside) 0 0 r.admission.cells ideal _ alike.sent
-          (omega arith) (omega arith) lane.stands classes
+          (omega arith) (omega arith) lane.stands (all_present _ r.admission.cells (search (arith, rules, its_known)))
 
       next_lane : Lane w (n + 1) j (slice_index_or next.ranks j []) (left_at j sent_next) (list_of next.lists j)
       next_lane =
           let is = pool_is j inside in
           let pairs = pairs_put_all j n came 0 (left j) (waiting j) comes earlier old_ahead lane.stands.order in
           record { stands = its_served.stands; own = rw is own_all; pairs = rw is (pairs lane.pairs) }
-
-    -- ## Where cells stand
-
-    arrived_placed : (i : ℕ) (c : Queued) → IsAmong c (input r.of_slot.arrived i) → c.key.input ≡ i
-    arrived_placed i c among = ⊎_elim (its_keys.input_is i c) (known.placed i c) (search (arith, rules, came_or_was))
 
     -- ## Departures
 
@@ -212,7 +205,7 @@ module _ (w : Switch) (ranks : List (List ℕ)) (configured : IsConfigured w ran
         (search (arith, rules, all_weaker, IsSentRight))
         (each_departs n (IsSentRight w (n + 1)) r.of_slot.gone 0 (λ k j q is at.
         let there = has_right (left k) (full k) q in
-        grind (arith, common_steps, none_gone k, gone_is k, has_there, there, own_all k, all_of_has, cases_lt)))
+        grind (arith, common_steps, many, get_or_past, gone_is, has_there, there, own_all, all_of_has, cases_lt)))
 
     -- ## What came
 
@@ -230,7 +223,8 @@ module _ (w : Switch) (ranks : List (List ℕ)) (configured : IsConfigured w ran
       states = (its_served 0 (omega arith)).states ∙ known.states;
       lanes = next_lane;
       placed =
-          search (arith, rules, was_waiting step.runs.finish.moves, was_waiting step.runs.fill.moves, arrived_placed);
+          let before = was_waiting step.runs.fill.moves in
+          search (arith, rules, was_waiting step.runs.finish.moves, before, came_or_was, its_keys, known.placed);
       departed = departed_next;
       long = grind (arith, common_steps, length-append);
       origin = λ j q inside has.
@@ -249,7 +243,7 @@ module _ (w : Switch) (ranks : List (List ℕ)) (configured : IsConfigured w ran
         λ j q has. search (arith, rules, own j q, is_keyed) in
         let less : length (present r.admission.cells) ≤ length (present (arriving w.came n)) =
         grind (arith, common_steps, present, fewer) in
-        search (arith, rules, come, stable)
+        search (arith, rules, come, stable, marks_kept)
 
   -- ## A run of a configured switch up to a slot: what is known of the empty fabric is known after each slot
 
@@ -259,6 +253,7 @@ module _ (w : Switch) (ranks : List (List ℕ)) (configured : IsConfigured w ran
     pub ideal : IdealState
     pub known : Known w end g.state ideal cs sent
     pub slots : KnownRun w a m f rs g
+    pub marks : length g.marks ≡ length f.marks
 
   run_known : (m a end : ℕ) (f g : Marked Fabric) (rs : List LimitedRecord) (ideal : IdealState)
       (cs : List (List (Option Queued))) (sent : List Departure) → Known w a f.state ideal cs sent → end ≡ a + m →
@@ -268,7 +263,8 @@ module _ (w : Switch) (ranks : List (List ℕ)) (configured : IsConfigured w ran
   run_known zero a end f g [] ideal cs sent known is run = grind (arith, common_steps, append-nil)
   run_known (suc m) a end f g (r ∷ rs) ideal cs sent known is run =
       let next = known_next a f run.0 r ideal cs sent known run.1 in
-      search (arith, rules, append_assoc, slot_known, run_known m (a + 1) end run.0 g rs _ _ _ next)
+      let slot = slot_known a f run.0 r ideal cs sent known run.1 in
+      search (arith, rules, append_assoc, slot, run_known m (a + 1) end run.0 g rs _ _ _ next)
   run_known _ a end f g _ ideal cs sent known is run = absurd run
 
   -- nothing is known of the empty fabric but that

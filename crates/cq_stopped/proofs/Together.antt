@@ -3,14 +3,14 @@
 -- of its cell; the figures, since as many names are of an input as cells came to it; and the marks and the counts,
 -- since the arrivals that are not named are those that were refused. The text of that state is read as what was left,
 -- so what goes on from there is the run.
-use Rattle.cq_stopped.proofs.Terms.{come_count-first, IsCount, IsInputBest, recorded, slots_of_figures, rules, ◌≡◌, ℕ, zero, suc, ◌+◌, ◌-◌, ◌<◌, ◌≤◌, ◌^◌, List, [], ◌∷◌, length, map, fold, max, sym, ap, ◌∙◌, arith, common_steps, length-map, length-map-range_with_len, AllByRecursion, enumerate_from, flat_map, slice_index_or, Queued, Scheduled, arriving_from, departures_of, Fabric, cushion_of, input, SlotRecord, fabric_in, marked_in, LimitedRecord, slots_in, figures_of, input_figures, slacks, gone_in, list_of, each_pair, EachPair, all_both, Differ, Has, all_from_has, all_of_has, has_image, has_left, has_right, image_has, figures_told, frozen_told, taken_of, opening, IsWhole, IsParted, seen_as, sent_as, state_of, IsRead, Kept, Runs, Switch, switch_of, named_in, queued_in, Taken, ports_of, Tables, machine_of, openings_of, AreRankNumbers, IsInRange, IsNamed, IsSeen, IsSent, state_text, Named, Sent, State, told_state, CanBeTakenUp, StoppedRunsAreSound, few_kept, of_images, all_weaker, transfers_of_run, written_in_run, arriving_length, counts_more, figures_fold, stable_limited_run, empty_list, limited_numbered, IsFabricRun, refused_in_run, all_made, all_give}
+use Rattle.cq_stopped.proofs.Terms.{come_count-first, IsCount, IsInputBest, recorded, slots_of_figures, rules, ◌≡◌, ℕ, zero, suc, ◌+◌, ◌-◌, ◌<◌, ◌≤◌, ◌^◌, List, [], ◌∷◌, length, map, fold, max, sym, ap, ◌∙◌, arith, common_steps, length-map, length-map-range_with_len, AllByRecursion, enumerate_from, flat_map, slice_index_or, Queued, Scheduled, arriving_from, departures_of, Fabric, cushion_of, input, SlotRecord, fabric_in, marked_in, LimitedRecord, slots_in, figures_of, input_figures, slacks, gone_in, list_of, each_pair, EachPair, all_both, Differ, Has, all_from_has, all_of_has, has_image, has_left, has_right, image_has, figures_told, frozen_told, taken_of, opening, IsWhole, IsParted, seen_as, sent_as, state_of, IsRead, Kept, Runs, Switch, switch_of, named_in, queued_in, Taken, Tables, openings_of, AreRankNumbers, IsInRange, IsNamed, IsSeen, IsSent, state_text, Named, Sent, State, told_state, CanBeTakenUp, StoppedRunsAreSound, few_kept, of_images, all_weaker, written_in_run, arriving_length, counts_more, figures_fold, stable_limited_run, empty_list, limited_numbered, IsFabricRun, all_made, all_give, length-replicate}
 use Rattle.cq_audit.proofs.Following.{run_within as of_its_slots}
 use Rattle.cq_resume.proofs.Joining.{parts_join as join}
 use Rattle.cq_resume.proofs.OneAnswer.{read_exact}
 use Rattle.cq_stopped.proofs.Beside.{none_first, all_proposed, most_of_all, IsRecordedWithin, RunsWithin, empty_within, run_within}
 use Rattle.cq_stopped.proofs.Configured.{least_of, AreLow, IsConfigured, configured}
 use Rattle.cq_stopped.proofs.Lined.{figures_are, AreMoved, DepartsBefore, departures_in_order}
-use Rattle.cq_stopped.proofs.Ran.{IsSentRight, Known, came_of}
+use Rattle.cq_stopped.proofs.Ran.{Known, came_of}
 use Rattle.cq_stopped.proofs.Standing.{is_of_one, state_sized, states_many, fabric_same, sent_same, arrivals_are, named_at, below_floors, keep_order, stand_in_order, has_shape, slack_kept}
 use Rattle.cq_stopped.proofs.Stepping.{Ended, stopped_is}
 use Rattle.cq_stopped.proofs.Walk.{packets_are, tally_are}
@@ -67,6 +67,10 @@ module _ (w : Switch) (ranks : List (List ℕ)) (configured : IsConfigured w ran
   stopped : Ended w ranks configured 0 at.frozen.next at.frozen.next (opening w ranks) rs (marked_in at.frozen)
       (came_of rs) (departures_of 0 (gone_in (slots_in rs)))
   stopped = stopped_is w ranks configured at.frozen.next rs (marked_in at.frozen) runs
+
+  -- each input keeps its mark
+  marks_many : length at.frozen.marks ≡ ports
+  marks_many = search (arith, rules, stopped.marks, length-replicate)
 
   known : Known w at.frozen.next (fabric_in at.frozen) stopped.ideal (came_of rs) at.sent
   known = let known = stopped.known in search (rules, Known, came_of)
@@ -128,11 +132,10 @@ module _ (w : Switch) (ranks : List (List ℕ)) (configured : IsConfigured w ran
 
   sent_right : AllByRecursion (IsSent ports) st.sent
   unfolding state_of
-  sent_right = all_from_has (IsSent ports) (map sent_as at.sent) (λ x has.
-      let it = image_has sent_as at.sent x has in
-      let before = (all_of_has (IsSentRight w at.frozen.next) at.sent it.0 known.departed it.1).before in
+  sent_right =
+      all_from_has (IsSent ports) (map sent_as at.sent) (λ x has.
       let own = has_image (λ (d : Sent). d.cell) (map sent_as at.sent) x has in
-      search (arith, rules, named_right x.cell, has_right (queued_in st) _ x.cell own))
+      search (arith, rules, image_has, all_of_has, known, named_right x.cell, has_right (queued_in st) _ x.cell own))
 
   in_range : IsInRange st
   unfolding state_of
@@ -156,7 +159,7 @@ module _ (w : Switch) (ranks : List (List ℕ)) (configured : IsConfigured w ran
   taken_same : at ≡ taken_of w st
   unfolding frozen_told state_of
   taken_same =
-      let tally = tally_are w ranks st rs (marked_in at.frozen) configured.few configured.packets runs
+      let tally = tally_are w ranks st rs (marked_in at.frozen) configured.few configured.packets marks_many runs
       (λ a. named_at at known a.slot a.cell.id.input) configured.limits in
       search (arith, rules, fabric_same at known, sent_same at known, known, tally, figures_same)
 
@@ -167,7 +170,7 @@ module _ (w : Switch) (ranks : List (List ℕ)) (configured : IsConfigured w ran
   can_be_taken_up =
       let known = known in
       let order = stand_in_order at known departs moved in
-      let packets = packets_are w ranks st rs (marked_in at.frozen) configured.few configured.packets runs
+      let packets = packets_are w ranks st rs (marked_in at.frozen) configured.few configured.packets marks_many runs
       (λ a. named_at at known a.slot a.cell.id.input) in
       search (rules, in_range, has_shape, arrivals_are, slack_kept, keep_order, below_floors, taken_same)
 
@@ -190,17 +193,12 @@ stopped_runs_are_read t s slots at made tables recorded early parted = search (r
 
 whole_is : (t : Tables) (s : Scheduled) (rs : List LimitedRecord) → IsFabricRun t s.came rs →
     IsWhole (switch_of t s) (openings_of t.setup) (kept_in_run t rs)
-whole_is t s rs is =
-    let ports = length-map t.setup.kinds (λ kind. machine_of kind t.setup.classes) in
-    search (arith, rules, figures_fold (ports_of t.setup) (slots_in rs), counts_more t.limits [] (refused_in_run rs))
+whole_is t s rs is = search (arith, rules, length-map, figures_fold, counts_more t.limits [])
 
 -- and the whole one is the run
 run_is : (t : Tables) (s : Scheduled) (kept : Kept) → IsWhole (switch_of t s) (openings_of t.setup) kept →
     (rs : List LimitedRecord) × IsFabricRun t s.came rs × (kept ≡ kept_in_run t rs)
-run_is t s kept is =
-    let lost = refused_in_run is.records in
-    let ports = length-map t.setup.kinds (λ kind. machine_of kind t.setup.classes) in
-    search (arith, rules, figures_fold (ports_of t.setup) (slots_in is.records), counts_more t.limits [] lost)
+run_is t s kept is = search (arith, rules, length-map, figures_fold, counts_more t.limits [])
 
 pub read_runs_go_on : ReadRunsGoOn
 read_runs_go_on t s slots at x made tables recorded early parted read =

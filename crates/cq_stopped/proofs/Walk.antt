@@ -54,9 +54,6 @@ module _ (limits : List (Option ℕ)) where
   Follow mark (a ∷ line) =
       ComeBehind a line × (eqb a.cell.id.index 0 ≡ false → mark ≡ true → has_limit limits a.cell.output ≡ true)
 
-  line_follows : (line : List Arrival) → IsLine line → Follow false line
-  line_follows line is = grind (arith, common_steps)
-
 -- ## Slot by slot
 
 -- a walk over the arrivals of an input from a slot on ends with this mark, and this was lost
@@ -75,9 +72,7 @@ module _ (w : Switch) (i : ℕ) (few : i < most_ports) (whole : IsLine (filter (
     mark_is : (h : List ℕ) ×
         (mark_at r.admission.marks i ≡ mark_after w.limits h (mark_at f.marks i) (arriving_at w.came slot i))
     unfolding admission
-    mark_is =
-        let it = mark_moves w.limits (fabric_held f.state) f.marks (arriving w.came slot) i many in
-        (it.0, rw (admits, ← is_shown i few w.came slot) it.1)
+    mark_is = search (rules, mark_moves w.limits (fabric_held f.state) f.marks (arriving w.came slot) i many, is_shown)
 
     marks_long : length g.marks ≡ length f.marks
     unfolding admission
@@ -135,15 +130,6 @@ unfolding cells_refused packets_refused
 same_counts xs ys same [] = refl
 same_counts xs ys same (r ∷ counts) = grind (arith, common_steps, r.output, same_counts xs ys same counts)
 
--- each input keeps its mark
-marks_many : (w : Switch) (slot n : ℕ) (f g : Marked Fabric) (rs : List LimitedRecord) →
-    Runs w slot (arriving_from w.came slot n) f rs g → length g.marks ≡ length f.marks
-unfolding arriving_from admission
-marks_many w slot zero f g [] run = ap (λ (h : Marked Fabric). length h.marks) run
-marks_many w slot (suc n) f g (r ∷ rs) run =
-    grind (arith, common_steps, marks_kept, marks_many w (slot + 1) n run.0 g rs run.2)
-marks_many w slot _ f g _ run = absurd run
-
 -- ## Names that stand for those of a state
 
 abbrev no_cell : Cell
@@ -161,6 +147,7 @@ has_as_name (c ∷ names) a = grind (arith, common_steps, has_as_name names a)
 
 module _ (w : Switch) (ranks : List (List ℕ)) (st : State) (rs : List LimitedRecord) (g : Marked Fabric)
     (few : length w.machines ≤ most_ports) (are : ArePackets (length w.machines) w.came)
+    (many_marks : length g.marks ≡ length w.machines)
     (runs : Runs w 0 (arriving_from w.came 0 st.head.next) (opening w ranks) rs g)
     (named_is : (a : Arrival) → is_named (named_in st) a ≡ is_some (came_in (came_of rs) a.slot a.cell.id.input)) where
   abbrev ports : ℕ
@@ -179,16 +166,13 @@ module _ (w : Switch) (ranks : List (List ℕ)) (st : State) (rs : List LimitedR
       (mark_at g.marks i) (refused_here w.limits i (arriving_from w.came 0 next) (admissions_in rs))
   walk i inside =
       let many = length-replicate ports false in
-      let start = line_follows w.limits _ (whole w.limits ports next w.came names are i inside) in
+      let start : Follow w.limits false (coming i 0 next w.came) = search (arith, rules, whole) in
       walked w i (omega arith) (are.lines i inside) (λ a. has_name names a) (came_of rs) next
       (λ a. sym (has_as_name (named_in st) a) ∙ named_is a) 0 next (opening w ranks) g rs runs (omega arith)
       (omega arith) (λ t k e. rw e (search (arith, rules, came_in, came_of))) (rw (marks_down i inside) start)
 
   ends_marked : (i : ℕ) → i < ports → walk_mark w.limits next w.came names i ≡ Some (mark_at g.marks i)
   ends_marked i inside = rw (marks_down i inside) at (walk i inside).ends
-
-  many_marks : length g.marks ≡ ports
-  many_marks = marks_many w 0 next (opening w ranks) g rs runs ∙ length-replicate ports false
 
   marks_walked : map (λ (m : Bool). Some m) g.marks ≡ map (walk_mark w.limits next w.came names) (range_with_len 0
       ports)
@@ -201,8 +185,7 @@ module _ (w : Switch) (ranks : List (List ℕ)) (st : State) (rs : List LimitedR
   lost_here : (i : ℕ) → i < ports →
       of_input i (refused_in (admissions_in rs)) ≡ cells_in (unnamed names (coming i 0 next w.came))
   unfolding arriving_from
-  lost_here i inside = refused_of_input i w.limits (opening w ranks).marks (arriving_from w.came 0 next)
-      (admissions_in rs) (search (arith, rules, fabric_judged)) (stand_in w.came 0 next) ∙ (walk i inside).lost_are
+  lost_here i inside = search (arith, rules, refused_of_input, fabric_judged, stand_in, (walk i inside).lost_are)
 
   lost_counted : (p : Cell → Bool) → length (filter p (refused_in (admissions_in rs)))
       ≡ length (filter p (cells_in (left_before w.limits next w.came names ports)))
