@@ -70,9 +70,6 @@ module _ (w : Switch) where
     -- ## What stays within bounds
 
     module _ (keeps : (j : ℕ) → KeepsLow (machine_at w.machines j)) (within : IsWithin slot f.state) where
-      ranked : AllByRecursion AreLow r.of_slot.arrived.ranks
-      ranked = grind (arith, common_steps, ranked_low)
-
       arrived_list : (i : ℕ) → length (input r.of_slot.arrived i) ≤ slot + 1
       arrived_list i = search (arith, rules, length-insert)
 
@@ -83,7 +80,7 @@ module _ (w : Switch) where
             let second = shorter r.of_slot.second r.of_slot.sent g.state k.step.finish in
             search (arith, rules, arrived, arrived_list, first, second);
         states = rw (k.step.finish.ranks, k.step.depart.ranks, k.step.fill.ranks)
-            (told_low w.machines keeps r.of_slot.gone r.of_slot.arrived.ranks ranked
+            (told_low w.machines keeps r.of_slot.gone r.of_slot.arrived.ranks (grind (arith, common_steps, ranked_low))
             (λ j q left. (of_gone (IsKeyed w) k.keyed j q left).rank));
       }
 

@@ -71,16 +71,13 @@ module _ (t : Tables) (captures : List (List Captured)) where
 
 -- ## T0
 
-abbrev IsStamp : ℕ → Type 0
-IsStamp n = n < 2 ^ 63
-
 pub least_of : (a : ℕ) (ns : List ℕ) → fold min a ns ≤ a
 least_of a [] = omega arith
 least_of a (n ∷ ns) = let rest = least_of (min a n) ns in omega arith
 
 stamps_low : (captures : List (List Captured)) →
     ((i : ℕ) → i < length captures → IsRecorded (packets_of captures i)) →
-    AllByRecursion IsStamp (flat_map (λ (ps : List Captured). map (λ (p : Captured). p.stamp) ps) captures)
+    AllByRecursion (λ n. n < 2 ^ 63) (flat_map (λ (ps : List Captured). map (λ (p : Captured). p.stamp) ps) captures)
 stamps_low [] each = tt
 stamps_low (ps ∷ captures) each =
     let first = (each zero (omega arith)).stamps in

@@ -134,9 +134,6 @@ module _ (names : List Named) (rs : List LimitedRecord) (differ : EachPair Diffe
   abbrev slots : List ℕ
   slots = filter comes (range_with_len 0 (length rs))
 
-  abbrev IsOfSlot : Named → ℕ → Type 0
-  IsOfSlot c t = c.slot ≡ t
-
   abbrev IsSlotOf : ℕ → Named → Type 0
   IsSlotOf t c = c.slot ≡ t
 
@@ -148,7 +145,7 @@ module _ (names : List Named) (rs : List LimitedRecord) (differ : EachPair Diffe
       -- none comes past the last record
       let inside : (t : ℕ) → comes t ≡ true → t < length rs =
       λ t is. grind (arith, common_steps, length-map, get_or_past, cases_lt) in
-      let few = no_more IsOfSlot mine slots
+      let few = no_more (λ (c : Named) (t : ℕ). c.slot ≡ t) mine slots
       (search (arith, rules, pairs_in, Differ, AreApart, kept_has, eqb-true, pairs_kept))
       (search (arith, rules, all_from_has, kept_has, any_has, eq-eqb, eqb-true, inside, has_kept, has_number)) in
       let most = no_more IsSlotOf slots mine (search (arith, rules, pairs_in, AreApart, pairs_kept, range_rises))

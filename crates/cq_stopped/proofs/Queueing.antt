@@ -122,16 +122,12 @@ module _ (R : Queued → Queued → Type 0) (q : Queued) where
   abbrev MayStandBehind : Queued → Type 0
   MayStandBehind y = is_before y.key q.key ≡ false → R q y
 
-  waiting_pairs : (xs : List Queued) → EachPair NoLater xs → EachPair R xs → AllByRecursion (λ x. R x q) xs →
-      AllByRecursion MayStandBehind xs → EachPair R (put q xs)
-  waiting_pairs [] order pairs ahead after = (tt, tt)
-  waiting_pairs (x ∷ xs) order pairs ahead after =
-      let rest = waiting_pairs xs order.1 pairs.1 ahead.1 after.1 in
-      search (arith, rules, cond_both, key_laws, all_from_has, all_of_has, both_ways, false_from_ne_true, all_put)
-
   pub put_pairs : (left xs : List Queued) → EachPair NoLater xs → EachPair R (left ++ xs) →
       AllByRecursion (λ x. R x q) (left ++ xs) → AllByRecursion MayStandBehind xs → EachPair R (left ++ put q xs)
-  put_pairs [] xs order pairs ahead after = waiting_pairs xs order pairs ahead after
+  put_pairs [] [] order pairs ahead after = (tt, tt)
+  put_pairs [] (x ∷ xs) order pairs ahead after =
+      let rest = put_pairs [] xs order.1 pairs.1 ahead.1 after.1 in
+      search (arith, rules, cond_both, key_laws, all_from_has, all_of_has, both_ways, false_from_ne_true, all_put)
   put_pairs (z ∷ zs) xs order pairs ahead after =
       grind (arith, common_steps, all_front, all_put, all_back, put_pairs zs xs order pairs.1 ahead.1 after)
 

@@ -1,11 +1,11 @@
 -- One slot of a run that may be stopped. The ideal switch goes on beside the fabric. At each output the cells that
 -- come queue up behind those that left and those that wait, and where one leaves it is the first that waits: what left
 -- and then what waits is the same list. So what is known before the slot is known after it.
-use Rattle.cq_stopped.proofs.Terms.{rules, ◌≡◌, ℕ, zero, suc, ◌+◌, ◌<◌, ◌≤◌, List, [], ◌∷◌, ◌++◌, length, Option, Some, None, Ok, ◌∙◌, ◌⊎◌, ⊎_elim, arith, length-append, cases_lt, common_steps, append_assoc, get_or-append-add, get_or-map, get_or_append_left, get_or_past, length-map, append-nil, get_or-replicate, length-replicate, AllByRecursion, slice_get, slice_index_or, arrival_at, arriving, arriving_at, Cell, Departure, Queued, admitted_arrives, Came, came_from, AreOfClasses, present, Served, listed, served, HasWaited, Marked, admission, arriving_from, departures_of, empty_ideal, IdealState, all_told, departures_from, departures_in, filled, fronts, ideal_slot, put_all, rests, AreForPorts, ranking, CameFor, Keyed, limited_empty_agree, keyed, ports_kept, same_slot, SendsAlike, Agrees, Fabric, input, empty_fabric, FabricSlot, LimitedFabricSlot, LimitedRecord, slots_in, came_to, KeepLaws, gone_in, list_of, IsInputBest, IsStable, machine_at, all_both, all_weaker, found_at, has_there, Has, all_from_has, all_of_has, has_cases, has_left, has_right, opening, Runs, Switch, fewer, HasFor, length-filled, rest_of, among_put_all, list_after, put_all_keeps, put_all_new, stable_slot, admission_for_ports, arrivals_for, place_of, RunBy, came_or_was, was_waiting, marks_kept}
+use Rattle.cq_stopped.proofs.Terms.{rules, ◌≡◌, ℕ, zero, suc, ◌+◌, ◌<◌, ◌≤◌, List, [], ◌∷◌, ◌++◌, length, Option, Some, None, Ok, ◌∙◌, ◌⊎◌, ⊎_elim, arith, length-append, cases_lt, common_steps, append_assoc, get_or-append-add, get_or-map, get_or_append_left, get_or_past, length-map, append-nil, get_or-replicate, length-replicate, AllByRecursion, slice_get, slice_index_or, arrival_at, arriving, arriving_at, Cell, Departure, Queued, admitted_arrives, Came, came_from, present, Served, listed, served, HasWaited, Marked, admission, arriving_from, departures_of, empty_ideal, IdealState, all_told, departures_from, departures_in, filled, fronts, ideal_slot, put_all, rests, AreForPorts, ranking, CameFor, Keyed, limited_empty_agree, keyed, ports_kept, same_slot, SendsAlike, Agrees, Fabric, input, empty_fabric, FabricSlot, LimitedFabricSlot, LimitedRecord, slots_in, came_to, KeepLaws, gone_in, list_of, IsInputBest, IsStable, all_both, all_weaker, found_at, has_there, Has, all_from_has, all_of_has, has_cases, has_left, has_right, opening, Runs, Switch, fewer, HasFor, length-filled, rest_of, among_put_all, list_after, put_all_keeps, put_all_new, stable_slot, admission_for_ports, arrivals_for, place_of, RunBy, came_or_was, was_waiting, marks_kept}
 use Rattle.cq_ideal.specs.IdealSlot.{Sent}
 use Rattle.cq_stopped.proofs.Configured.{IsConfigured}
 use Rattle.cq_stopped.proofs.Lined.{each_departs, left_more}
-use Rattle.cq_stopped.proofs.Queueing.{Come, IsEarlier, OldAhead, is_less, pairs_put_all, IsKnown, IsRanked, ranked_from}
+use Rattle.cq_stopped.proofs.Queueing.{IsEarlier, OldAhead, is_less, pairs_put_all, IsKnown, IsRanked, ranked_from}
 use Rattle.cq_stopped.proofs.Ran.{IsHeld, IsKeyed, IsOwn, IsSentRight, Known, Lane, came_in, left_at, pool_at, came_of}
 
 -- what holds of each cell at its place holds of those that are present
@@ -175,16 +175,9 @@ module _ (w : Switch) (ranks : List (List ℕ)) (configured : IsConfigured w ran
       earlier : AllByRecursion (IsEarlier j n 0) (left j ++ waiting j)
       earlier = grind (arith, common_steps, all_weaker, IsOwn, IsEarlier, left_at)
 
-      comes : Come j n 0 came
-      comes k q at = let c = its_came k q at in (c.slot_is, c.input_is)
-
       old_ahead : OldAhead j n came (waiting j)
       old_ahead k q x at output among before class =
-          let waited = all_of_has (HasWaited (machine_at w.machines j) _ n 0) (waiting j) x lane.stands.waited among in
-          search (arith, rules, its_rank, its_came, is_less)
-
-      classes : AreOfClasses (machine_at w.machines j) j (present r.admission.cells)
-      classes = all_present _ r.admission.cells (search (arith, rules, its_known))
+          search (arith, rules, its_rank, its_came, is_less, all_of_has, HasWaited, lane.stands.waited)
 
       its_served : Served w.machines j n (configured.laws j inside) 0 0 (present r.admission.cells) ideal
           (record { gone = r.of_slot.gone; after = next })
@@ -194,7 +187,8 @@ module _ (w : Switch) (ranks : List (List ℕ)) (configured : IsConfigured w ran
       next_lane : Lane w (n + 1) j (slice_index_or next.ranks j []) (left_at j sent_next) (list_of next.lists j)
       next_lane =
           let is = pool_is j inside in
-          let pairs = pairs_put_all j n came 0 (left j) (waiting j) comes earlier old_ahead lane.stands.order in
+          let pairs = pairs_put_all j n came 0 (left j) (waiting j) (search (arith, rules, its_came)) earlier old_ahead
+          lane.stands.order in
           record { stands = its_served.stands; own = rw is own_all; pairs = rw is (pairs lane.pairs) }
 
     -- ## Departures

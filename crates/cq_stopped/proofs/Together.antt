@@ -14,7 +14,7 @@ use Rattle.cq_stopped.proofs.Ran.{Known, came_of}
 use Rattle.cq_stopped.proofs.Standing.{is_of_one, state_sized, states_many, fabric_same, sent_same, arrivals_are, named_at, below_floors, keep_order, stand_in_order, has_shape, slack_kept}
 use Rattle.cq_stopped.proofs.Stepping.{Ended, stopped_is}
 use Rattle.cq_stopped.proofs.Walk.{packets_are, tally_are}
-use Rattle.cq_stopped.specs.Read.{kept_in_run, IsReadAs, ReadRunsGoOn, StoppedRunsAreRead}
+use Rattle.cq_stopped.specs.Read.{kept_in_run, ReadRunsGoOn, StoppedRunsAreRead}
 
 -- ## Figures of inputs
 
@@ -179,14 +179,12 @@ stopped_runs_are_sound t s slots at made tables recorded early parted = search (
 
 -- ## It is read as itself: its text is that of a state that comes to it, and a text has one answer.
 
-read_as : (w : Switch) (at : Taken) → CanBeTakenUp w at → IsReadAs w (state_text (told_state w at)) at
-read_as w at can =
-    let exact = read_exact w in
-    let read : IsRead w (state_text (told_state w at)) at = search rules in
-    search (rules, exact.one_state, exact.never_refused)
-
 pub stopped_runs_are_read : StoppedRunsAreRead
-stopped_runs_are_read t s slots at made tables recorded early parted = search (rules, read_as, stopped_runs_are_sound)
+stopped_runs_are_read t s slots at made tables recorded early parted =
+    let can = stopped_runs_are_sound t s slots at made tables recorded early parted in
+    let exact = read_exact (switch_of t s) in
+    let read : IsRead (switch_of t s) (state_text (told_state (switch_of t s) at)) at = search rules in
+    search (rules, exact.one_state, exact.never_refused)
 
 -- ## What goes on from there is the run: what is read is what was left, parts join, and the run is the whole one. There
 -- are as many machines as ports, and figures and counts are folded from nothing.

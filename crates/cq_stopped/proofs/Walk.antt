@@ -74,10 +74,6 @@ module _ (w : Switch) (i : ℕ) (few : i < most_ports) (whole : IsLine (filter (
     unfolding admission
     mark_is = search (rules, mark_moves w.limits (fabric_held f.state) f.marks (arriving w.came slot) i many, is_shown)
 
-    marks_long : length g.marks ≡ length f.marks
-    unfolding admission
-    marks_long = grind (arith, common_steps, marks_kept)
-
     taken_is : arrival_at r.admission.cells i ≡ unless (mark_at r.admission.marks i) (arriving_at w.came slot i)
     unfolding admission
     taken_is = grind (arith, common_steps, admitted_at, is_shown)
@@ -103,12 +99,12 @@ module _ (w : Switch) (i : ℕ) (few : i < most_ports) (whole : IsLine (filter (
       Follow w.limits (mark_at f.marks i) (coming i slot end w.came) →
       Walks w i named end slot (mark_at f.marks i) (mark_at g.marks i)
       (refused_here w.limits i (arriving_from w.came slot n) (admissions_in rs))
-  unfolding arriving_from
+  unfolding arriving_from admission
   walked slot zero f g [] run all many known follow =
       search (rules, filter_none, is_between, all_from_has, lt-leb, and_right, le-ltb, cases_lt)
   walked slot (suc n) f g (r ∷ rs) run all many known follow =
       let step = run.1 in
-      let long = marks_long slot f run.0 r many step.admits step.marks in
+      let long : length run.0.marks ≡ length f.marks = grind (arith, common_steps, marks_kept) in
       let here = came_where w.machines slot 0 r.admission.cells f.state.ranks _ step.runs.arrive.ranked i in
       slot_more slot f run.0 r many step.admits step.marks (arriving_at w.came slot i) refl (omega arith) _ _ follow
       (rw (known slot zero (omega arith)) here) (walked (slot + 1) n run.0 g rs run.2 (omega arith) (omega arith)
