@@ -2,7 +2,7 @@
 -- first, and those of its phases are among the others.
 -- The lines of a log, phase by phase. They are in order, so where none is of an earlier phase those of this one
 -- stand at the front, in order of input, and the others are of later ones.
-use Rattle.cq_audit.proofs.Terms.{rules, ◌≡◌, ℕ, ◌+◌, ◌<◌, ◌≤◌, Bool, true, false, List, [], ◌∷◌, ◌++◌, refl, arith, suc, ◌-◌, ◌⊎◌, take, drop, ap, ⊎_elim, common_steps, AllByRecursion, filter, position_or_len, and_from, and_left, and_parts, and_right, cases_lt, cond-false, cond_both, eq-eqb, eqb-true, false_from_ne_true, le-ltb, lt-ltb, ltb-true, ne_eqb, cases_Bool, append-nil, append_cancel_left, filter-append, Transfer, AreInOrder, IsTransferBefore, IsOf, AllBehind, NoneBefore, in_phase, is_at, AreParted, FirstIsLeast, before_slot, all_weaker, not, first_here, first_later, all_front, all_give, filter_all, filter_none}
+use Rattle.cq_audit.proofs.Terms.{rules, ◌≡◌, ℕ, ◌+◌, ◌<◌, ◌≤◌, Bool, true, false, List, [], ◌∷◌, ◌++◌, refl, arith, suc, ◌-◌, ◌⊎◌, take, drop, ap, ⊎_elim, common_steps, AllByRecursion, filter, position_or_len, and_from, and_left, and_parts, and_right, cases_lt, cond-false, cond_both, eq-eqb, eqb-true, false_from_ne_true, le-ltb, lt-ltb, ltb-true, ne_eqb, cases_Bool, append-nil, append_cancel_left, filter-append, Transfer, AreInOrder, IsTransferBefore, AllBehind, NoneBefore, in_phase, is_at, AreParted, FirstIsLeast, before_slot, all_weaker, not, first_here, first_later, all_front, all_give, filter_all, filter_none}
 
 -- ## What is kept of lines by a test
 
@@ -98,14 +98,6 @@ module _ (ports : ℕ) where
   none_next slot (t ∷ lines) order behind = search (rules, cases_lt, none_next slot lines order.2 behind.1)
 
 module _ (ports slot phase : ℕ) where
-  -- a line of this phase, and one behind it that is not earlier
-  at_front : (t : Transfer) (rest lines behind : List Transfer) → is_at slot phase t ≡ true → IsOf ports t →
-      AllByRecursion (IsTransferBefore t) rest → AreParted ports slot phase rest lines behind →
-      AreParted ports slot phase (t ∷ rest) (t ∷ lines) behind
-  at_front t rest lines behind here of later had =
-      let front = all_front (IsTransferBefore t) lines behind (rw had.whole at later) in
-      search (arith, rules, all_give, and_parts, eqb-true)
-
   -- a line behind this phase has only lines behind it behind it
   all_behind : (t : Transfer) (rest : List Transfer) → (slot < t.slot) ⊎ ((slot ≡ t.slot) × (phase < t.phase)) →
       AllByRecursion (IsTransferBefore t) rest → AllBehind slot phase rest
@@ -124,6 +116,7 @@ module _ (ports slot phase : ℕ) where
       ⊎_elim (λ (here : is_at slot phase t ≡ true).
       let step = first_later (λ u. not (is_at slot phase u)) t note (ap not here) in
       let next : end ≡ suc rest = omega arith in
-      rw next (at_front t note (take rest note) (drop rest note) here order.0 order.1 had))
+      let front = all_front (IsTransferBefore t) (take rest note) (drop rest note) (rw had.whole at order.1) in
+      rw next (search (arith, rules, all_give, and_parts, eqb-true)))
       (λ away. grind (arith, common_steps, first_here, eq-eqb, cases_lt, all_behind, none_of_it))
       (cases_Bool (is_at slot phase t))

@@ -2,7 +2,7 @@
 -- before it: by its input in a phase, by its phase in a slot, and by its slot. A cell that waits at an input came to
 -- it and keeps its numbers. So where all cells that come fit the numbers of a line, the transfers of a run are those
 -- of a log.
-use Rattle.cq_audit.proofs.Terms.{common_steps, rules, ◌≡◌, ℕ, zero, suc, ◌+◌, ◌<◌, ◌≤◌, ◌^◌, List, [], ◌∷◌, length, Option, None, Some, refl, arith, IfSome, AllByRecursion, filter_map, range_with_len, Cell, Queued, Transfer, arrival_at, Arrival, arriving, first_for, log_of, IsTraffic, Machine, Marked, admission, arriving_from, admitted_arrives, list_of, noted, transfers_of, IsStable, Partners, Fabric, IsEmptyFabric, input, FabricSlot, SlotRecord, LimitedFabricRun, LimitedFabricSlot, LimitedRecord, fabric_admission, slots_in, transfers_in, transfers_of_run, run_of_whole, Leads, one_found, Comes, IsLog, StableRun, IsTransfer, IsOf, IsTransferBefore, all_weaker, all_both, all_found, came_from, all_give, most_ports, EachPair, Has, from_first, pairs_looked_up, looked_up, all_from_has, all_of_has, pairs_joined, came_or_was, was_waiting, all_made, partner_of}
+use Rattle.cq_audit.proofs.Terms.{common_steps, rules, ◌≡◌, ℕ, zero, suc, ◌+◌, ◌<◌, ◌≤◌, ◌^◌, List, [], ◌∷◌, length, Option, None, Some, refl, arith, IfSome, AllByRecursion, filter_map, range_with_len, Cell, Queued, Transfer, arrival_at, Arrival, arriving, first_for, log_of, IsTraffic, Machine, Marked, admission, arriving_from, admitted_arrives, list_of, noted, transfers_of, IsStable, Partners, Fabric, IsEmptyFabric, input, FabricSlot, SlotRecord, LimitedFabricRun, LimitedFabricSlot, LimitedRecord, slots_in, transfers_in, transfers_of_run, run_of_whole, Leads, one_found, Comes, IsLog, StableRun, IsTransfer, IsOf, IsTransferBefore, all_weaker, all_both, all_found, came_from, all_give, most_ports, EachPair, Has, from_first, pairs_looked_up, looked_up, all_from_has, all_of_has, pairs_joined, came_or_was, was_waiting, all_made, partner_of}
 use Rattle.cq_audit.proofs.Following.{run_later, slot_at, transfers_at}
 use Rattle.cq_traffic.proofs.ForPorts.{place_of}
 
@@ -86,15 +86,8 @@ module _ (ports : ℕ) where
       let came = came_from ms slot 0 cells old.ranks _ step.arrive.ranked in
       let arrived : AllListed ports r.arrived.inputs = search (arith, rules, came_or_was, came) in
       let sent : AllListed ports r.sent.inputs = search (arith, rules, was_waiting step.fill.moves) in
-      let one = matching_written slot 1 few small (omega arith) (omega arith) r.first r.arrived.inputs arrived in
-      let two = matching_written slot 2 few small (omega arith) (omega arith) r.second r.sent.inputs sent in
-      search (arith, rules, pairs_joined, all_both, all_of_has, transfers_at, was_waiting step.finish.moves)
-
-  -- what is admitted comes
-  admitted_tellable : (limits : List (Option ℕ)) (cells : List (Option Cell)) (old : Marked Fabric) →
-      ComesTellable ports cells → ComesTellable ports (fabric_admission limits cells old).cells
-  unfolding admission
-  admitted_tellable limits cells old come i cell at = grind (arith, common_steps, admitted_arrives)
+      let written = λ (phase : ℕ). matching_written slot phase few small in
+      search (arith, rules, written, pairs_joined, all_both, all_of_has, transfers_at, was_waiting step.finish.moves)
 
 -- ## A run
 
@@ -102,12 +95,12 @@ module _ (limits : List (Option ℕ)) (ms : List Machine) (ports : ℕ) (few : p
   run_written : (slot : ℕ) (traffic : List (List (Option Cell))) (f g : Marked Fabric) (rs : List LimitedRecord) →
       slot + length rs ≤ 2 ^ 64 → AllByRecursion (ComesTellable ports) traffic → AllListed ports f.state.inputs →
       LimitedFabricRun IsStable limits ms slot traffic f rs g → AreWritten ports (transfers_of_run (slots_in rs))
-  unfolding transfers_of_run
+  unfolding transfers_of_run admission
   run_written slot [] f g [] long come all run = search rules
   run_written slot (cells ∷ traffic) f g (r ∷ rs) long come all run =
       let step = run.1 in
       let one = slot_written ports ms slot r.admission.cells f.state run.0.state r.of_slot few (omega arith)
-      (rw step.admits (admitted_tellable ports limits cells f come.0)) step.runs all in
+      (rw step.admits (λ i cell at. come.0 i cell (admitted_arrives _ cells i cell at))) step.runs all in
       let rest = run_written (slot + 1) traffic run.0 g rs (omega arith) come.1 one.1 run.2 in
       let here = slot_at IsStable ms slot r.admission.cells f.state run.0.state r.of_slot step.runs in
       let later = run_later limits ms (slot + 1) traffic run.0 g rs run.2 in
@@ -148,4 +141,4 @@ module _ (ports classes : ℕ) (came : List Arrival) (traffic : IsTraffic ports 
       let run =
       run_of_whole (LimitedFabricSlot IsStable limits ms) came start rs (λ f. IsEmptyFabric f.state) end whole in
       let written = written_in_run limits ms (length rs) start end rs few long empty run in
-      let led = leads_written ports None _ written tt in search (arith, rules)
+      search (arith, rules, leads_written ports None _ written tt)

@@ -45,7 +45,7 @@ module _ (lists : List (List Queued)) (slot phase : ℕ) (lines : List Transfer)
 
   line_is_note : (i : ℕ) → i < length m → line_of_input i lines ≡ note i
   unfolding transfers_of note
-  line_is_note i inside = search (rules, line_here, own_note)
+  line_is_note i inside = search (rules, line_here, note_of)
 
   -- the line of an input names its partner and its first cell for it
   line_names : (i : ℕ) (t : Transfer) → line_of_input i lines ≡ Some t → IsNoteOf i t

@@ -164,12 +164,6 @@ module _ {M : List ℕ → Machine} {slot : ℕ} {cells : List (Option Cell)} {l
         alike : SendsAlike ms slot comes ranked.ideal (fronts q2.buffers) (fabric_of q4 ranks2.states)
         alike = sends_alike ranked arrived room moved1 have_sent moved2
 
-        next_step : IsInStep ms (slot + 1) (shown ranks2 q4 after)
-        next_step =
-            let still = still_holds ranked (fronts q2.buffers) (fabric_of q4 ranks2.states) l judged after alike
-            (holds M ranks0 q0 l known.can.come) judges sent.released in
-            search (arith, rules, second_long, have_sent, length-told, judges, still, alike)
-
         moved : transfers_in of_slot ≡ one.own ++ two.own
         unfolding transfers_in
         moved = search (arith, rules)
@@ -178,6 +172,8 @@ module _ {M : List ℕ → Machine} {slot : ℕ} {cells : List (Option Cell)} {l
         replayed =
             let both = moved in
             let long = second_long ∙ first_long in
+            let still = still_holds ranked (fronts q2.buffers) (fabric_of q4 ranks2.states) l judged after alike
+            (holds M ranks0 q0 l known.can.come) judges sent.released in
             let slot_is = is_slot ranked arrived room moved1 have_sent moved2 in
             rw (← known.is) (record {
               of_slot = record { admission = by_marks judged.marks cells; of_slot = of_slot };
@@ -185,7 +181,7 @@ module _ {M : List ℕ → Machine} {slot : ℕ} {cells : List (Option Cell)} {l
               moved = search (arith, rules, append_assoc);
               in_order = rw (← long) two.parted.in_order;
               behind = two.parted.behind;
-              in_step = next_step;
+              in_step = search (arith, rules, second_long, have_sent, length-told, judges, still, alike);
               made = search (arith, rules);
               noted = search (arith, rules, append_assoc);
               note_room = search (arith, rules, length-append);
@@ -221,12 +217,9 @@ module _ {n : ℕ} {q : Queues} {l : LimiterView} (new : AreNew n q l) (ranks : 
 module _ (ms : List Machine) (slot to : ℕ) (ranks rested : RanksView) (q : Queues) (l : LimiterView)
     (step : IsInStep ms slot (shown ranks q l)) (empty : IsEmptyFabric (fabric_of q ranks.states)) where
   pub rested_step : length rested.states ≡ length ranks.states → IsInStep ms to (shown rested q l)
-  rested_step long = grind (
-    arith,
-    common_steps,
-    still_held q ranks.states rested.states l (record { ports = step.limits ∙ sym step.ports; held = step.held }),
-    rested_agrees slot to (fabric_of q ranks.states) step.ideal rested.states empty step.agrees,
-  )
+  rested_step long =
+      let agrees = rested_agrees slot to (fabric_of q ranks.states) step.ideal rested.states empty step.agrees in
+      grind (arith, common_steps, still_held, agrees)
 
   pub rested_run : (ports count : ℕ) → length ms ≡ ports → 0 < count → rested.states ≡ idled ms ports ranks.states →
       idled ms ports rested.states ≡ rested.states →

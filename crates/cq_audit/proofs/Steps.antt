@@ -212,7 +212,6 @@ module _ {M : List ℕ → Machine} {came : List Arrival} {lines : List Transfer
         let long = arriving_length came 0 slot in
         let in_step = rw (← had.made.fixed) at had.in_step in
         let in_order = rw (← had.made.fixed) at had.in_order in
-        let made : IsMadeAs first new = search rules in
         search (arith, rules, first_more, joined, take-append-le, not_over, append_assoc, length-append, none_next)
 
     -- ## A fault

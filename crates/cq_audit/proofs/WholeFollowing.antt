@@ -64,8 +64,7 @@ module _ (limits : List (Option ℕ)) (ms : List Machine) (came : List Arrival) 
       halfway m n rs end le run told =
           let r = reach (LimitedFabricSlot IsStable limits ms) came start rs m n end le run in
           let parts = moved_parts (take m rs) (drop m rs) in
-          let whole = take-append-drop m rs in
-          let same = before_later m n note le in search (arith, rules, all_before, run_later, before_is)
+          let whole = take-append-drop m rs in search (arith, rules, all_before, run_later, before_is, before_later)
 
       -- ## A whole run that moves what the lines up to its end say
 
@@ -152,8 +151,7 @@ module _ (limits : List (Option ℕ)) (ms : List Machine) (came : List Arrival) 
       passed slot n rs end lt run told going =
           let h = halfway slot n rs end (omega arith) run told in
           let left : n - slot ≡ suc (n - slot - 1) = omega arith in
-          let earlier = all_before slot start h.state (take slot rs) h.after in
-          search (arith, rules, next_settled slot (n - slot - 1), take-take, phase_later, phase_before)
+          search (arith, rules, next_settled slot (n - slot - 1), take-take, phase_later, phase_before, all_before)
 
       -- ## Two faults
 
