@@ -34,7 +34,6 @@ module _ (ms : List Machine) where
       FabricSlot IsStable ms slot cells f r g → FabricSlot IsStable ms slot cells f s h →
       transfers_in r ≡ transfers_in s → (r ≡ s) × (g ≡ h)
   one_stable_slot slot cells f g h r s x y moved =
-      let same = x.numbered ∙ sym y.numbered in
       let of_r = each_moved r in
       let of_s = each_moved s in
       let arrive = one_arrival ms slot cells r.came s.came f r.arrived s.arrived x.arrive y.arrive in

@@ -105,11 +105,7 @@ pub judged_stable : (lists : List Waiting) (lines : List Transfer) (slot phase :
     IsStableTold (cells_of lists) slot phase lines m
 judged_stable lists lines slot phase m o orders pairs right are none =
     let long = length-map lists (λ (w : Waiting). w.cells) in
-    let is = told_matching (cells_of lists) lines right in
-    rw (pairs, ← long) (record {
-      stable = record { matching = is; settled = settled _ _ is (rw (orders, pairs, ← long) at none) };
-      moved = told_moves (cells_of lists) lines slot phase right (rw (← long) at are);
-    })
+    let is = told_matching (cells_of lists) lines right in search (arith, rules, settled, told_moves)
 
 -- as many offers as lists
 pub offers_long : (lists : List Waiting) → ports (orders_of (cells_of lists)) ≡ length lists

@@ -103,8 +103,7 @@ module _ (limits : List (Option ℕ)) (ms : List Machine) (ports : ℕ) (few : p
       (rw step.admits (λ i cell at. come.0 i cell (admitted_arrives _ cells i cell at))) step.runs all in
       let rest = run_written (slot + 1) traffic run.0 g rs (omega arith) come.1 one.1 run.2 in
       let here = slot_at IsStable ms slot r.admission.cells f.state run.0.state r.of_slot step.runs in
-      let later = run_later limits ms (slot + 1) traffic run.0 g rs run.2 in
-      search (arith, rules, pairs_joined, all_both, all_of_has, here, later)
+      search (arith, rules, run_later, pairs_joined, all_both, all_of_has)
   run_written slot _ f g _ long come all run = absurd run
 
 -- ## The cells that come

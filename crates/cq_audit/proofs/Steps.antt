@@ -8,7 +8,7 @@
 -- than arrive at its input, and an output holds no more cells more than arrive for it. So no list and no output holds
 -- more than arrives in all. Beside the fabric an ideal switch runs, with which it agrees. So where the whole run of
 -- that one meets no tag fault, the fabric meets none, and it goes on for no more slots than that one.
-use Rattle.cq_audit.proofs.Terms.{common_steps, rules, ◌≡◌, ℕ, ◌+◌, ◌-◌, ◌<◌, ◌≤◌, Bool, List, [], length, map, Option, Result, Err, arith, length-append, ◌*◌, zero, suc, ◌∷◌, ◌++◌, refl, append_assoc, IfErr, IsOk, OnOk, cases_lt, append-nil, take_all, take-append-le, Arrival, arriving, end_of, enough, RoomView, Cell, Transfer, Machine, class_count, Marked, first_slots, arriving_from, ranking, IsStable, Fabric, IsEmptyFabric, LimitedFabricRun, empty_limited_fabric, fabric_admission, IsLimitedFault, LimitedFabricSlot, LimitedRecord, arrivals_for, refusal_of, AreInOrder, NoneBefore, CanReplay, HasRested, IsInStep, IsSlotFault, ReplayView, SlotReplayed, ports_in, IsMadeAs, IsReady, IsStill, RunEnds, Reaches, StableRun, before_slot, AuditRefusal, Left, SlotFault, arriving_length, arriving_parts, quiet_limited_slots, transfers_of_run, AfterBy, run_length, first_more, quiet_slots, Ok, Some, TagFault, arrival_at, IsTraffic, is_from, is_to, number_of, count_for, whole_limited_run, empty_limited, input, reach, empty_list, empty_together, nothing_for, slots_fit, arrives_found, come_from, from_here, from_last, no_more_from, one_if, some_one, idled, all_go_on, transfers_one, quiet_transfers, limited_parts, run_fault, held_for, LimitedAgrees, LimitedRunsAlike, same_limited_fault, begin, same_limited_run, limited_lists_kept, limited_outputs_kept, come_for, for_here, for_last, no_more_to, replicate, no_arrivals}
+use Rattle.cq_audit.proofs.Terms.{common_steps, rules, ◌≡◌, ℕ, ◌+◌, ◌-◌, ◌<◌, ◌≤◌, Bool, List, [], length, map, Option, Result, Err, arith, length-append, ◌*◌, zero, suc, ◌∷◌, ◌++◌, refl, append_assoc, IfErr, IsOk, OnOk, cases_lt, append-nil, take_all, take-append-le, Arrival, arriving, end_of, enough, RoomView, Cell, Transfer, Machine, class_count, Marked, first_slots, arriving_from, ranking, IsStable, Fabric, IsEmptyFabric, LimitedFabricRun, empty_limited_fabric, fabric_admission, IsLimitedFault, LimitedFabricSlot, LimitedRecord, arrivals_for, refusal_of, AreInOrder, NoneBefore, CanReplay, HasRested, IsInStep, IsSlotFault, ReplayView, SlotReplayed, ports_in, IsMadeAs, IsReady, IsStill, RunEnds, Reaches, StableRun, before_slot, AuditRefusal, Left, SlotFault, arriving_length, arriving_parts, quiet_limited_slots, transfers_of_run, AfterBy, run_length, first_more, quiet_slots, Ok, Some, TagFault, arrival_at, IsTraffic, is_from, is_to, number_of, count_for, whole_limited_run, empty_limited, input, reach, empty_list, empty_together, nothing_for, slots_fit, arrives_found, come_from, from_here, from_last, no_more_from, one_if, some_one, idled, all_go_on, transfers_one, quiet_transfers, limited_parts, run_fault, held_for, LimitedAgrees, LimitedRunsAlike, same_limited_fault, begin, same_limited_run, limited_lists_kept, limited_outputs_kept, come_for, for_here, for_last, no_more_to}
 use Rattle.cq_audit.proofs.BySlot.{before_is, phase_later, none_first, none_from, none_next}
 use Rattle.cq_audit.proofs.Skips.{all_late, same_fabric}
 use Rattle.cq_audit.proofs.WholeFollowing.{all_before, moved, moved_parts}
@@ -173,18 +173,13 @@ module _ {M : List ℕ → Machine} {came : List Arrival} {lines : List Transfer
 
     pub past : Replaying M came lines first next rest new note
     past =
-        let one = one_each in
         let joined = all_go_on (LimitedFabricSlot IsStable first.limits (map M first.fixed))
         (IsLimitedFault first.limits (map M first.fixed)) in
         let parts = moved_parts b.records quiet_records in
         let before = none_from (ports_in now) next rest b.in_order still.no_line in
         -- what arrives up to the slot, and then nothing, is what arrives up to the other
         let parts_are = arriving_parts came 0 slot slot (next - slot) next in
-        let are : first_slots came slot ++ replicate (next - slot) no_arrivals ≡ first_slots came next =
-        search (arith, rules, quiet_slots came slot (next - slot), parts_are) in
-        let run : LimitedFabricRun IsStable first.limits (map M first.fixed) slot (replicate (next - slot) no_arrivals)
-        now.fabric quiet_records new.fabric = grind (arith, common_steps) in
-        grind (arith, common_steps, arriving_length, joined, take-append-le, cases_lt, none_moved_by, append-nil)
+        search (arith, rules, quiet_slots, arriving_length, take-append-le, cases_lt, none_moved_by, append-nil)
 
     -- what was not over is not over after it
     pub not_over_past : (end_of came ≤ slot → IsEmptyFabric now.fabric.state → ⊥) → end_of came ≤ next →
@@ -204,15 +199,12 @@ module _ {M : List ℕ → Machine} {came : List Arrival} {lines : List Transfer
         cells ≡ arriving came slot → SlotReplayed (map M now.fixed) slot cells rest left now new note note' →
         Replaying M came lines first (slot + 1) left new note'
     at_next cells left new note' are had =
-        let step = rw (b.made.limits, b.made.fixed) at had.is_slot in
         let one = one_each in
         let more_moved = rw transfers_one at (moved_parts b.records (had.of_slot ∷ [])) in
         let joined = all_go_on (LimitedFabricSlot IsStable first.limits (map M first.fixed))
         (IsLimitedFault first.limits (map M first.fixed)) in
         let long = arriving_length came 0 slot in
-        let in_step = rw (← had.made.fixed) at had.in_step in
-        let in_order = rw (← had.made.fixed) at had.in_order in
-        search (arith, rules, first_more, joined, take-append-le, not_over, append_assoc, length-append, none_next)
+        search (arith, rules, first_more, take-append-le, not_over, append_assoc, length-append, none_next)
 
     -- ## A fault
 

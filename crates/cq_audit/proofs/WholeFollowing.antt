@@ -131,8 +131,7 @@ module _ (limits : List (Option ℕ)) (ms : List Machine) (came : List Arrival) 
       one_phase : (slot p q : ℕ) (a b : PhaseFault) → FaultAt slot p a → FaultAt slot q b → p ≡ q
       one_phase slot p q a b x y =
           let of_x = first_of slot p x.fabric x.begins in
-          let of_y = first_of slot q y.fabric y.begins in
-          grind (arith, common_steps, none_settled slot p a, none_settled slot q b, of_x, of_y)
+          search (arith, rules, first_of slot q y.fabric y.begins, none_settled slot p a, none_settled slot q b)
 
       -- ## A run that goes on past a slot
 
@@ -150,7 +149,6 @@ module _ (limits : List (Option ℕ)) (ms : List Machine) (came : List Arrival) 
           moved rs ≡ before_slot n note → Going slot rs → IsSettled slot 2
       passed slot n rs end lt run told going =
           let h = halfway slot n rs end (omega arith) run told in
-          let left : n - slot ≡ suc (n - slot - 1) = omega arith in
           search (arith, rules, next_settled slot (n - slot - 1), take-take, phase_later, phase_before, all_before)
 
       -- ## Two faults
