@@ -95,9 +95,8 @@ module _ (w : Switch) where
 
     fewer_wait : waits g.state ≤ waits f.state + came - 1
     fewer_wait =
-        let before = all_wait slot f.state k.ideal k.agrees in
-        let after = all_wait (slot + 1) g.state beside.next beside.agrees in
-        let less = (counted w.machines slot r.admission.cells k.ideal _ beside.sent).fewer in omega arith
+        let less = (counted w.machines slot r.admission.cells k.ideal _ beside.sent).fewer in
+        omega (arith, all_wait slot f.state k.ideal k.agrees, all_wait (slot + 1) g.state beside.next beside.agrees)
 
     -- a phase makes no more than the number of ports squared
     proposed_few : length w.machines ≤ most_ports → sum (proposals_in r.of_slot) ≤ 8192

@@ -93,10 +93,9 @@ first_low captures each = search (arith, rules, flat_map, stamps_low, least_of)
 pub configured : (t : Tables) (s : Scheduled) (made : IsScheduleOf t s) → AreTables t → AreRecorded t s made →
     IsConfigured (switch_of t s) (openings_of t.setup)
 configured t s made tables recorded =
-    let setup = t.setup in
     let known = schedule_known t s tables made in
     let few : length made.captures ≤ most_ports = omega arith in
     let stamp : s.t0 < 2 ^ 63 = rw made.schedule (first_low made.captures recorded) in
-    let low = machines_low setup.kinds setup.classes in
-    let openings_low = openings_all setup.kinds setup.classes in
+    let low = machines_low t.setup.kinds t.setup.classes in
+    let openings = openings_all t.setup.kinds t.setup.classes in
     search (arith, rules, keeps_laws, right_classes, kind, machine_is, right_size, length-map, small_cells, all_short)

@@ -187,9 +187,8 @@ module _ (w : Switch) (ranks : List (List ℕ)) (configured : IsConfigured w ran
       next_lane : Lane w (n + 1) j (slice_index_or next.ranks j []) (left_at j sent_next) (list_of next.lists j)
       next_lane =
           let is = pool_is j inside in
-          let pairs = pairs_put_all j n came 0 (left j) (waiting j) (search (arith, rules, its_came)) earlier old_ahead
-          lane.stands.order in
-          record { stands = its_served.stands; own = rw is own_all; pairs = rw is (pairs lane.pairs) }
+          let it = pairs_put_all j n came 0 (left j) (waiting j) (search (arith, rules, its_came)) earlier old_ahead in
+          record { stands = its_served.stands; own = rw is own_all; pairs = rw is (it lane.stands.order lane.pairs) }
 
     -- ## Departures
 

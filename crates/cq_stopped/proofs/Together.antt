@@ -86,9 +86,7 @@ module _ (w : Switch) (ranks : List (List ℕ)) (configured : IsConfigured w ran
       let many = length-map rs (λ (r : LimitedRecord). r.of_slot.came) in
       let written = written_in_run ports w.classes w.came configured.traffic configured.names w.limits w.machines next
       (opening w ranks) (marked_in at.frozen) rs configured.few (omega (arith, known.long)) (empty_list ports) stable in
-      let early : AllByRecursion (λ t. t.slot < next) at.note =
-      search (arith, rules, all_weaker, arriving_length, of_its_slots) in
-      search (arith, rules, written, low, all_give)
+      search (arith, rules, written, low, all_give, all_weaker, arriving_length, of_its_slots)
 
   within : RunsWithin w.came 0 at.frozen.next (opening w ranks) rs (marked_in at.frozen)
   unfolding arriving_from
