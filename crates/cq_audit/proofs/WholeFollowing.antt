@@ -5,7 +5,7 @@
 -- the run. So of two faults of phases neither stands before the other, for a run that goes on past a phase has made
 -- the transfers of a stable matching there, as its lines say. For the same reason no fault stands within a whole run
 -- that moves what the lines say, and none behind it, for the run is over there. And two such runs are one.
-use Rattle.cq_audit.proofs.Terms.{common_steps, rules, ◌≡◌, ℕ, ◌+◌, ◌<◌, ◌≤◌, List, [], ◌∷◌, ◌++◌, length, take, drop, Option, refl, sym, arith, append_assoc, ◌-◌, AllByRecursion, cases_lt, take-append-drop, take-take, Arrival, end_of, Transfer, Marked, arriving_from, first_slots, arriving_length, Machine, IsStable, Fabric, IsEmptyFabric, LimitedFabricRun, LimitedFabricSlot, LimitedRecord, slots_in, transfers_of_run, AfterBy, reach, run_of_whole, Reaches, StableRun, before_slot, all_weaker, suc, ◌⊎◌, inl, inr, ⊎_elim, cases_order, Partners, one_arrival, one_departure, IsNoOf, phase_refusal, IsStableTold, in_phase, Begins, BeginsFirst, IsFaultAt, IsLeftAt, IsOfStableRun, PhaseFault, AuditRefusal, Left, filter_all, lt-ltb}
+use Rattle.cq_audit.proofs.Terms.{common_steps, rules, ◌≡◌, ℕ, ◌<◌, ◌≤◌, List, [], ◌∷◌, ◌++◌, length, take, drop, Option, refl, sym, arith, append_assoc, ◌-◌, AllByRecursion, cases_lt, take-append-drop, take-take, Arrival, end_of, Transfer, Marked, arriving_from, first_slots, arriving_length, Machine, IsStable, Fabric, IsEmptyFabric, LimitedFabricRun, LimitedFabricSlot, LimitedRecord, slots_in, transfers_of_run, AfterBy, reach, run_of_whole, Reaches, StableRun, before_slot, all_weaker, suc, ◌⊎◌, inl, inr, ⊎_elim, cases_order, Partners, one_arrival, one_departure, IsNoOf, phase_refusal, IsStableTold, in_phase, Begins, BeginsFirst, IsFaultAt, IsLeftAt, IsOfStableRun, PhaseFault, AuditRefusal, Left, filter_all, lt-ltb}
 use Rattle.cq_audit.proofs.BySlot.{before_is, before_later, phase_before, phase_later, phase_now}
 use Rattle.cq_audit.proofs.Following.{each_moved, one_move, one_stable_run, run_later, run_within}
 use Rattle.cq_audit.proofs.PhaseExact.{phase_is_exact}
