@@ -27,12 +27,9 @@ module _ (j : ℕ) where
   none_its slot a gone past =
       filter_none is_its _ (each_departs slot (λ d. is_its d ≡ false) gone a (search (arith, rules, ne_eqb)))
 
-  abbrev told_of : ℕ → Option Queued → List Departure
-  told_of slot o = cons_option (option_map (departure slot j) o) []
-
   -- of a slot's departures the output's
-  its_one : (slot a k : ℕ) (gone : List (Option Queued)) → a + k ≡ j →
-      filter is_its (departures_from slot a gone) ≡ told_of slot (slice_index_or gone k None)
+  its_one : (slot a k : ℕ) (gone : List (Option Queued)) → a + k ≡ j → filter is_its (departures_from slot a gone)
+      ≡ cons_option (option_map (departure slot j) (slice_index_or gone k None)) []
   its_one slot a k [] is = refl
   its_one slot a zero gone is = grind (arith, common_steps, eq-eqb, none_its)
   its_one slot a (suc k) (o ∷ gone) is = grind (arith, common_steps, ne_eqb, its_one slot (a + 1) k gone)
