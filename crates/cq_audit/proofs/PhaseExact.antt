@@ -37,9 +37,6 @@ module _ (lists : List (List Queued)) (slot phase : ℕ) (lines : List Transfer)
   unfolding note
   note_of i t noted_is = grind (arith, common_steps)
 
-  own_note : OwnInput note
-  own_note i t e = (note_of i t e).input
-
   size : length m ≡ length lists
   size = is.stable.matching.size ∙ length-map lists output_order
 
@@ -50,7 +47,7 @@ module _ (lists : List (List Queued)) (slot phase : ℕ) (lines : List Transfer)
   -- the line of an input names its partner and its first cell for it
   line_names : (i : ℕ) (t : Transfer) → line_of_input i lines ≡ Some t → IsNoteOf i t
   unfolding transfers_of note
-  line_names i t stands = search (rules, note_of, line_is_note, none_here, own_note, cases_lt)
+  line_names i t stands = search (rules, note_of, line_is_note, none_here, cases_lt)
 
   told_partner : (i j : ℕ) → output_told lines i ≡ Some j → partner_of m i ≡ Some j
   told_partner i j e =
