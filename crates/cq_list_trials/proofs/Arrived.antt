@@ -1,10 +1,9 @@
 -- Cells that arrived in slots before this one: they arrived before the next one too, also what is left of them where
 -- one left, and with the newest among them.
-use Rattle.cq_list_trials.proofs.Terms.{◌≡◌, ℕ, ◌+◌, ◌<◌, cond, List, [], ◌∷◌, length, drop, Option, arith, is_some, cond_both, Queued, ArrivedBefore, first_for, without_first, put, all_at, all_by, all_left, common_steps, all_put}
+use Rattle.cq_list_trials.proofs.Terms.{rules, ◌≡◌, ℕ, ◌+◌, cond, List, [], ◌∷◌, length, drop, Option, arith, is_some, cond_both, Queued, ArrivedBefore, first_for, without_first, put, all_at, all_by, all_left, common_steps, all_put}
 
 pub older_still : (slot : ℕ) (xs : List Queued) → ArrivedBefore slot xs → ArrivedBefore (slot + 1) xs
-older_still slot xs before = all_by _ xs (λ t c at.
-    let l : c.key.slot < slot = all_at (λ x. x.key.slot < slot) xs t c before at in omega arith)
+older_still slot xs before = search (arith, rules, all_by, all_at)
 
 -- ## A list
 
@@ -31,5 +30,4 @@ arrived_put c xs before = all_put _ c xs (omega arith) (older_still c.key.slot x
 
 -- the first cell of all left
 pub arrived_popped : (slot : ℕ) (xs : List Queued) → ArrivedBefore slot xs → ArrivedBefore (slot + 1) (drop 1 xs)
-arrived_popped slot [] before = tt
-arrived_popped slot (x ∷ xs) before = older_still slot xs before.1
+arrived_popped slot xs before = search (arith, rules, older_still)

@@ -6,10 +6,7 @@ use Rattle.cq_xbar.specs.Crossbar.{HaveCells, KeysAreNew, HaveRoom, buffer_spare
 -- what holds of both pairs
 both_pairs : (P : ℕ → ℕ → Type 0) (m : Partners) → m ≡ Some 1 ∷ None ∷ Some 0 ∷ [] → P 0 1 → P 2 0 → (i j : ℕ) →
     partner_of m i ≡ Some j → P i j
-both_pairs P m is a b zero j e = grind (arith, common_steps)
-both_pairs P m is a b (suc zero) j e = grind (arith, common_steps)
-both_pairs P m is a b (suc (suc zero)) j e = grind (arith, common_steps)
-both_pairs P m is a b (suc (suc (suc i))) j e = grind (arith, common_steps)
+both_pairs P m is a b i j e = search (arith, rules)
 
 pub have_cells : (m : Partners) (lists : List (List Queued)) → m ≡ Some 1 ∷ None ∷ Some 0 ∷ [] →
     HasCellFor (list_of lists 0) 1 → HasCellFor (list_of lists 2) 0 → HaveCells m lists
@@ -17,9 +14,7 @@ have_cells m lists is first last = both_pairs (λ i j. HasCellFor (list_of lists
 
 pub keys_are_new : (m : Partners) (lists buffers : List (List Queued)) → m ≡ Some 1 ∷ None ∷ Some 0 ∷ [] →
     buffers ≡ [] ∷ [] ∷ [] ∷ [] → KeysAreNew m lists buffers
-keys_are_new m lists buffers is none i j c p found =
-    let empty : (k : ℕ) → list_of buffers k ≡ list_of ([] ∷ [] ∷ [] ∷ []) k =
-    λ k. ap (λ (b : List (List Queued)). list_of b k) none in search (arith, rules, both_pairs)
+keys_are_new m lists buffers is none i j c p found = grind (arith, common_steps)
 
 pub have_room : (m : Partners) (buffers : List Buffered) → m ≡ Some 1 ∷ None ∷ Some 0 ∷ [] →
     0 < buffer_spare buffers 0 → 0 < buffer_spare buffers 1 → HaveRoom m buffers
@@ -27,7 +22,4 @@ have_room m buffers is first second = both_pairs (λ i j. 0 < buffer_spare buffe
 
 -- where only the first input is matched, with output 1, output 0 is free
 pub output_is_free : (m : Partners) → m ≡ Some 1 ∷ None ∷ None ∷ [] → IsFreeOutput m 0
-output_is_free m is zero e = grind (arith, common_steps)
-output_is_free m is (suc zero) e = grind (arith, common_steps)
-output_is_free m is (suc (suc zero)) e = grind (arith, common_steps)
-output_is_free m is (suc (suc (suc i))) e = grind (arith, common_steps)
+output_is_free m is i e = grind (arith, common_steps)

@@ -1,9 +1,8 @@
 -- Lists that change in slot after slot, each in the cells for the partner of its input: a cell came, or the first one
 -- went. The cells of a list are those of its input and came in different slots, so all keys differ. And each list is as
 -- before but for the partner, so the orders are so but for the pairs.
-use Rattle.cq_list_trials.proofs.Terms.{rules, ◌≡◌, ℕ, ◌+◌, ◌<◌, ◌≤◌, true, false, List, length, get_or, set, Some, refl, sym, ap, ◌∙◌, subst, ⊎_elim, arith, All, slice_get, cases_eq, cases_lt, eq-eqb, eqb-true, length-map, length-set, get_or_past, get_or_default, get_or-set_same, get_or-set_other, find_at, passes_at_first, same_Some, slice_get_within, slice_get-get_or, Queued, KeepsOrder, MoreUrgentAhead, ArrivedBefore, is_for, first_for, place_for, without_first, with_arrival, all_at, each_pair_at, first_le, all_left, all_insert, arrived_newest, Waiting, cells_of, list_of, FirstKeysDiffer, first_key, key_before, orders_of, Partners, partner_of, AreSameWithout, cells-at, no_list}
+use Rattle.cq_list_trials.proofs.Terms.{common_steps, rules, ◌≡◌, ℕ, ◌+◌, ◌<◌, ◌≤◌, false, List, length, get_or, set, Some, refl, sym, ap, ◌∙◌, ⊎_elim, arith, All, slice_get, cases_eq, cases_lt, eq-eqb, eqb-true, length-map, length-set, get_or_past, get_or_default, get_or-set_same, get_or-set_other, find_at, passes_at_first, same_Some, slice_get_within, slice_get-get_or, Queued, KeepsOrder, MoreUrgentAhead, is_for, first_for, place_for, without_first, with_arrival, all_at, each_pair_at, first_le, all_left, all_insert, arrived_newest, Waiting, cells_of, list_of, FirstKeysDiffer, first_key, key_before, orders_of, Partners, partner_of, AreSameWithout, cells-at, no_list}
 use Rattle.cq_base.specs.declared.key.Key.{Key}
-use Rattle.cq_base.specs.Key.{is_before}
 use Rattle.cq_base.proofs.Keys.{key_laws}
 use Rattle.cq_list_trials.proofs.Arrived.{older_still}
 use Rattle.cq_list_trials.specs.Followed.{AreOwn, HasChanged, IsOwn}
@@ -18,36 +17,25 @@ ahead_of_first cushion c xs order later place x at same before =
     let j = c.cell.output in
     let n = place_for j xs in
     let le : n ≤ place = first_le (is_for j) xs place x at (eq-eqb x.cell.output j same) in
-    let within : place < length xs = slice_get_within xs place x at in
-    let inside : n < length xs = omega arith in
+    let inside : n < length xs = omega (arith, slice_get_within xs place x at) in
     let f : Queued = get_or xs n x in
     let at_first : slice_get xs n ≡ Some f = slice_get-get_or xs n x inside in
     let own : f.cell.output ≡ j = eqb-true f.cell.output j (passes_at_first (is_for j) xs x inside) in
-    let ahead : is_before f.key c.key ≡ true = ⊎_elim (λ lt. key_laws.on f.key x.key c.key
-    (each_pair_at _ xs n place f x order at_first at lt (own ∙ sym same)) before)
-    (λ ge. search (arith, rules, same_Some)) (cases_lt n place) in
-    search (arith, rules, find_at)
+    search (arith, rules, find_at, same_Some, key_laws.on, each_pair_at, cases_lt n place)
 
 own_still : (slot i : ℕ) (list : Waiting) → IsOwn slot i list → IsOwn (slot + 1) i list
-own_still slot i list own =
-    record { input = own.input; older = older_still slot list.cells own.older; room = omega arith }
+own_still slot i list own = search (arith, rules, older_still)
 
 -- the first cell for output j went
 pub own_left : (slot i j : ℕ) (old new : Waiting) → IsOwn slot i old → new.cells ≡ without_first j old.cells →
     old.spare ≤ new.spare → IsOwn (slot + 1) i new
-own_left slot i j old new own cells room = own_still slot i new (record {
-  input = rw cells (all_left _ j old.cells own.input);
-  older = rw cells (all_left _ j old.cells own.older);
-  room = omega arith;
-})
+own_left slot i j old new own cells room = search (arith, rules, older_still, all_left)
 
 -- a cell came
 pub own_come : (slot i cushion : ℕ) (c : Queued) (old new : Waiting) → IsOwn slot i old → c.key.input ≡ i →
     c.key.slot ≡ slot → new.cells ≡ with_arrival cushion c old.cells → new.spare + 1 ≡ old.spare →
     IsOwn (slot + 1) i new
-own_come slot i cushion c old new own input now cells room =
-    let older : ArrivedBefore c.key.slot old.cells = subst (λ s. ArrivedBefore s old.cells) (sym now) own.older in
-    search (arith, rules, all_insert, arrived_newest)
+own_come slot i cushion c old new own input now cells room = search (arith, rules, all_insert, arrived_newest)
 
 changed_same : (j : ℕ) (old new : List Queued) → HasChanged j old new → IsSameBut (Some j) old new
 changed_same j old new changed =
@@ -64,8 +52,7 @@ own_keys slot lists own j i k c d a b e = sym (names i c a) ∙ ap (λ (key : Ke
     names i c a =
         let xs = (get_or lists i no_list).cells in
         let found : first_for j xs ≡ Some c = rw (cells-at lists i) at a in
-        ⊎_elim (λ l. all_at _ xs (place_for j xs) c (own i no_list l).input (sym (find_at (is_for j) xs) ∙ found))
-        (λ past. let none = get_or_past lists i no_list past in cc) (cases_lt i (length lists))
+        grind (arith, common_steps, all_at, find_at, get_or_past, own, found)
 
 -- the lists of the inputs before n have changed
 pub record Changing (m : Partners) (slot n : ℕ) (old now : List Waiting) : Type 0 where
@@ -82,11 +69,9 @@ module _ {m : Partners} {slot n : ℕ} {old now : List Waiting} (had : Changing 
       record {
         long = had.long;
         outputs = had.outputs;
-        done =
-            λ i none l inside. ⊎_elim (λ is. rw (had.waits i none (omega arith) inside)
-            (own_still slot i (get_or old i none) (own i none inside)))
-            (λ other. had.done i none (omega arith) inside) (cases_eq i n);
-        waits = λ i none l inside. had.waits i none (omega arith) inside;
+        done = λ i none l inside. ⊎_elim (λ is. rw (had.waits i none (omega arith) inside)
+            (own_still _ _ _ (own i none inside))) (λ other. had.done i none (omega arith) inside) (cases_eq i n);
+        waits = search (arith, rules, had.waits);
         same = had.same;
       }
 
@@ -105,14 +90,11 @@ module _ {m : Partners} {slot n : ℕ} {old now : List Waiting} (had : Changing 
         outputs = search (arith, rules, get_or-set_other, length-set, cases_eq);
         done = search (arith, rules, get_or-set_other, cases_eq);
         waits = search (arith, rules, get_or-set_other);
-        same = λ i. ⊎_elim (λ is. subst (λ k. IsSameBut (partner_of m k) (list_of (cells_of old) k)
-            (list_of (cells_of (set now n w)) k)) (sym is) (subst
-            (λ p. IsSameBut p (list_of (cells_of old) n) (list_of (cells_of (set now n w)) n))
-            (sym partner) (subst (λ xs. IsSameBut (Some j) xs (list_of (cells_of (set now n w)) n))
-            (ap (λ (x : Waiting). x.cells) was ∙ sym (cells-at old n)) (subst
-            (IsSameBut (Some j) (get_or now n none).cells)
-            (sym (cells-at (set now n w) n ∙ ap (λ (x : Waiting). x.cells) (here no_list)))
-            (changed_same j (get_or now n none).cells w.cells changed)))))
+        same =
+            let changed : IsSameBut (partner_of m n) (list_of (cells_of old) n) (list_of (cells_of (set now n w)) n) =
+            rw (partner, cells-at old n, cells-at (set now n w) n, here no_list, sym was)
+            (changed_same j (get_or now n none).cells w.cells changed) in
+            λ i. ⊎_elim (λ is. rw is changed)
             (λ other. search (arith, rules, IsSameBut, cells-at, get_or-set_other)) (cases_eq i n);
       }
 

@@ -1,6 +1,6 @@
 -- Arrivals at the ports of a switch. No arrivals are for any ports, and one cell more, for one of the ports, is for
 -- them too. And no more cells come for an output, are admitted there, or are refused than there are places.
-use Rattle.cq_slot_trials.proofs.Terms.{rules, ◌≡◌, ℕ, ◌<◌, ◌≤◌, Bool, true, false, List, [], ◌∷◌, length, get_or, Option, Some, None, sym, ap, ◌∙◌, ◌⊎◌, arith, get_or-set_same, get_or-set_other, set, cases_lt, set_past, unwrap_or-slice_get, Cell, arrival_at, no_arrivals, with_arrival, Admission, admission, marks_after, refused, count_for, AreForPorts, common_steps, cases_eq, arrival_at-no_arrivals}
+use Rattle.cq_slot_trials.proofs.Terms.{rules, ◌≡◌, ℕ, ◌<◌, ◌≤◌, Bool, List, [], ◌∷◌, length, Option, Some, ap, ◌⊎◌, arith, get_or-set_same, get_or-set_other, cases_lt, set_past, unwrap_or-slice_get, Cell, arrival_at, no_arrivals, with_arrival, Admission, admission, refused, count_for, AreForPorts, common_steps, cases_eq, arrival_at-no_arrivals}
 use Rattle.cq_ideal.proofs.Refusals.{each_once}
 
 -- nothing comes where nothing came
@@ -14,12 +14,7 @@ for_ports_none ports classes = search (arith, rules, none_at)
 set_or_before : (cells : List (Option Cell)) (input : ℕ) (cell : Cell) (i : ℕ) (c : Cell) →
     arrival_at (with_arrival cells input cell) i ≡ Some c → ((i ≡ input) × (c ≡ cell)) ⊎ (arrival_at cells i ≡ Some c)
 set_or_before cells input cell i c at =
-    let none : Option Cell = None in
-    let put = set cells input (Some cell) in
-    let read : get_or put i none ≡ Some c = sym (unwrap_or-slice_get put i none) ∙ at in
-    let before : get_or cells i none ≡ Some c → arrival_at cells i ≡ Some c =
-    λ e. unwrap_or-slice_get cells i none ∙ e in
-    grind (arith, common_steps, get_or-set_same, get_or-set_other, set_past, cases_eq, cases_lt, before)
+    search (arith, rules, get_or-set_same, get_or-set_other, set_past, cases_eq, cases_lt, unwrap_or-slice_get)
 
 pub for_ports_with : (ports classes : ℕ) (cells : List (Option Cell)) (input : ℕ) (cell : Cell) →
     AreForPorts ports classes cells → input < ports → cell.output < ports → cell.class < classes →
@@ -37,8 +32,7 @@ pub admitted_most : (limits : List (Option ℕ)) (held : List ℕ) (marks : List
     (a : Admission) →
     a ≡ admission limits held marks cells → count_for j a.cells ≤ length cells
 unfolding admission
-admitted_most limits held marks cells j a is =
-    let same = ap (λ (b : Admission). count_for j b.cells) is in omega (arith, each_once, count_most)
+admitted_most limits held marks cells j a is = search (arith, rules, each_once, count_most)
 
 pub refusals_most : (limits : List (Option ℕ)) (held : List ℕ) (marks : List Bool) (cells : List (Option Cell))
     (a : Admission) →
@@ -46,12 +40,9 @@ pub refusals_most : (limits : List (Option ℕ)) (held : List ℕ) (marks : List
 unfolding admission
 refusals_most limits held marks cells a is =
     let same = ap (λ (b : Admission). length b.refused) is in
-    let few = refused_fewer (marks_after limits held marks cells) cells in
-    omega arith
+    search (arith, rules, refused_fewer)
   where
     refused_fewer : (marks : List Bool) (cells : List (Option Cell)) → length (refused marks cells) ≤ length cells
     refused_fewer [] cells = omega arith
     refused_fewer (mark ∷ marks) [] = omega arith
-    refused_fewer (true ∷ marks) (None ∷ cells) = let rest = refused_fewer marks cells in omega arith
-    refused_fewer (true ∷ marks) (Some cell ∷ cells) = let rest = refused_fewer marks cells in omega arith
-    refused_fewer (false ∷ marks) (cell ∷ cells) = let rest = refused_fewer marks cells in omega arith
+    refused_fewer (mark ∷ marks) (o ∷ cells) = grind (arith, common_steps, refused_fewer marks cells)

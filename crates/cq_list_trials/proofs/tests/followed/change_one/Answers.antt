@@ -1,4 +1,4 @@
-use Rattle.cq_list_trials.proofs.Terms.{arith}
+use Rattle.cq_list_trials.proofs.Terms.{rules, arith}
 use Rattle.cq_list_trials.proofs.Followed.{own_left, own_come}
 use Rattle.cq_list_trials.proofs.tests.followed.change_one.Goals as goal
 
@@ -7,6 +7,4 @@ returns-then-below-eq0-clause-own c = own_left c.args.slot c.args.input c.args.o
     c.requires.own c.take.ensures.cells (omega arith)
 
 pub returns-else-below-eq0-clause-own : goal.returns-else-below-eq0-clause-own
-returns-else-below-eq0-clause-own c = own_come c.args.slot c.args.input c.drawn_cushion-cushion.result
-    c.waiting-queued.result c.args.list.now c.insert.new.self c.requires.own c.waiting-queued.ensures.input
-    c.waiting-queued.ensures.slot c.insert.ensures.cells c.insert.ensures.spare
+returns-else-below-eq0-clause-own c = search (arith, rules, own_come)

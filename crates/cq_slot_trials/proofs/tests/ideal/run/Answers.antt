@@ -3,30 +3,29 @@ use Rattle.cq_slot_trials.proofs.tests.ideal.run.Goals as goal
 
 pub step-requires : goal.step-requires
 step-requires g c =
-    let test = c.slots-test.true in
-    let few = c.requires.few in
     let now = c.slots.invariant in
+    let room = c.in_ok-sent.ensures.spare in
     record {
-      running = now.running;
-      early = let next = now.next in omega arith;
-      ports = now.ports;
-      rooms = now.rooms;
-      classes = now.classes;
-      spare = λ j inside. let was = now.spare j inside in omega arith;
-      counts = now.counts 3 (omega arith);
-      sent = let room = c.in_ok-sent.ensures.spare in omega arith;
+      running = search rules;
+      early = search (arith, rules);
+      ports = search rules;
+      rooms = search rules;
+      classes = search rules;
+      spare = λ j inside. let was = now.spare j inside in search (arith, rules);
+      counts = now.counts 3 (search (arith, rules));
+      sent = search (arith, rules);
     }
 
 pub slots-preserved : goal.slots-preserved
 slots-preserved g c =
+    let now = c.slots.invariant in
+    let next = c.in_default.ensures.stepped in
     record {
       running = search rules;
-      next = let was = c.slots.invariant.next in let next = c.in_default.ensures.stepped.next in omega arith;
+      next = search (arith, rules);
       ports = search rules;
       rooms = search rules;
       classes = search rules;
-      counts = λ n few. c.in_default.ensures.stepped.counts n (c.slots.invariant.counts (n + 64) (omega arith));
-      spare = λ j inside.
-          let was = c.slots.invariant.spare j inside in
-          let now = c.in_default.ensures.stepped.spare j inside in omega arith;
+      counts = λ n few. next.counts n (now.counts (n + 64) (omega arith));
+      spare = λ j inside. let was = now.spare j inside in let spare = next.spare j inside in search (arith, rules);
     }
