@@ -1,7 +1,8 @@
 -- Admission, input by input. The mark of an input after a slot says what became of its arrival, and without a first
 -- cell it is the mark of before. So what is admitted arrives; and where no mark is up and no output has a limit all
 -- is admitted, as where nothing arrives.
-use Rattle.cq_ideal.proofs.Terms.{rules, arith, ◌≡◌, ℕ, suc, Bool, false, List, [], ◌∷◌, length, replicate, Option, Some, None, refl, ap, common_steps, Cell, arrival_at, no_arrivals, NoLimits, RefusesNone, mark_after, held_after, marks_after, admitted, refused, Admission, admission, mark_at, unless, marks_down, AreForPorts, most_ports}
+use Rattle.cq_ideal.proofs.Terms.{rules, arith, ◌≡◌, ℕ, zero, suc, Bool, false, List, [], ◌∷◌, length, get_or, replicate, Option, Some, None, refl, sym, ◌∙◌, ap, common_steps, Cell, arrival_at, no_arrivals, NoLimits, RefusesNone, mark_after, held_after, marks_after, admitted, refused, Admission, admission, mark_at, unless, marks_down, AreForPorts, most_ports}
+use Rattle.cq_ideal.proofs.Changed.{same_at}
 
 -- ## What is admitted
 
@@ -38,29 +39,26 @@ pub its_marks : (limits : List (Option ℕ)) (marks : List Bool) (cells : List (
 unfolding admission
 its_marks limits marks cells a by = let is = by.1 in grind (arith, common_steps)
 
--- ## Without limits
+-- ## Where nothing is refused
 
-all_admitted : (limits : List (Option ℕ)) (held : List ℕ) (ports : ℕ) (cells : List (Option Cell)) → NoLimits limits →
-    (marks_after limits held (marks_down ports) cells ≡ marks_down ports)
-    × (admitted (marks_down ports) cells ≡ cells) × (refused (marks_down ports) cells ≡ [])
-all_admitted limits held (suc ports) (cell ∷ cells) none =
-    grind (arith, common_steps, all_admitted limits (held_after false held cell) ports cells none)
-all_admitted limits held ports cells none = (refl, refl, refl)
+-- where a cell arrives no mark is up and no output has a limit
+all_pass : (limits : List (Option ℕ)) (held : List ℕ) (marks : List Bool) (cells : List (Option Cell)) →
+    ((i : ℕ) (cell : Cell) → get_or cells i None ≡ Some cell → (mark_at marks i ≡ false) × NoLimits limits) →
+    (marks_after limits held marks cells ≡ marks) × (admitted marks cells ≡ cells) × (refused marks cells ≡ [])
+all_pass limits held (mark ∷ marks) (cell ∷ cells) free =
+    let after = held_after (mark_after limits held mark cell) held cell in
+    grind (arith, common_steps, free zero, all_pass limits after marks cells (λ i. free (suc i)))
+all_pass limits held marks cells free = (refl, refl, refl)
 
 pub no_limits_refuse_none : (limits : List (Option ℕ)) (ports : ℕ) (cells : List (Option Cell)) → NoLimits limits →
     RefusesNone limits (marks_down ports) cells
 unfolding admission
 no_limits_refuse_none limits ports cells none held =
-    grind (arith, common_steps, all_admitted limits held ports cells none)
-
--- ## Without arrivals
-
-all_rest : (limits : List (Option ℕ)) (held : List ℕ) (marks : List Bool) (n : ℕ) →
-    (marks_after limits held marks (replicate n None) ≡ marks)
-    × (admitted marks (replicate n None) ≡ replicate n None) × (refused marks (replicate n None) ≡ [])
-all_rest limits held (mark ∷ marks) (suc n) = grind (arith, common_steps, all_rest limits held marks n)
-all_rest limits held marks n = (refl, refl, refl)
+    grind (arith, common_steps, all_pass limits held (marks_down ports) cells, same_at)
 
 pub no_arrivals_refuse_none : (limits : List (Option ℕ)) (marks : List Bool) → RefusesNone limits marks no_arrivals
 unfolding admission
-no_arrivals_refuse_none limits marks held = grind (arith, common_steps, all_rest limits held marks most_ports)
+no_arrivals_refuse_none limits marks held =
+    let none = same_at {X = Option Cell} None most_ports in
+    let all = all_pass limits held marks no_arrivals (λ i cell at. absurd (let no = sym (none i) ∙ at in cc)) in
+    grind (arith, common_steps)
