@@ -2,7 +2,7 @@
 -- slack rises at two matchings, falls by one at most at the departures between them, and by one at most at the next
 -- arrivals. So it never falls, and each cell that waits has more slack than the least so far. After arrivals it has
 -- no less, so that of all slacks then only those of the cells that have arrived can be the least.
-use Rattle.cq_laws.proofs.Terms.{common_steps, rules, ◌≡◌, ℕ, zero, suc, ◌+◌, ◌-◌, ◌<◌, ◌≤◌, ◌⊎◌, Bool, true, false, List, [], ◌∷◌, length, map, Option, Some, None, refl, inl, inr, ⊎_elim, arith, ◌==◌, min, fold, insert, slice_get, option_and_then, AllByRecursion, enumerate_from, position_or_len, reduce, option_map, cases_lt, eq-eqb, ne_eqb, length-map, get_or_past, length-enumerate_from, same_Some, slice_get-get_or, Cell, Queued, Figures, place_of_arrival, Machine, AreForPorts, IdealState, IsStable, Fabric, input, cushion_of, came_to, Arrives, EachArrivesOr, EachRises, SlotRecord, FabricSlot, Agrees, InputFigures, first_here, first_later, slacks, either_by, input_after, figures_after, slack_on_arrival, all_from_has, Has, Falls, least_slack, HasMoreSlack}
+use Rattle.cq_laws.proofs.Terms.{has_there, stands_at, common_steps, rules, ◌≡◌, ℕ, zero, suc, ◌+◌, ◌-◌, ◌<◌, ◌≤◌, ◌⊎◌, Bool, true, false, List, [], ◌∷◌, length, map, Option, Some, None, refl, inl, inr, ⊎_elim, arith, ◌==◌, min, fold, insert, slice_get, option_and_then, AllByRecursion, enumerate_from, position_or_len, reduce, option_map, cases_lt, eq-eqb, ne_eqb, length-map, get_or_past, length-enumerate_from, same_Some, slice_get-get_or, Cell, Queued, Figures, place_of_arrival, Machine, AreForPorts, IdealState, IsStable, Fabric, input, cushion_of, came_to, Arrives, EachArrivesOr, EachRises, SlotRecord, FabricSlot, Agrees, InputFigures, first_here, first_later, slacks, either_by, input_after, figures_after, slack_on_arrival, all_from_has, Has, Falls, least_slack, HasMoreSlack}
 use Rattle.std.proofs.lemmas.List.Edits.{get_or-insert_at, length-insert}
 use Rattle.cq_laws.proofs.Falls.{arrivals_fall, departures_fall}
 use Rattle.cq_laws.proofs.Sound.{one_in_order}
@@ -34,21 +34,27 @@ new_least kept [] v h = absurd h
 new_least None (x ∷ xs) v h = (fold min x xs, refl, least_bounds x xs v h)
 new_least (Some k) (x ∷ xs) v h = let le = least_bounds x xs v h in (min k (fold min x xs), refl, omega arith)
 
--- ## The slacks of a list
+-- ## Lists that are made place by place
 
-abbrev listed_slacks : Fabric → ℕ → List Queued → List ℕ
-listed_slacks f n cells = map (λ at. cushion_of f at.1 - at.0) (enumerate_from n cells)
+at_row : {X Y : Type 0} (g : ℕ → X → Y) (n : ℕ) (xs : List X) (i m : ℕ) → n + i ≡ m →
+    slice_get (map (λ (at : ℕ × X). g at.0 at.1) (enumerate_from n xs)) i ≡ option_map (g m) (slice_get xs i)
+at_row g n [] i m e = refl
+at_row g n (x ∷ xs) i m e = grind (arith, common_steps, at_row g (n + 1) xs)
 
-slack_listed : (f : Fabric) (n : ℕ) (cells : List Queued) (t m : ℕ) (c : Queued) → n + t ≡ m →
-    slice_get cells t ≡ Some c → Has (listed_slacks f n cells) (cushion_of f c - m)
-slack_listed f n (x ∷ xs) (suc t) m c e h = inr (slack_listed f (n + 1) xs t m c (omega arith) h)
-slack_listed f n cells t m c e h = grind (arith, common_steps, same_Some)
+-- the slacks of a list are those of the cells at its places
+slack_listed : (f : Fabric) (i t : ℕ) (c : Queued) → slice_get (input f i) t ≡ Some c →
+    Has (slacks f i) (cushion_of f c - t)
+unfolding slacks
+slack_listed f i t c at =
+    let row = at_row (λ k (d : Queued). cushion_of f d - k) 0 (input f i) t t in search (arith, rules, has_there, row)
 
-listed_slack : (f : Fabric) (n : ℕ) (cells : List Queued) (v : ℕ) → Has (listed_slacks f n cells) v →
-    (t : ℕ) × (c : Queued) × (slice_get cells t ≡ Some c) × (v ≡ cushion_of f c - (n + t))
-listed_slack f n [] v h = absurd h
-listed_slack f n (x ∷ xs) v (inl e) = (zero, x, refl, omega arith)
-listed_slack f n (x ∷ xs) v (inr h) = let r = listed_slack f (n + 1) xs v h in (suc r.0, r.1, r.2, omega arith)
+listed_slack : (f : Fabric) (i v : ℕ) → Has (slacks f i) v →
+    (t : ℕ) × (c : Queued) × (slice_get (input f i) t ≡ Some c) × (v ≡ cushion_of f c - t)
+unfolding slacks
+listed_slack f i v h =
+    let r = stands_at (slacks f i) v h in
+    let row = at_row (λ k (d : Queued). cushion_of f d - k) 0 (input f i) r.0 r.0 (omega arith) in
+    grind (arith, common_steps, row)
 
 -- ## Where a cell stands that has arrived
 
@@ -64,23 +70,13 @@ at_insert xs p n le =
 
 -- ## The figures of an input
 
-figures_at : (r : SlotRecord) (n : ℕ) (xs : List InputFigures) (i m : ℕ) → n + i ≡ m →
-    slice_get (map (λ (at : ℕ × InputFigures). input_after r at.0 at.1) (enumerate_from n xs)) i
-    ≡ option_map (input_after r m) (slice_get xs i)
-figures_at r n [] i m e = refl
-figures_at r n (x ∷ xs) i m e = grind (arith, common_steps, figures_at r (n + 1) xs)
-
-slack_after : (r : SlotRecord) (i : ℕ) (xs : List InputFigures) → i < length xs →
-    option_and_then (λ y. y.slack) (option_map (input_after r i) (slice_get xs i))
-    ≡ either_by min (option_and_then (λ y. y.slack) (slice_get xs i)) (reduce min (slacks r.arrived i))
-unfolding input_after
-slack_after r i xs inside = rw (slice_get-get_or xs i (record { cells = 0; longest = 0; slack = None }) inside)
-
 -- the least slack with one record more
 pub least_after : (x : Figures) (r : SlotRecord) (i : ℕ) → i < length x.inputs →
     least_slack (figures_after x r) i ≡ either_by min (least_slack x i) (reduce min (slacks r.arrived i))
-unfolding figures_after
-least_after x r i inside = cc (figures_at r 0 x.inputs i i (omega arith), slack_after r i x.inputs inside)
+unfolding figures_after input_after
+least_after x r i inside =
+    let none : InputFigures = record { cells = 0; longest = 0; slack = None } in
+    rw (at_row (input_after r) 0 x.inputs i i (omega arith), slice_get-get_or x.inputs i none inside) refl
 
 pub length-after : (x : Figures) (r : SlotRecord) → length (figures_after x r).inputs ≡ length x.inputs
 unfolding figures_after
@@ -124,20 +120,19 @@ module _ (ms : List Machine) (slot class_count : ℕ) (cells : List (Option Cell
     -- each slack after the arrivals is that of the cell that arrived, or is no less than the least so far
     low : (i v : ℕ) → Has (slacks r.arrived i) v →
         (slack_on_arrival i r ≡ Some v) ⊎ ((least : ℕ) × (least_slack x i ≡ Some least) × (least ≤ v))
-    unfolding slack_on_arrival slacks
+    unfolding slack_on_arrival
     low i v h =
-        let at = listed_slack r.arrived 0 (input r.arrived i) v h in
+        let at = listed_slack r.arrived i v h in
         let fall = arrivals_fall ms slot cells r.came f r.arrived step.arrive i at.0 at.1 at.2 in
         search (arith, rules, fall, arrival_place i, one_in_order, arrival_at_place i, slack_arrived, arrived ms slot)
 
     there_on : (i v : ℕ) (o : Option Queued) → came_to r.came i ≡ o →
         option_map (λ c. cushion_of r.arrived c - position_or_len (λ q. q.key.slot == r.slot) (input r.arrived i)) o
         ≡ Some v → Has (slacks r.arrived i) v
-    unfolding slacks
     there_on i v None came e = absurd (let P : ⊥ = cc in P)
     there_on i v (Some c) came e =
         let p = place_of_arrival (cushion_of f c) c (input f i) in
-        search (arith, rules, slack_listed r.arrived 0 (input r.arrived i) p p c, arrival_at_place, arrival_place)
+        search (arith, rules, slack_listed r.arrived i p c, arrival_at_place, arrival_place)
 
     pub by_arrivals : (i : ℕ) →
         either_by min (least_slack x i) (reduce min (slacks r.arrived i))
@@ -149,7 +144,6 @@ module _ (ms : List Machine) (slot class_count : ℕ) (cells : List (Option Cell
   -- arrivals, and each has risen since.
   module _ (x : Figures) (as_many : length x.inputs ≡ length f.inputs) where
     pub more_after : HasMoreSlack (figures_after x r) g
-    unfolding slacks
     more_after =
         record {
           ports = search (arith, rules, length-after, ports_kept);
@@ -157,7 +151,7 @@ module _ (ms : List Machine) (slot class_count : ℕ) (cells : List (Option Cell
               let rise = slot_rises i t c at in
               let within = slack_arrived ms slot class_count cells f g ideal r agrees come step i rise.before c
               rise.stood in
-              let new = new_least (least_slack x i) (slacks r.arrived i) _ (slack_listed r.arrived 0
-              (input r.arrived i) rise.before rise.before c (omega arith) rise.stood) in
+              let new = new_least (least_slack x i) (slacks r.arrived i) _ (slack_listed r.arrived i
+              rise.before c rise.stood) in
               search (arith, rules, least_after, get_or_past, cases_lt) fits 4000;
         }
