@@ -1,6 +1,8 @@
 -- Where no cell waits and none comes, nothing is offered: the matching of nobody is the only one, nothing moves, and
 -- no figure changes. Only the rank machines are told that their outputs were idle.
 use Rattle.cq_laws.proofs.Terms.{common_steps, rules, ◌≡◌, ℕ, zero, suc, ◌+◌, false, List, [], ◌∷◌, length, map, Option, None, refl, ap, arith, All, min, is_some, filter_map, replicate, fold, enumerate_from, list_any, length-map, length-replicate, ext_get_or, sum_by-replicate, Queued, Figures, no_arrivals, Machine, Fabric, empty_fabric, IsEmptyFabric, Transfers, FabricSlot, FabricRun, InputFigures, departures_in, departures_of, idle_at, length-idle, nobody_sends, none_at, nothing_left, ranked_none, all_empty, ports, outputs_of, proposals, orders_of, transfers_of, gone_in, transfers_in, transfers_of_run, slacks, proposals_in, either_by, input_after, output_after, figures_after, OutputFigures, most_ports, IdealState, IsInputBest, no_departures}
+use Rattle.std.proofs.lemmas.List.Elements.{All-replicate}
+use Rattle.std.proofs.lemmas.List.Folds.{list_any_none}
 use Rattle.cq_laws.specs.Quiet.{idled, quiet_slot, quiet_slots, idled_for, KeepLaws}
 use Rattle.cq_laws.proofs.AddingUp.{map-constant}
 use Rattle.cq_laws.proofs.OneRun.{outputs_at}
@@ -49,14 +51,6 @@ pub quiet_transfers : (ms : List Machine) (slot n : ℕ) (ranks : List (List ℕ
 unfolding transfers_in quiet_slot transfers_of
 quiet_transfers ms slot n ranks = grind (arith, common_steps, filter_map-none, none_at)
 
--- no output sent a cell
-abbrev no_cells : ℕ → List (Option Queued)
-no_cells n = replicate n None
-
-none_sends : (n : ℕ) → list_any is_some (no_cells n) ≡ false
-none_sends zero = refl
-none_sends (suc n) = none_sends n
-
 same_by_place : {X : Type 0} (g : ℕ → X → X) → ((i : ℕ) (x : X) → g i x ≡ x) → (n : ℕ) (xs : List X) →
     map (λ (at : ℕ × X). g at.0 at.1) (enumerate_from n xs) ≡ xs
 same_by_place g same n [] = refl
@@ -83,7 +77,8 @@ quiet_figures ms slot n ranks x =
     let r = quiet_slot ms slot n ranks in
     let inputs = same_by_place (input_after r) (same_input ms slot n ranks) 0 x.inputs in
     let outputs = same_by_place (output_after r) (same_output ms slot n ranks) 0 x.outputs in
-    grind (arith, common_steps, none_sends n, none_proposed n)
+    let none = list_any_none is_some _ (All-replicate (λ (o : Option Queued). is_some o ≡ false) n None refl) in
+    grind (arith, common_steps, none, none_proposed n)
 
 -- ## A fabric in which no cell waits
 
