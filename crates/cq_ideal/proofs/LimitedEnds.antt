@@ -1,7 +1,7 @@
 -- Where the run of the ideal switch ends, where outputs have limits: as many slots as are enough end with empty lists,
 -- so there is a least number of slots after which no cell is to come and none waits, and from there on the slots send
 -- nothing. A switch without limits is one with limits that refuses nothing, so its run ends where that one's does.
-use Rattle.cq_ideal.proofs.Terms.{rules, ◌≡◌, ℕ, ◌+◌, ◌-◌, ◌<◌, ◌≤◌, Bool, true, false, List, [], ◌++◌, length, Option, Result, Ok, Err, refl, sym, ap, ◌∙◌, subst, ⊎_elim, arith, get_or, common_steps, flat_map-append, IsOkAnd, position_or_len, range_with_len, cases_lt, append-nil, get_or-range_with_len, length-range_with_len, fails_before_first, passes_at_first, prefix_len-le-length, Arrival, end_of, enough, traffic_of, TagFault, Machine, Marked, NoLimits, admitted_in, marked, marks_down, IdealEnds, arriving_from, first_slots, is_over, slots_of_run, whole_ideal_run, IsEmptyIdeal, Ran, departures_of, departures_ran, empty_ideal, ideal_run, IdealState, LimitedIdealEnds, departures_limited, slots_of_limited_run, whole_limited_run, LimitedRan, empty_limited, limited_run, unlimited, refused_in}
+use Rattle.cq_ideal.proofs.Terms.{rules, ◌≡◌, ℕ, ◌+◌, ◌-◌, ◌<◌, ◌≤◌, Bool, true, false, List, [], ◌++◌, length, Option, Result, Ok, Err, refl, sym, ap, ◌∙◌, subst, ⊎_elim, arith, get_or, common_steps, flat_map-append, IsOkAnd, position_or_len, range_with_len, cases_lt, append-nil, get_or-range_with_len, length-range_with_len, fails_before_first, passes_at_first, prefix_len-le-length, Arrival, Cell, end_of, enough, traffic_of, TagFault, Machine, Marked, NoLimits, admitted_in, marked, marks_down, IdealEnds, arriving_from, first_slots, is_over, slots_of_run, whole_ideal_run, IsEmptyIdeal, Ran, departures_of, departures_ran, empty_ideal, ideal_run, IdealState, LimitedIdealEnds, departures_limited, slots_of_limited_run, whole_limited_run, LimitedRan, empty_limited, limited_run, unlimited, refused_in}
 use Rattle.cq_ideal.proofs.Ends.{all_slots, none_waits, over_from_test, test_after}
 use Rattle.cq_ideal.proofs.EnoughSlots.{no_more, limited_empty_at_end}
 use Rattle.cq_ideal.proofs.LimitedParts.{behind, limited_going_on, limited_parts, limited_stays_empty}
@@ -24,19 +24,19 @@ ran_from : (x : Result LimitedRan TagFault) (s : Marked IdealState) → IsOkAnd 
     (ran : LimitedRan) × (x ≡ Ok ran)
 ran_from fault s e = grind (arith, common_steps)
 
+-- a run sends in as many slots as it has
+pub gone_long : (limits : List (Option ℕ)) (ms : List Machine) (slot : ℕ) (traffic : List (List (Option Cell)))
+    (old : Marked IdealState) (ran : LimitedRan) → limited_run limits ms slot traffic old ≡ Ok ran →
+    length ran.gone ≡ length traffic
+gone_long limits ms slot traffic old ran is =
+    sends_long ms slot (admitted_in ran.admissions) old.state (state_ran ran)
+    (is_run_of limits ms slot traffic old ran is)
+    ∙ (no_more limits old.marks traffic ran.admissions (judged limits ms slot traffic old ran is)).slots
+
 module _ (limits : List (Option ℕ)) (ms : List Machine) (ports : ℕ) (ranks : List (List ℕ)) (came : List Arrival) where
   -- the run over the first n slots
   abbrev pub run_to : ℕ → Result LimitedRan TagFault
   run_to n = limited_run limits ms 0 (first_slots came n) (empty_limited ports ranks)
-
-  -- it sends in as many slots
-  pub gone_long : (n : ℕ) (ran : LimitedRan) → run_to n ≡ Ok ran → length ran.gone ≡ n
-  gone_long n ran is =
-      let start = empty_limited ports ranks in
-      let each = judged limits ms 0 (first_slots came n) start ran is in
-      sends_long ms 0 (admitted_in ran.admissions) start.state (state_ran ran)
-      (is_run_of limits ms 0 (first_slots came n) start ran is)
-      ∙ (no_more limits start.marks (first_slots came n) ran.admissions each).slots ∙ arriving_length came 0 n
 
   abbrev pub over : ℕ → Bool
   over n = is_over came n (unlimited (run_to n))
@@ -121,7 +121,7 @@ module _ (limits : List (Option ℕ)) (ms : List Machine) (ports : ℕ) (ranks :
       IsEmptyIdeal ran.after.state → SameSlots m ran
   more n k m ran e is le empty =
       let quiet = limited_stays_empty limits ms came k n ran.after le (none_waits ran.after.state.lists empty) in
-      let many = gone_long n ran is in
+      let many = gone_long limits ms 0 (first_slots came n) _ ran is ∙ arriving_length came 0 n in
       record {
         all = record {
           admissions = ran.admissions ++ quiet.ran.admissions;

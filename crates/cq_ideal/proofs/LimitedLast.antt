@@ -2,13 +2,13 @@
 -- Behind the last arrival the run goes on only while a cell waits. So a cell waits as the last such slot begins, and
 -- one departs in it. Without limits a cell departs in the slot of the last arrival too, so the last departure is in the
 -- last slot.
-use Rattle.cq_ideal.proofs.Terms.{common_steps, rules, ◌≡◌, ℕ, zero, suc, ◌+◌, ◌-◌, ◌<◌, ◌≤◌, List, [], ◌∷◌, length, Option, Ok, sym, ap, ◌∙◌, ⊎_elim, arith, max, slice_index_or, count_for, AllByRecursion, cases_lt, length-replicate, Arrival, arriving, end_of, Cell, Queued, Machine, admitted_in, arriving_from, slots_of, slots_of_run, whole_ideal_run, IsForSwitch, Ran, departures_of, empty_ideal, ideal_run, IdealState, departures_in, slots_of_limited_run, whole_limited_run, LimitedRan, empty_limited, length-append}
+use Rattle.cq_ideal.proofs.Terms.{common_steps, rules, ◌≡◌, ℕ, zero, suc, ◌+◌, ◌-◌, ◌<◌, ◌≤◌, List, [], ◌∷◌, length, Option, Ok, sym, ap, ◌∙◌, ⊎_elim, arith, max, slice_index_or, count_for, AllByRecursion, cases_lt, length-replicate, Arrival, arriving, end_of, Cell, Queued, Machine, admitted_in, arriving_from, first_slots, slots_of, slots_of_run, whole_ideal_run, IsForSwitch, Ran, departures_of, empty_ideal, ideal_run, IdealState, departures_in, slots_of_limited_run, whole_limited_run, LimitedRan, empty_limited, length-append}
 use Rattle.cq_ideal.proofs.Ends.{nothing_left}
 use Rattle.cq_ideal.proofs.FlowRank.{only_ok}
 use Rattle.cq_ideal.proofs.LastSlot.{comes, counted_in, slots_in, slots_of-append, slots_within}
 use Rattle.cq_ideal.proofs.LimitedEnds.{at_ok, cut_at, gone_long, limited_over_at_end, limited_test, no_limit, not_before, run_to, slots_as_before, state_ran, whole_as}
 use Rattle.cq_ideal.proofs.LimitedRuns.{is_run_of}
-use Rattle.cq_ideal.proofs.Parted.{arriving_here, departures_append, first_slot}
+use Rattle.cq_ideal.proofs.Parted.{arriving_here, arriving_length, departures_append, first_slot}
 use Rattle.cq_ideal.proofs.Waiting.{counted, some_waits, waiting}
 
 -- ## One slot
@@ -53,8 +53,9 @@ module _ (limits : List (Option ℕ)) (ms : List Machine) (ports : ℕ) (ranks :
   late : (slot : ℕ) → slots ≡ slot + 1 → end_of came ≤ slot → slot + 1 ≤ slots_of (departures_of 0 ran.gone)
   late slot e le =
       let cut = cut_at limits ms ports ranks came slot slots ran (omega arith) it_is in
-      let long = gone_long limits ms ports ranks came slot cut.first cut.ran_first in
-      let all = gone_long limits ms ports ranks came slots ran it_is in
+      let long = gone_long limits ms 0 (first_slots came slot) _ cut.first cut.ran_first in
+      let all = gone_long limits ms 0 (first_slots came slots) _ ran it_is in
+      let many = arriving_length came 0 in
       let parts = ap length cut.gone ∙ length-append cut.first.gone cut.second.gone in
       let here = one_of_waiting ms slot (admitted_in cut.second.admissions) cut.first.after.state (state_ran cut.second)
       (omega arith) (one_waits slot cut.first (omega arith) le cut.ran_first) (search (arith, rules, is_run_of)) in
@@ -64,7 +65,7 @@ module _ (limits : List (Option ℕ)) (ms : List Machine) (ports : ℕ) (ranks :
   pub limited_slots : slots ≡ max (end_of came) (slots_of (departures_of 0 ran.gone))
   limited_slots =
       let come = (limited_over_at_end limits ms ports ranks came ran it_is).0 in
-      let long = gone_long limits ms ports ranks came slots ran it_is in
+      let long = gone_long limits ms 0 (first_slots came slots) _ ran it_is ∙ arriving_length came 0 slots in
       let within = slots_within 0 ran.gone in
       search (arith, rules, late (slots - 1), cases_lt)
 
