@@ -46,7 +46,7 @@ pub use Rattle.cq_fabric.specs.Queues.{AreSquare, CanCross, ComeApart, Comes, Fi
 pub use Rattle.cq_fabric.specs.Telling.{AllAreFilled, AreFilled, IsFilled}
 pub use Rattle.cq_fabric.specs.Terms.{IsNewest}
 pub use Rattle.cq_base.proofs.Putting.{length_put}
-pub use Rattle.cq_ideal.proofs.{Admitted.admitted_at, Holding.holds_filled, Sending.length-told, Sending.told_next, Slot.by_marks, Slot.sent_from, Spare.came_for}
+pub use Rattle.cq_ideal.proofs.{Admitted.admitted_at, Holding.holds_filled, Sending.length-told, Sending.told_next, Slot.by_marks, Slot.sent_from, Waiting.came_for}
 pub use Rattle.cq_ideal.specs.IdealRun.{empty_ideal}
 pub use Rattle.cq_prefs.proofs.{Changes.IsSameBut, Changes.same_list, Changes.same_but_arrival, Changes.same_but_taken, Changes.same_without, OneOrder.one_orders, OutputOrder.is_output_order, Places.place_in-le-length}
 pub use Rattle.cq_prefs.specs.Renewal.{AreSameWithout}

@@ -9,7 +9,6 @@ pub mod Standing
 pub mod EnoughSlots
 pub mod FlowCount
 pub mod FlowFound
-pub mod FlowLimits
 pub mod FlowLaw
 pub mod FlowPut
 pub mod FlowRank
@@ -21,7 +20,6 @@ pub mod Refusals
 pub mod Changed
 pub mod Sending
 pub mod Slot
-pub mod Spare
 pub mod Waiting
 pub mod Parted
 pub mod Ends

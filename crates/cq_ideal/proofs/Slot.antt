@@ -7,8 +7,7 @@ use Rattle.cq_ideal.proofs.Admitted.{admitted_for_ports}
 use Rattle.cq_ideal.proofs.Came.{came_to_ports, arrived_next, own_keys, fit_same}
 use Rattle.cq_ideal.proofs.Holding.{holds_filled}
 use Rattle.cq_ideal.proofs.Refusals.{each_once}
-use Rattle.cq_ideal.proofs.Spare.{came_for}
-use Rattle.cq_ideal.proofs.Waiting.{counted, length-filled}
+use Rattle.cq_ideal.proofs.Waiting.{came_for, counted, length-filled}
 
 -- what a slot leaves once the cells are in the lists
 abbrev pub sent_from : List Machine → IdealState → Sent

@@ -114,6 +114,11 @@ ranked_cells ms slot input [] ranks r h = grind (arith, common_steps, only_ok)
 ranked_cells ms slot input (cell ∷ cells) ranks r h =
     search (arith, rules, after_input_ok, fits_ok, ranked_cells ms slot (input + 1) cells)
 
+-- each output gets as many as came for it
+pub came_for : (ms : List Machine) (slot : ℕ) (cells : List (Option Cell)) (ranks : List (List ℕ)) (r : Ranking) →
+    ranking ms slot 0 cells ranks ≡ Ok r → (j : ℕ) → count_to j r.came ≡ count_for j cells
+came_for ms slot cells ranks r ok j = cc (count_to-cells j r.came, ranked_cells ms slot 0 cells ranks r ok)
+
 -- ## One slot
 
 -- what a slot makes of the numbers of cells

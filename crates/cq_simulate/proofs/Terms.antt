@@ -21,13 +21,12 @@ pub use Rattle.cq_rank.specs.Machine.{KeepsLaws, Machine, first_come, machine_at
 pub use Rattle.cq_rank.specs.Switch.{class_count}
 pub use Rattle.cq_scfq.specs.Discipline.{fixed_of, machine_from, state_of}
 pub use Rattle.cq_scfq.specs.Disciplines.{machine_of, machines_of, openings_of}
-pub use Rattle.cq_ideal.proofs.AtInput.{come_in_order}
+pub use Rattle.cq_ideal.proofs.AtInput.{come_in_order, comes_at_input}
 pub use Rattle.cq_ideal.proofs.Counting.{all_counted_both, counts_fit, none_counted, zero_fits}
 pub use Rattle.cq_ideal.proofs.Ends.{all_slots, none_waits, nothing_left}
 pub use Rattle.cq_ideal.proofs.FlowCount.{come_count-first, come_count-traffic_of, none_after}
 pub use Rattle.cq_ideal.proofs.FlowFound.{all_found, all_present, arriving_is, cell_listed}
 unfoldable pub use Rattle.cq_ideal.proofs.FlowFound.{found}
-pub use Rattle.cq_ideal.proofs.FlowLimits.{comes_at_input, flows_leave_in_packets}
 pub use Rattle.cq_ideal.proofs.FlowPut.{NoLater}
 pub use Rattle.cq_ideal.proofs.FlowRank.{AreOfClasses, present}
 pub use Rattle.cq_ideal.proofs.FlowRun.{flow_came, no_port}
@@ -120,7 +119,7 @@ pub use Rattle.cq_cells.proofs.Stamps.{length-rows_from}
 pub use Rattle.cq_cells.proofs.Ranges.{range_more}
 pub use Rattle.cq_scfq.specs.declared.discipline.Discipline.{Discipline}
 pub use Rattle.cq_ideal.proofs.EnoughSlots.{waiting-empty}
-pub use Rattle.cq_ideal.proofs.{LimitedParts.no_departures, EachLeaves.each_leaves_or_is_refused, EachLeaves.refuses_none_elsewhere, FlowLaw.all_in_range, FlowLaw.class_in_slot, FlowLaw.none_came, FlowOn.flow_on, FlowOn.whole_on, LastSlot.slots_within, LimitedLast.last_departs, LimitedLast.limited_slots, Standing.StandAt, Standing.stand_in}
+pub use Rattle.cq_ideal.proofs.{LimitedParts.no_departures, EachLeaves.each_leaves_or_is_refused, EachLeaves.refuses_none_elsewhere, FlowLaw.all_in_range, FlowLaw.class_in_slot, FlowLaw.none_came, FlowOn.flow_on, FlowOn.flows_leave_in_packets, FlowOn.whole_on, LastSlot.slots_within, LimitedLast.last_departs, LimitedLast.limited_slots, Standing.StandAt, Standing.stand_in}
 pub use Rattle.cq_ideal.specs.{EachOnce.KeepTheirOutput, EachOnce.LeaveOrAreRefused, Fresh.fresh_ideal, OneSlot.CanHaveSlot, OneSlot.HasHadSlot, OneSlot.IsSameSwitch}
 pub use Rattle.cq_reasm.specs.{Cutting.AreCutFrom, Open.Open, Open.bytes_taken, Open.with_piece, Piece.Piece}
 pub use Rattle.cq_reasm.proofs.Pieces.{pieces_give_frame}

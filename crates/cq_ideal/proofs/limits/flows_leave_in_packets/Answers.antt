@@ -1,4 +1,4 @@
-use Rattle.cq_ideal.proofs.FlowLimits.{flows_leave_in_packets}
+use Rattle.cq_ideal.proofs.FlowOn.{flows_leave_in_packets}
 use Rattle.cq_ideal.proofs.limits.flows_leave_in_packets.Goals as goal
 
 pub returns : goal.returns
