@@ -1,7 +1,7 @@
 -- What arrives in the slots of a run, slot by slot, is what was to arrive, in its order: the cells that come to an
 -- input, and those of a flow. At the place of the flow's input stand all its cells of a slot, so they are among the
 -- cells that come to the input.
-use Rattle.cq_ideal.proofs.Terms.{common_steps, ◌≡◌, ℕ, zero, suc, ◌+◌, ◌<◌, List, [], ◌∷◌, None, Option, refl, sym, ap, ◌∙◌, ⊎_elim, arith, AllByRecursion, cases_lt, get_or_past, unwrap_or-slice_get, Cell, Arrival, arriving, arriving_at, enough, traffic_of, arrival_at, RiseByInput, came_in_flow, came_at, cells_at, most_ports, all_weaker}
+use Rattle.cq_ideal.proofs.Terms.{rules, common_steps, ◌≡◌, ℕ, zero, suc, ◌+◌, ◌<◌, List, [], ◌∷◌, None, Option, refl, sym, ap, ◌∙◌, ⊎_elim, arith, AllByRecursion, cases_lt, get_or_past, unwrap_or-slice_get, Cell, Arrival, arriving, arriving_at, enough, traffic_of, arrival_at, RiseByInput, came_in_flow, came_at, cells_at, most_ports, all_weaker}
 use Rattle.cq_ideal.proofs.Ends.{all_slots}
 use Rattle.cq_ideal.proofs.FlowFound.{cell_listed, found, found_none, length-arriving, listed_same}
 use Rattle.cq_ideal.proofs.FlowRank.{present}
@@ -32,12 +32,10 @@ pub all_in_order : (i : ℕ) (came : List Arrival) → AllByRecursion (λ a. a.c
 unfolding found
 all_in_order i came inputs rise = ⊎_elim (λ inside. come_in_order i inside came rise)
     (λ past. all_shown i came (λ t.
-    let none : Option Cell = None in
     let long = length-arriving came t most_ports refl in
     let nobody = found_none came t i (all_weaker (λ a. a.cell.id.input < most_ports) _ (λ a l at is. omega arith) came
     inputs) in
-    unwrap_or-slice_get (arriving came t) i none ∙ get_or_past (arriving came t) i none (omega arith)
-    ∙ sym (listed_same (arriving_at came t i) none nobody)) rise) (cases_lt i most_ports)
+    search (arith, rules, unwrap_or-slice_get, get_or_past, listed_same, nobody)) rise) (cases_lt i most_ports)
 
 -- ## A flow comes at its input
 
@@ -69,5 +67,4 @@ module _ (i c j : ℕ) where
 
   pub came_in_order : (came : List Arrival) → AllByRecursion (λ a. a.cell.id.input < most_ports) came →
       RiseByInput came → flow_came i c j (traffic_of came) ≡ came_in_flow i c j came
-  came_in_order came inputs rise = comes_at_input (traffic_of came) (all_stand came)
-      ∙ ap (of_flow i c j) (all_in_order i came inputs rise) ∙ of_line came
+  came_in_order came inputs rise = search (arith, rules, comes_at_input, all_stand, all_in_order, of_line)

@@ -99,9 +99,8 @@ none_ranked : (ms : List Machine) (slot input : ℕ) (cells : List (Option Cell)
     ((k : ℕ) (cell : Cell) → get_or cells k None ≡ Some cell → ⊥) →
     ranking ms slot input cells states ≡ Ok (record { came = replicate (length cells) None; ranks = states })
 none_ranked ms slot input [] states h = refl
-none_ranked ms slot input (None ∷ cells) states h =
-    ap (after_input None) (none_ranked ms slot (input + 1) cells states (λ k cell at. h (suc k) cell at))
-none_ranked ms slot input (Some cell ∷ cells) states h = absurd (h zero cell refl)
+none_ranked ms slot input (cell ∷ cells) states h =
+    grind (arith, common_steps, h zero, none_ranked ms slot (input + 1) cells states (λ k. h (suc k)))
 
 -- no cell comes to an input that is no port
 pub none_beyond : (ports input : ℕ) (cells : List (Option Cell)) →
@@ -138,16 +137,14 @@ module _ {M : List ℕ → Machine} {slot : ℕ} {cells : List (Option Cell)} {f
       ≡ after_input q (ranking (map M ranks.fixed) slot (input + 1) rest ranks_new.states)) →
       InTurn M slot cells first (input + 1) ranks_new (set came input q)
   in_turn_next ranks_new cell q places inside port is fixed many one =
-      let next = from_input cells input cell places inside is in
-      grind (arith, common_steps, length-set, get_or-set_other, take_more_set, after_inputs-snoc)
+      grind (arith, common_steps, length-set, get_or-set_other, take_more_set, after_inputs-snoc, from_input cells)
 
   -- a fault
   pub in_turn_fault : (cell : Option Cell) (fault : TagFault) → length cells ≡ most_ports → input < most_ports →
       cell ≡ arrival_at cells input →
       ((rest : List (Option Cell)) → ranking (map M ranks.fixed) slot input (cell ∷ rest) ranks.states ≡ Err fault) →
       ranking (map M first.fixed) slot 0 cells first.states ≡ Err fault
-  in_turn_fault cell fault places inside is one =
-      let next = from_input cells input cell places inside is in search (rules, after_inputs-fault)
+  in_turn_fault cell fault places inside is one = search (rules, after_inputs-fault, from_input cells input cell)
 
   -- no port is left
   pub in_turn_last : (class_count : ℕ) → AreForPorts (length first.fixed) class_count cells →
@@ -180,8 +177,7 @@ pub nobody_left : (came : List (Option Queued)) (lists : List (List Queued)) →
     ((k : ℕ) (q : Queued) → get_or came k None ≡ Some q → ⊥) → filled came lists ≡ lists
 unfolding filled
 nobody_left [] lists h = filled_none lists
-nobody_left (None ∷ came) lists h = nobody_left came lists (λ k q at. h (suc k) q at)
-nobody_left (Some q ∷ came) lists h = absurd (h zero q refl)
+nobody_left (q ∷ came) lists h = grind (arith, common_steps, h zero, nobody_left came lists (λ k. h (suc k)))
 
 -- ## Keys
 
@@ -189,13 +185,11 @@ nobody_left (Some q ∷ came) lists h = absurd (h zero q refl)
 own_keys_rest : (o : Option Queued) (came : List (Option Queued)) (lists : List (List Queued)) →
     HaveOwnKeys (o ∷ came) lists → ((q : Queued) → o ≡ Some q → q.cell.output < length lists) →
     HaveOwnKeys came (with_came o lists)
-own_keys_rest None came lists own inside =
-    record { waiting = λ k. own.waiting (suc k); others = λ k n q r lt. own.others (suc k) (suc n) q r (omega arith) }
-own_keys_rest (Some p) came lists own inside = record {
-  waiting = λ k q at j. let apart = own.others zero (suc k) p q (omega arith) refl at in
-      let had = own.waiting (suc k) q at j in grind (arith, common_steps, one_put, cond_both, all_put, inside);
-  others = λ k n q r lt. own.others (suc k) (suc n) q r (omega arith);
-}
+own_keys_rest o came lists own inside =
+    let waits = λ (k : ℕ). own.waiting (suc k) in
+    let later = λ (k n : ℕ). own.others (suc k) (suc n) in
+    let apart = λ (k : ℕ). own.others zero (suc k) in
+    search (arith, rules, waits, later, apart, one_put, cond_both, all_put, inside)
 
 pub if_some : (o : Option Queued) (P : Queued → Type 0) → ((q : Queued) → o ≡ Some q → P q) → IfSome o P
 if_some q P f = grind (arith, common_steps)

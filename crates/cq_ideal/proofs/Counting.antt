@@ -151,8 +151,7 @@ raised held o j inside = grind (arith, common_steps, cases_Bool, eqb-true, get_o
 none_to_count : (j : ℕ) (cells : List (Option Cell)) → ((k : ℕ) (c : Cell) → get_or cells k None ≡ Some c → ⊥) →
     count_for j cells ≡ 0
 none_to_count j [] none = refl
-none_to_count j (None ∷ cells) none = none_to_count j cells (λ k c at. none (suc k) c at)
-none_to_count j (Some c ∷ cells) none = absurd (none zero c refl)
+none_to_count j (c ∷ cells) none = grind (arith, common_steps, none zero, none_to_count j cells (λ k. none (suc k)))
 
 module _ {cells : List (Option Cell)} {first : LimiterView} {input : ℕ} {now : LimiterView}
     (so_far : Judging cells first input now) where
@@ -178,6 +177,5 @@ module _ {cells : List (Option Cell)} {first : LimiterView} {input : ℕ} {now :
   pub judged_last : HasPorts first → ComeToPorts (length first.limits) cells → length first.limits ≤ input →
       HasJudged cells first now
   judged_last has come past =
-      let limits = ap length so_far.limits in
       let beyond = none_beyond _ input cells come.inputs past in
       search (arith, rules, drop_all, take_all, append-nil, none_to_count, beyond, so_far.held)

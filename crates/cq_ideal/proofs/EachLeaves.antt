@@ -46,12 +46,10 @@ one_output : (came : List Arrival) → KeepTheirOutput came → (i : ℕ) (a b :
 one_output came keep i a b has_a has_b same =
     let p = image_has (λ (x : Arrival). x.cell) (line_at i came) a has_a in
     let q = image_has (λ (x : Arrival). x.cell) (line_at i came) b has_b in
-    let p_came = kept_has (λ (x : Arrival). x.cell.id.input == i) came p.0 p.1 in
-    let q_came = kept_has (λ (x : Arrival). x.cell.id.input == i) came q.0 q.1 in
     let Same = λ (x y : Arrival). x.cell.id.input ≡ y.cell.id.input → x.cell.id.packet ≡ y.cell.id.packet →
     x.cell.output ≡ y.cell.output in
-    let two = pair_of_has Same came p.0 q.0 (each_pair Same came keep) p_came.0 q_came.0 in
-    grind (arith, common_steps, eqb-true, two)
+    let two = pair_of_has Same came p.0 q.0 (each_pair Same came keep) in
+    grind (arith, common_steps, eqb-true, two, kept_has (λ (x : Arrival). x.cell.id.input == i) came)
 
 -- ## At an output without a limit
 

@@ -57,8 +57,7 @@ no_more limits marks traffic admissions judged = absurd judged
 -- ## As many slots as are enough
 
 pub waiting-empty : (ports : ℕ) → waiting (replicate ports []) ≡ 0
-waiting-empty ports =
-    none_waits (replicate ports []) (All-replicate (λ (cells : List Queued). cells ≡ []) ports [] refl)
+waiting-empty ports = search (arith, rules, none_waits, All-replicate)
 
 if_ok : {A : Type 0} (P : A → Type 0) (x : Result A TagFault) → ((a : A) → x ≡ Ok a → P a) → IfOk x P
 if_ok P fault f = grind (arith, common_steps)
@@ -70,8 +69,7 @@ emptied : (ms : List Machine) (ports : ℕ) (ranks : List (List ℕ)) (came : Li
 emptied ms ports ranks came traffic ran is less =
     let few = come_count-traffic_of came in
     let slots = length-traffic_of came in
-    let none = waiting-empty ports in
-    search (arith, rules, less.count zero, less.count, quiet_at_end came, nothing_left, empties)
+    search (arith, rules, less.count zero, less.count, quiet_at_end came, nothing_left, empties, waiting-empty)
 
 pub empty_at_end : (ms : List Machine) (ports : ℕ) (ranks : List (List ℕ)) (came : List Arrival) →
     IfOk (ideal_run ms 0 (traffic_of came) (empty_ideal ports ranks)) (λ ran. IsEmptyIdeal ran.after)

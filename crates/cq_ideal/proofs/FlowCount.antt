@@ -47,9 +47,7 @@ module _ (of : List Cell → ℕ) (here : List (Option Cell) → ℕ) (bound : L
 
   -- in any number of slots
   pub weighed : (came : List Arrival) (n : ℕ) → total (λ t. here (arriving came t)) 0 n ≤ bound came
-  weighed came n =
-      let slot = is_in_slot most_ports refl came in
-      search (arith, rules, total_same, slots_within most_ports refl came n)
+  weighed came n = search (arith, rules, total_same, slots_within most_ports refl came n, is_in_slot most_ports)
 
 -- ## The end of the arrivals
 

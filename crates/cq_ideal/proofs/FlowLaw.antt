@@ -50,16 +50,14 @@ pub left_as_came : (ms : List Machine) (ports : ℕ) (openings : List (List ℕ)
     (ports ≤ j → all ≡ []) → left_in_flow i c j (departures_of 0 ran.gone) ≡ all
 left_as_came ms ports openings came runs i c j traffic ran is are over all comes none =
     let nil : List Queued = [] in
-    let lists : List (List Queued) = replicate ports nil in
-    let many : length lists ≡ ports = length-replicate ports nil in
+    let many = length-replicate ports nil in
     let opened = runs.ports_are in
+    let start = empty_ideal ports openings in
     ⊎_elim (λ inside.
-    let empty : slice_index_or lists j nil ≡ nil = get_or-replicate ports j nil nil inside in
-    let p = passed ms j (runs.machines j inside) i c traffic 0 (empty_ideal ports openings) ran is (omega arith)
-    (omega arith) (rw empty (record { size = runs.sizes j inside; order = tt; waited = tt })) are in
-    cc (append-nil (left_in_flow i c j (departures_of 0 ran.gone)), empty_at ran.after.lists j over, p))
-    (λ past. no_port ms i c j traffic 0 (empty_ideal ports openings) ran is (omega arith) ∙ sym (none past))
-    (cases_lt j ports)
+    let empty = get_or-replicate ports j nil nil inside in
+    let p = passed ms j (runs.machines j inside) i c traffic 0 start ran is in
+    search (arith, rules, p, runs.sizes j, append-nil, empty_at ran.after.lists j, empty))
+    (λ past. search (arith, rules, no_port ms i c j traffic 0 start ran is)) (cases_lt j ports)
 
 -- ## The law
 
@@ -70,5 +68,4 @@ all_came ms ports openings came runs i c j = came_in_order i c j came (search (a
 
 pub flows_leave : FlowsLeaveAsTheyCame
 flows_leave ms ports openings came ran runs is i c j =
-    let empty = empty_at_end ms ports openings came in
-    search (arith, rules, left_as_came, classes ms ports j came runs.for_switch, all_came, none_came)
+    search (arith, rules, left_as_came, classes ms ports j came runs.for_switch, all_came, none_came, empty_at_end ms)

@@ -68,8 +68,7 @@ module _ (ms : List Machine) (j : ℕ) (laws : KeepsLaws (machine_at ms j)) (i c
   passed (cells ∷ traffic) slot state ran h in_lists in_ranks stands are =
       let p = first_slot ms slot cells traffic state ran h in
       let s = served ms j slot laws i c cells state p.sent p.ran_slot in_lists in_ranks stands are.0 in
-      let rest = passed traffic (slot + 1) p.sent.after p.second p.ran_second in
-      search (arith, rules, shown, of_flow, present, listed, append_assoc, left_later, rest)
+      search (arith, rules, shown, of_flow, present, listed, append_assoc, left_later, passed traffic (slot + 1))
 
 -- where there is no such port nothing leaves it
 pub no_port : (ms : List Machine) (i c j : ℕ) (traffic : List (List (Option Cell))) (slot : ℕ) (state : IdealState)

@@ -55,10 +55,7 @@ module _ (limits : List (Option ℕ)) (ms : List Machine) (ports : ℕ) (ranks :
   range_at m lt = let at = get_or-range_with_len 0 (enough came) m 0 lt in omega arith
 
   pub not_before : (m : ℕ) → m < last → over m ≡ false
-  not_before m lt =
-      let is = last_is in
-      let le = limited_not_more in
-      cc (range_at m (omega arith), fails_before_first over (range_with_len 0 (enough came)) m 0 (omega arith))
+  not_before m lt = grind (arith, common_steps, last_is, limited_not_more, range_at m, fails_before_first over)
 
   least : (m : ℕ) → over m ≡ true → last ≤ m
   least m is = grind (arith, common_steps, cases_lt m last, not_before m)
@@ -86,17 +83,12 @@ module _ (limits : List (Option ℕ)) (ms : List Machine) (ports : ℕ) (ranks :
   pub limited_ends : (ran : LimitedRan) → whole_limited_run limits ms came (empty_limited ports ranks) ≡ Ok ran →
       LimitedIdealEnds limits ms came (empty_limited ports ranks) last ran.after
   unfolding whole_limited_run
-  limited_ends ran is =
-      let at = limited_over_at_end ran is in search (arith, rules, at_ok, limited_test, least)
+  limited_ends ran is = search (arith, rules, at_ok, limited_test, least, limited_over_at_end ran is)
 
   -- ## More slots, and fewer
 
   goes_on : (n k m : ℕ) → m ≡ n + k → run_to m ≡ limited_going_on limits ms n (arriving_from came n k) (run_to n)
-  goes_on n k m e =
-      let long = arriving_length came 0 n in
-      let parts = limited_parts limits ms 0 n (first_slots came n) (arriving_from came n k)
-      (empty_limited ports ranks) (omega arith) in
-      cc (arriving_parts came 0 n n k m (omega arith) e, parts)
+  goes_on n k m e = search (arith, rules, arriving_length, arriving_parts came 0 n n k m, limited_parts limits ms 0 n)
 
   -- the first slots of a run that meets no fault, and the others
   pub record Halves (m n : ℕ) (ran : LimitedRan) : Type 0 where
@@ -122,16 +114,8 @@ module _ (limits : List (Option ℕ)) (ms : List Machine) (ports : ℕ) (ranks :
   more n k m ran e is le empty =
       let quiet = limited_stays_empty limits ms came k n ran.after le (none_waits ran.after.state.lists empty) in
       let many = gone_long limits ms 0 (first_slots came n) _ ran is ∙ arriving_length came 0 n in
-      record {
-        all = record {
-          admissions = ran.admissions ++ quiet.ran.admissions;
-          gone = ran.gone ++ quiet.ran.gone;
-          after = quiet.ran.after;
-        };
-        is = search (arith, rules, goes_on n k m);
-        sent = cc (departures_append 0 n ran.gone quiet.ran.gone (omega arith), append-nil (departures_of 0 ran.gone));
-        refused = search (arith, rules, flat_map-append, append-nil);
-      }
+      let nothing = append-nil (departures_of 0 ran.gone) in
+      search (arith, rules, goes_on n k m, departures_append, nothing, flat_map-append, append-nil)
 
   pub limited_found_end : (n : ℕ) (end : Marked IdealState) →
       LimitedIdealEnds limits ms came (empty_limited ports ranks) n end → last ≡ n
@@ -161,8 +145,7 @@ module _ (limits : List (Option ℕ)) (ms : List Machine) (ports : ℕ) (ranks :
   -- the run over as many slots as are enough
   pub limited_over_all : (ran : LimitedRan) → run_to last ≡ Ok ran → SameSlots (enough came) ran
   limited_over_all ran is =
-      let at = limited_over_at_end ran is in
-      search (arith, rules, limited_not_more, more last (enough came - last) (enough came) ran)
+      search (arith, rules, limited_not_more, more last (enough came - last) (enough came) ran, limited_over_at_end ran)
 
   pub limited_same_sent : departures_limited (limited_run limits ms 0 (traffic_of came) (empty_limited ports ranks))
       ≡ departures_limited (whole_limited_run limits ms came (empty_limited ports ranks))
@@ -221,8 +204,7 @@ module _ (ms : List Machine) (ports : ℕ) (ranks : List (List ℕ)) (came : Lis
     after = plain_after n end y.after;
     all_came = y.all_came;
     empty = y.empty;
-    first = λ m s after le empty. y.first m (marked (marks_down ports) s)
-        (search (arith, rules, refusing_none m (plain_run m) refl)) le empty;
+    first = λ m s. search (arith, rules, refusing_none m (plain_run m), y.first m (marked (marks_down ports) s));
   }
 
   its_ends : (n : ℕ) (end : IdealState) → IdealEnds ms came (empty_ideal ports ranks) n end →
@@ -268,7 +250,5 @@ module _ (ms : List Machine) (ports : ℕ) (ranks : List (List ℕ)) (came : Lis
   pub same_sent : departures_ran (ideal_run ms 0 (traffic_of came) (empty_ideal ports ranks)) ≡ departures_ran
       (whole_ideal_run ms came (empty_ideal ports ranks))
   same_sent =
-      let before = its_runs (enough came) in
-      let all = all_slots came in
       let whole = run_as_before [] ms ports ranks came no_limit in
-      let same = limited_same_sent [] ms ports ranks came in search (arith, rules, common_steps)
+      search (arith, rules, common_steps, its_runs (enough came), all_slots came, limited_same_sent [] ms ports ranks)

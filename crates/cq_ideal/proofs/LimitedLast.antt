@@ -46,9 +46,8 @@ module _ (limits : List (Option ℕ)) (ms : List Machine) (ports : ℕ) (ranks :
   one_waits : (slot : ℕ) (first : LimitedRan) → slot < slots → end_of came ≤ slot →
       run_to limits ms ports ranks came slot ≡ Ok first → 0 < waiting first.after.state.lists
   one_waits slot first lt le is =
-      let not_yet = not_before limits ms ports ranks came slot lt in
       let over = limited_test came slot (run_to limits ms ports ranks came slot) first.after in
-      grind (arith, common_steps, over, at_ok, nothing_left first.after.state.lists)
+      grind (arith, common_steps, over, at_ok, nothing_left first.after.state.lists, not_before limits)
 
   late : (slot : ℕ) → slots ≡ slot + 1 → end_of came ≤ slot → slot + 1 ≤ slots_of (departures_of 0 ran.gone)
   late slot e le =
@@ -59,15 +58,13 @@ module _ (limits : List (Option ℕ)) (ms : List Machine) (ports : ℕ) (ranks :
       let parts = ap length cut.gone ∙ length-append cut.first.gone cut.second.gone in
       let here = one_of_waiting ms slot (admitted_in cut.second.admissions) cut.first.after.state (state_ran cut.second)
       (omega arith) (one_waits slot cut.first (omega arith) le cut.ran_first) (search (arith, rules, is_run_of)) in
-      let both = slots_of-append (departures_of 0 cut.first.gone) (departures_of slot cut.second.gone) in
-      search (arith, rules, departures_append)
+      search (arith, rules, departures_append, slots_of-append (departures_of 0 cut.first.gone))
 
   pub limited_slots : slots ≡ max (end_of came) (slots_of (departures_of 0 ran.gone))
   limited_slots =
       let come = (limited_over_at_end limits ms ports ranks came ran it_is).0 in
       let long = gone_long limits ms 0 (first_slots came slots) _ ran it_is ∙ arriving_length came 0 slots in
-      let within = slots_within 0 ran.gone in
-      search (arith, rules, late (slots - 1), cases_lt)
+      search (arith, rules, late (slots - 1), cases_lt, slots_within 0)
 
 -- ## The switch without limits
 

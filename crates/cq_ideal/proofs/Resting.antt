@@ -102,10 +102,8 @@ module _ {M : List ℕ → Machine} {first_fixed first_states : List (List ℕ)}
       let ports = length first_fixed in
       let idle = idled ms ports first_states in
       let is = resting_last end in
-      let many = length-idle ms ports first_states in
-      let longer = length-idle ms ports idle in
-      let twice = ext_get_or [] (idled ms ports idle) idle longer (λ j within.
-      search (arith, rules, get_or-map M first_fixed j [] (first_come []), idle_at ms ports)) in
+      let twice = ext_get_or [] (idled ms ports idle) idle (length-idle ms ports idle) (λ j within.
+      search (arith, rules, length-idle, get_or-map M first_fixed j [] (first_come []), idle_at ms ports)) in
       cc
 
 -- ## The switch
@@ -121,5 +119,4 @@ pub rested : (M : List ℕ → Machine) (ranks new : RanksView) (queues : Queues
 rested M ranks new queues switch to fixed state fit empty later states again =
     let ms = map M switch.fixed in
     let ports = length switch.fixed in
-    let still = rested_run ms ports (to - switch.next) switch.next switch.state.ranks new.states in
-    grind (arith, common_steps, all_empty switch.state ports empty, still)
+    grind (arith, common_steps, all_empty switch.state ports empty, rested_run ms)

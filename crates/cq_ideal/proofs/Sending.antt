@@ -77,10 +77,8 @@ module _ {M : List ℕ → Machine} {slot : ℕ} {first_ranks : RanksView} {firs
       let dropped = length-map old (λ (xs : List Queued). drop 1 xs) in
       let here : list_at queues.lists output ≡ list_at old output =
       cc (so_far.lists, at_place (rests old) old output [] dropped inside) in
-      let front : gone ≡ get_or (fronts old) output none =
-      cc (get_or-map (λ (xs : List Queued). slice_get xs 0) old output [] none inside) in
-      let rest : drop 1 (list_at queues.lists output) ≡ get_or (rests old) output [] =
-      cc (get_or-map (λ (xs : List Queued). drop 1 xs) old output [] [] inside) in
+      let front = get_or-map (λ (xs : List Queued). slice_get xs 0) old output [] none inside in
+      let rest = get_or-map (λ (xs : List Queued). drop 1 xs) old output [] [] inside in
       let later = departures_from slot (output + 1) (drop (output + 1) (fronts old)) in
       let both : one_sent slot output gone ++ later ≡ departures_from slot output (drop output (fronts old)) =
       grind (arith, common_steps) in

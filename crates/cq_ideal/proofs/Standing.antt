@@ -60,8 +60,7 @@ module _ (i : ℕ) where
   refused_are limits marks [] admissions judged at = grind (arith, common_steps)
   refused_are limits marks (cells ∷ traffic) [] judged at = absurd judged
   refused_are limits marks (cells ∷ traffic) (a ∷ admissions) judged at =
-      let here = where_up (mark_at a.marks i) (arrival_at cells i) in
       let both = filter-append (λ cell. cell.id.input == i) a.refused (refused_in admissions) in
       let first = ap of_input (its_marks limits marks cells a judged.0).2
       ∙ refused_at_place 0 i a.marks cells at.0 (omega arith) in
-      search (arith, rules, listed, refused_here, refused_are limits a.marks traffic admissions judged.1 at.1)
+      search (arith, rules, listed, refused_here, refused_are limits a.marks traffic admissions judged.1 at.1, where_up)

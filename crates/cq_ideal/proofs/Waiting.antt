@@ -56,10 +56,9 @@ total_put [] f a n = omega arith
 total_put (None ∷ came) f a n = total_put came f a n
 total_put (Some q ∷ came) f a n =
     let g = λ (j : ℕ). cond (is_for j q) (put q (f j)) (f j) in
-    let rest = total_put came g a n in
     let more = total_more (λ j. length (g j)) (λ j. length (f j)) q.cell.output 1 a n
     (λ t ne. grind (arith, common_steps)) (grind (arith, common_steps, length_put)) in
-    omega arith
+    omega (arith, total_put came g)
 
 pub filled_none : (lists : List (List Queued)) → filled [] lists ≡ lists
 unfolding filled
@@ -170,12 +169,11 @@ counted_sent : (ms : List Machine) (slot : ℕ) (cells : List (Option Cell)) (ol
     map cell_here r.came ≡ cells → Counted slot cells old (sent_by ms old r)
 unfolding departures_in
 counted_sent ms slot cells old r same =
-    let lists = filled r.came old.lists in
-    let long = length-filled r.came old.lists in
     let full = waiting-filled r.came old.lists in
-    let sent = sent_of_waiting slot 0 lists in
+    let sent = sent_of_waiting slot 0 (filled r.came old.lists) in
     let left = left_of cells old r same in
-    search (arith, rules, length-map, left, filled_long r.came old.lists, count_to-cells, one_of_all lists)
+    let long = filled_long r.came old.lists in
+    search (arith, rules, length-filled, length-map, left, long, count_to-cells, one_of_all (filled r.came old.lists))
 
 pub sends_ok : (P : Sent → Type 0) (ms : List Machine) (old : IdealState) (x : Result Ranking TagFault) (sent : Sent)
     → ideal_sends ms old x ≡ Ok sent → ((r : Ranking) → x ≡ Ok r → P (sent_by ms old r)) → P sent

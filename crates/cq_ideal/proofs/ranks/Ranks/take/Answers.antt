@@ -15,12 +15,13 @@ inputs-preserved g c =
     let inv = c.inputs.invariant in
     let places = c.admitted.ensures.places in
     elim c.match-admitted.branch [
-      | in-None w ↦ rw (w.self-is, w.came-is, w.put.ensures) (in_turn_next inv c.inputs.self None None places
-          (omega arith) (omega arith) (sym w.in-None.is ∙ c.admitted.ensures.answer) refl refl (λ rest. refl))
-      | in-Some+in_ok-queued-in-Some w ↦ rw (w.self-is, w.came-is, w.put-in-Some.ensures) (in_turn_next inv
-          w.keyed.new.self (Some w.in-Some.cell) (Some w.in_ok-queued-in-Some.queued) places (omega arith)
-          (omega arith) (sym w.in-Some.is ∙ c.admitted.ensures.answer) w.keyed.ensures.fixed w.keyed.ensures.many
-          w.in_ok-queued-in-Some.ensures.came)
+      | in-None w ↦ rw (w.self-is, w.came-is, w.put.ensures)
+          (search (arith, rules, in_turn_next inv c.inputs.self None None))
+      | in-Some+in_ok-queued-in-Some w ↦ rw (w.self-is, w.came-is, w.put-in-Some.ensures) (search (
+        arith,
+        rules,
+        in_turn_next inv w.keyed.new.self (Some w.in-Some.cell) (Some w.in_ok-queued-in-Some.queued),
+      ))
     ]
 
 pub returns-in_err-queued-in-Some-clause-fault : goal.returns-in_err-queued-in-Some-clause-fault
