@@ -26,8 +26,7 @@ module _ (limits : List (Option ℕ)) (ms : List Machine) where
       LimitedFabricRun IsInputBest limits ms 0 traffic (empty_limited_fabric ports ranks) rs g →
       LimitedRunsAlike limits ms 0 traffic (empty_limited ports ranks) rs g
   runs_from_empty ports class_count ranks traffic rs g come run =
-      let start = begin limits ms class_count ports ranks traffic come in
-      best_act_alike.run 0 class_count traffic _ g _ rs start.agrees start.come run
+      search (arith, rules, best_act_alike.run, begin limits ms class_count ports ranks traffic come)
 
   pub best_act_alike_from_empty : ActAlikeFromEmpty IsInputBest limits ms
   best_act_alike_from_empty =

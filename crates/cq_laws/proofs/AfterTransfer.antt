@@ -50,8 +50,7 @@ module _ (old new : Fabric) (m : Partners) (fabric : IsFabric old) (order : List
   same_or_got : (j : ℕ) → (buffer new j ≡ buffer old j) ⊎ ((i : ℕ) × (c : Queued) × (partner_of m i ≡ Some j) ×
       (first_for j (input old i) ≡ Some c) × (buffer new j ≡ put c (buffer old j)))
   same_or_got j = ⊎_elim (λ r. let f = ((are.outputs r.0).offered j).0 (stable.matching.offered r.0 j r.1) in
-      inr (r.0, f.0, r.1, f.1, moves.moves.given r.0 j f.0 r.1 f.1)) (λ none. inl (moves.moves.kept j none))
-      (sender m j)
+      inr (r.0, f.0, r.1, f.1, moves.moves.given r.0 j f.0 r.1 f.1)) (search (arith, rules)) (sender m j)
 
   -- ## Slacks
 
@@ -62,10 +61,9 @@ module _ (old new : Fabric) (m : Partners) (fabric : IsFabric old) (order : List
       let j = c.cell.output in
       let d = ((are.outputs better.0).offered j).0 (stable.matching.offered better.0 j better.1) in
       let is = moves.moves.given better.0 j d.0 better.1 d.1 in
-      let among = has_there (input old i) s c at in
-      let f = first_of (is_for j) (input old i) c among (eq-eqb j j refl) in
-      let before = (are.inputs j (fabric.outputs i c among)).by_key better.0 i d.0 f.0 better.2 d.1 f.1 in
-      search (arith, rules, first_least j (input old i) s c f.0 (order i) at, key_laws.on, cushion_grows_by_one)
+      let f = first_of (is_for j) (input old i) c (has_there (input old i) s c at) (eq-eqb j j refl) in
+      let before = (are.inputs j (fabric.outputs i c (has_there (input old i) s c at))).by_key better.0 i d.0 f.0 in
+      search (arith, rules, before, first_least j (input old i) s c f.0 (order i) at, key_laws.on, cushion_grows_by_one)
 
   pub matching_rises : EachRises 1 old new
   matching_rises i t c at =
@@ -117,11 +115,8 @@ module _ (old new : Fabric) (m : Partners) (fabric : IsFabric old) (order : List
   moved_apart : Apart new
   moved_apart =
       let stood = was_waiting moves.moves in
-      record {
-        waiting = λ i k c d a b. apart.waiting i k c d (stood i c a) (stood k d b);
-        between = search (arith, rules, apart.between, stood, moved_waits, from_buffer);
-        crossed = λ j l c d a b. same_cell old apart j l c d (has_before j c (inr a)) (has_before l d (inr b));
-      }
+      let had = λ (j : ℕ) (c : Queued) (a : IsAmong c (buffer new j)). has_before j c (inr a) in
+      search (arith, rules, apart.waiting, apart.between, stood, moved_waits, from_buffer, same_cell old apart, had)
 
   pub moved_fabric : IsFabric new
   moved_fabric =

@@ -58,8 +58,7 @@ module _ (ms : List Machine) (ports class_count : ℕ) (ranks : List (List ℕ))
 pub sent_slots : (slot j : ℕ) (gone : List (Option Queued)) →
     slots_of (departures_from slot j gone) ≡ cond (list_any is_some gone) (slot + 1) 0
 sent_slots slot j [] = refl
-sent_slots slot j (None ∷ gone) = sent_slots slot (j + 1) gone
-sent_slots slot j (Some q ∷ gone) = grind (arith, common_steps, cases_Bool, sent_slots slot (j + 1) gone)
+sent_slots slot j (o ∷ gone) = grind (arith, common_steps, cases_Bool, sent_slots slot (j + 1) gone)
 
 slots_add : (MayChoose : Orders → Partners → Type 0) (ms : List Machine) (slot : ℕ)
     (traffic : List (List (Option Cell))) (f g : Fabric) (rs : List SlotRecord) →

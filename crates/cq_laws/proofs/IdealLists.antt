@@ -14,9 +14,7 @@ among_put_all j (Some q ∷ came) xs c h = ⊎_elim (λ k. search (arith, rules,
 pub put_all_keeps : (j : ℕ) (came : List (Option Queued)) (xs : List Queued) (c : Queued) → IsAmong c xs →
     IsAmong c (put_all j came xs)
 put_all_keeps j [] xs c h = h
-put_all_keeps j (None ∷ came) xs c h = put_all_keeps j came xs c h
-put_all_keeps j (Some q ∷ came) xs c h =
-    grind (arith, common_steps, put_old, put_all_keeps j came (cond (is_for j q) (put q xs) xs) c)
+put_all_keeps j (q ∷ came) xs c h = search (arith, rules, put_old, cond_both, put_all_keeps j came)
 
 pub put_all_new : (j : ℕ) (came : List (Option Queued)) (xs : List Queued) (c : Queued) (k : ℕ) →
     came_to came k ≡ Some c → c.cell.output ≡ j → IsAmong c (put_all j came xs)
@@ -45,9 +43,7 @@ rising_put_all j (Some q ∷ came) xs r new once = rising_put_all j came (cond (
 put_all_none : (j : ℕ) (came : List (Option Queued)) (xs : List Queued) →
     ((k : ℕ) (q : Queued) → came_to came k ≡ Some q → q.cell.output ≢ j) → put_all j came xs ≡ xs
 put_all_none j [] xs none = refl
-put_all_none j (None ∷ came) xs none = put_all_none j came xs (λ k. none (suc k))
-put_all_none j (Some q ∷ came) xs none =
-    rw (ne_eqb q.cell.output j (none zero q refl)) (put_all_none j came xs (λ k. none (suc k)))
+put_all_none j (q ∷ came) xs none = search (arith, rules, ne_eqb, none zero, put_all_none j came xs (λ k. none (suc k)))
 
 pub list_after : (came : List (Option Queued)) (lists : List (List Queued)) →
     ((k : ℕ) (q : Queued) → came_to came k ≡ Some q → q.cell.output < length lists) → (j : ℕ) →

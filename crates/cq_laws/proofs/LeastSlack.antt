@@ -53,8 +53,7 @@ listed_slack : (f : Fabric) (i v : ℕ) → Has (slacks f i) v →
 unfolding slacks
 listed_slack f i v h =
     let r = stands_at (slacks f i) v h in
-    let row = at_row (λ k (d : Queued). cushion_of f d - k) 0 (input f i) r.0 r.0 (omega arith) in
-    grind (arith, common_steps, row)
+    grind (arith, common_steps, at_row (λ k (d : Queued). cushion_of f d - k) 0 (input f i) r.0 r.0)
 
 -- ## Where a cell stands that has arrived
 

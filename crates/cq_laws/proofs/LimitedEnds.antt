@@ -18,8 +18,7 @@ module _ (limits : List (Option ℕ)) (ms : List Machine) (ports class_count : �
 
   beside : (n : ℕ) (rs : List LimitedRecord) (f : Marked Fabric) → Fit n →
       LimitedFabricRun IsStable limits ms 0 (first_slots came n) (empty_limited_fabric ports ranks) rs f → Beside n rs f
-  beside n rs f fit run = same_limited_run limits ms class_count 0 (first_slots came n) _ f _ rs
-      (begin limits ms class_count ports ranks (first_slots came n) fit) run
+  beside n rs f fit run = search (arith, rules, same_limited_run limits ms class_count, begin limits ms class_count)
 
   -- the fabric is over after m slots where the ideal switch is
   over_too : (m : ℕ) (rs : List LimitedRecord) (f : Marked Fabric) (s : Marked IdealState) → Beside m rs f →

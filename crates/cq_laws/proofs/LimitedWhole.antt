@@ -65,9 +65,8 @@ module _ (limits : List (Option ℕ)) (ms : List Machine) (class_count : ℕ) wh
   stop_through slot (cells ∷ traffic) f ideal [] fault s run = cc (same_admission limits slot cells f ideal s.agrees)
   stop_through slot (cells ∷ traffic) f ideal (r ∷ rs) fault s run =
       let one = same_limited_slot limits ms slot class_count cells f run.0 ideal r s.agrees s.come.0 run.1 in
-      subst (λ came. FabricStops IsStable ms slot came f.state (slots_in (r ∷ rs)) fault)
-      (sym (admitted_step limits ms slot cells traffic ideal _ one.sent))
-      (search (arith, rules, limited_ports_kept, stop_through (slot + 1) traffic run.0 one.next rs fault))
+      let step = admitted_step limits ms slot cells traffic ideal _ one.sent in
+      search (arith, rules, step, limited_ports_kept, stop_through (slot + 1) traffic run.0 one.next rs fault)
 
 -- ## Each slot is judged, and the empty states agree
 

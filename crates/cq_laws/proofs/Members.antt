@@ -91,17 +91,14 @@ rising_put c xs r ne = put_rises c xs r (all_from_has _ xs (λ d h e. ne d h (sy
 
 -- what stands in a list after an insertion: the new cell no later than its place, each other no more than one place
 -- later
-pub record Inserted (n : Queued) (p : ℕ) (xs : List Queued) (t : ℕ) (c : Queued) : Type 0 where
-  pub was : ((t ≤ p) × (n ≡ c)) ⊎ ((s : ℕ) × (slice_get xs s ≡ Some c) × (t ≤ suc s))
-
 pub inserted_at : (xs : List Queued) (p t : ℕ) (n c : Queued) → slice_get (insert xs p n) t ≡ Some c →
-    Inserted n p xs t c
-inserted_at xs zero (suc t) n c h = record { was = inr (t, h, omega arith) }
+    ((t ≤ p) × (n ≡ c)) ⊎ ((s : ℕ) × (slice_get xs s ≡ Some c) × (t ≤ suc s))
+inserted_at xs zero (suc t) n c h = inr (t, h, omega arith)
 inserted_at [] (suc p) (suc t) n c h = cc
-inserted_at (x ∷ xs) (suc p) zero n c h = record { was = inr (zero, h, omega arith) }
-inserted_at (x ∷ xs) (suc p) (suc t) n c h = ⊎_elim (λ k. record { was = inl (omega arith, k.1) })
-    (λ k. record { was = inr (suc k.0, k.1, omega arith) }) (inserted_at xs p t n c h).was
-inserted_at xs p t n c h = record { was = inl (omega arith, cc) }
+inserted_at (x ∷ xs) (suc p) zero n c h = inr (zero, h, omega arith)
+inserted_at (x ∷ xs) (suc p) (suc t) n c h =
+    ⊎_elim (λ k. inl (omega arith, k.1)) (λ k. inr (suc k.0, k.1, omega arith)) (inserted_at xs p t n c h)
+inserted_at xs p t n c h = inl (omega arith, cc)
 
 pub insert_new : (xs : List Queued) (p : ℕ) (n : Queued) → IsAmong n (insert xs p n)
 insert_new xs p n = has_right (take p xs) (n ∷ drop p xs) n (inl refl)

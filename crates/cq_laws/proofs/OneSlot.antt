@@ -161,12 +161,9 @@ module _ (ms : List Machine) (slot class_count : ℕ) (cells : List (Option Cell
       let sent = first.slack 0 slack_arrived in
       let slack = second.slack 0 (sent_slack ms r.gone (slot + 1) r.filled r.sent step.depart 0 sent) in
       let ports = length_rests lists ∙ as_many ∙ sym ports_kept in
-      record {
-        next = after;
-        sent = grind (arith, common_steps, after, same_gone);
-        agrees =
-            search (arith, rules, same_gone, rest_of, rising_rest, full_rises, after_same, differ_from, all_before);
-      }
+      let agree : Agrees (slot + 1) f' after =
+      search (arith, rules, same_gone, rest_of, rising_rest, full_rises, after_same, differ_from, all_before) in
+      search (arith, rules, after, same_gone)
 
 -- ## Each phase keeps a fabric, and that each output has one rank state
 
@@ -193,7 +190,5 @@ slot_keeps ms slot class_count cells f g ideal r agrees ranks come step =
     let begun : IsWholeFabric f = record { fabric = agrees.fabric; ranks = ranks } in
     let came = arrivals_keep ms slot class_count cells r.came f r.arrived begun come step.arrive in
     let sound = arrived ms slot class_count cells f g ideal r agrees come step in
-    let filled = transfer_keeps r.first r.arrived r.filled came sound.order sound.apart step.first_chosen step.fill in
-    let sent = departures_keep ms r.gone r.filled r.sent filled step.depart in
     let sound' = after_sent ms slot class_count cells f g ideal r agrees come step in
-    search (arith, rules, arrived, transfer_keeps)
+    search (arith, rules, departures_keep, transfer_keeps, transfer_keeps r.first r.arrived)

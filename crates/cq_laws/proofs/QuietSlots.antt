@@ -75,10 +75,9 @@ pub quiet_figures : (ms : List Machine) (slot n : ℕ) (ranks : List (List ℕ))
 unfolding figures_after quiet_slot proposals_in
 quiet_figures ms slot n ranks x =
     let r = quiet_slot ms slot n ranks in
-    let inputs = same_by_place (input_after r) (same_input ms slot n ranks) 0 x.inputs in
     let outputs = same_by_place (output_after r) (same_output ms slot n ranks) 0 x.outputs in
     let none = list_any_none is_some _ (All-replicate (λ (o : Option Queued). is_some o ≡ false) n None refl) in
-    grind (arith, common_steps, none, none_proposed n)
+    grind (arith, common_steps, none, none_proposed n, same_by_place (input_after r) (same_input ms slot n ranks) 0)
 
 -- ## A fabric in which no cell waits
 

@@ -25,25 +25,14 @@ pub record Sound (slot : ℕ) (f : Fabric) : Type 0 where
 
 pub apart_from : (f : Fabric) → NoKeyTwice f → Apart f
 apart_from f differ =
-    record {
-      waiting = λ i k c d a b e. let p = stands_at (input f i) c a in
-          let q = stands_at (input f k) d b in
-          let same = differ (Waiting i p.0) (Waiting k q.0) c d p.1 q.1 e in (cc, cc);
-      between = λ i j c d a b e.
-          let p = stands_at (input f i) c a in
-          let q = stands_at (buffer f j) d b in cc (differ (Waiting i p.0) (Crossed j q.0) c d p.1 q.1 e);
-      crossed = λ j l c d a b e.
-          let p = stands_at (buffer f j) c a in
-          let q = stands_at (buffer f l) d b in
-          let same = differ (Crossed j p.0) (Crossed l q.0) c d p.1 q.1 e in cc;
-    }
+    let waits = λ (i s k t : ℕ). differ (Waiting i s) (Waiting k t) in
+    let mixed = λ (i s j t : ℕ). differ (Waiting i s) (Crossed j t) in
+    let crossed = λ (j s l t : ℕ). differ (Crossed j s) (Crossed l t) in
+    search (arith, rules, stands_at, waits, mixed, crossed)
 
 pub early_from : (slot : ℕ) (f : Fabric) → AllBefore slot f → Early slot f
 early_from slot f before =
-    record {
-      waiting = λ i c h. let r = stands_at (input f i) c h in before (Waiting i r.0) c r.1;
-      crossed = λ j c h. let r = stands_at (buffer f j) c h in before (Crossed j r.0) c r.1;
-    }
+    search (rules, stands_at, λ (i t : ℕ). before (Waiting i t), λ (j t : ℕ). before (Crossed j t))
 
 -- a key is of one cell, wherever it stands
 pub same_cell : (f : Fabric) → Apart f → (j l : ℕ) (c d : Queued) → HasFor f j c → HasFor f l d → c.key ≡ d.key → c ≡ d
@@ -88,8 +77,7 @@ all_before slot f early (Crossed j t) c at = early.crossed j c (has_there (buffe
 -- ## The offers of such a state are those of its first cells
 
 pub firsts_differ : (f : Fabric) → Apart f → FirstKeysDiffer f.inputs
-firsts_differ f apart j i k c d a b e =
-    (apart.waiting i k c d (from_first j (input f i) c a).0 (from_first j (input f k) d b).0 e).0
+firsts_differ f apart j i k c d a b e = search (arith, rules, apart.waiting i k c d, from_first)
 
 pub orders_are : (f : Fabric) → Apart f → AreOrdersOf f.inputs (orders_of f.inputs)
 orders_are f apart = are_orders f.inputs (firsts_differ f apart)

@@ -41,8 +41,7 @@ module _ (ms : List Machine) (class_count : ℕ) where
 -- ## States that agree are empty together
 
 none_among : (xs : List Queued) (c : Queued) → xs ≡ [] → IsAmong c xs → ⊥
-none_among [] c e h = h
-none_among (x ∷ xs) c e h = cc
+none_among xs c e h = rw e at h
 
 -- in lists that are all empty there is no cell, and lists without one are all empty
 none_in : (lists : List (List Queued)) → All (λ cells. cells ≡ []) lists → (i : ℕ) (c : Queued) →
@@ -56,12 +55,12 @@ all_empty lists none i d inside = get_or_default lists i d [] inside ∙ none_ha
 pub empty_together : (slot : ℕ) (f : Fabric) (ideal : IdealState) → Agrees slot f ideal →
     IsEmptyFabric f ↔ IsEmptyIdeal ideal
 empty_together slot f ideal agrees = (
-  λ empty. all_empty ideal.lists (λ j c h. ⊎_elim (λ w. none_in f.inputs empty.inputs w.0 c w.1)
-      (λ b. none_in f.buffers empty.buffers j c b) ((agrees.same j c).0 h)),
+  λ empty. all_empty ideal.lists (λ j c h.
+      search (arith, rules, none_in f.inputs, none_in f.buffers, (agrees.same j c).0 h)),
   λ empty. record {
     inputs = all_empty f.inputs (λ i c h.
         none_in ideal.lists empty c.cell.output c ((agrees.same c.cell.output c).1 (inl (i, h, refl))));
-    buffers = all_empty f.buffers (λ j c h. none_in ideal.lists empty j c ((agrees.same j c).1 (inr h)));
+    buffers = search (arith, rules, all_empty, none_in, agrees.same);
   },
 )
 
