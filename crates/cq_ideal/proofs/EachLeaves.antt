@@ -102,7 +102,5 @@ refuses_none_elsewhere limits ms ports openings came ran j runs keep packets is 
     let its = kept_has others (came_at i came) cell (search (arith, rules, has_kept, eq-eqb)) in
     elim (first_of 0 (came_at i came) cell of_packets its.0) [
       | inl e ↦ absurd (omega arith)
-      | inr f ↦
-          let also = has_kept others (came_at i came) f.0 f.1 (ap (λ n. not (whole.is_taken n)) f.2 ∙ its.1) in
-          search (arith, rules, kept_has, all_of_has, one_output)
+      | inr f ↦ search (arith, rules, has_kept others (came_at i came) f.0, kept_has, all_of_has, one_output)
     ]))))

@@ -46,8 +46,7 @@ module _ (limits : List (Option ℕ)) (ms : List Machine) (ports : ℕ) (ranks :
   one_waits : (slot : ℕ) (first : LimitedRan) → slot < slots → end_of came ≤ slot →
       run_to limits ms ports ranks came slot ≡ Ok first → 0 < waiting first.after.state.lists
   one_waits slot first lt le is =
-      let over = limited_test came slot (run_to limits ms ports ranks came slot) first.after in
-      grind (arith, common_steps, over, at_ok, nothing_left first.after.state.lists, not_before limits)
+      grind (arith, common_steps, at_ok, nothing_left first.after.state.lists, not_before limits, limited_test came)
 
   late : (slot : ℕ) → slots ≡ slot + 1 → end_of came ≤ slot → slot + 1 ≤ slots_of (departures_of 0 ran.gone)
   late slot e le =
@@ -93,6 +92,5 @@ pub last_departs : (ms : List Machine) (ports : ℕ) (ranks : List (List ℕ)) (
 unfolding whole_ideal_run
 last_departs ms ports ranks came all ran whole =
     let nil : List Queued = [] in
-    let same = slots_as_before [] ms ports ranks came no_limit in
     let slots = limited_slots [] ms ports ranks came _ (whole_as ms ports ranks came ran whole) in
-    search (arith, rules, length-replicate ports nil, departs_at_end ms ports)
+    search (arith, rules, length-replicate ports nil, departs_at_end ms ports, slots_as_before [] ms)

@@ -59,9 +59,7 @@ module _ (limits : List (Option ℕ)) (ms : List Machine) where
       let ports = length s.state.lists in
       let idle = idle_run ms ports n slot s.state.ranks in
       let state = all_empty s.state ports (nothing_left s.state.lists none) refl in
-      record {
-        ran = nothing_came n ports (marked s.marks (empty_ideal ports idle.0));
-        is = search (arith, rules, quiet_from, rest_refuses_none limits ms n slot ports s.marks s.state, idle);
-        none = none_departs ports n slot;
-        refused = refuse_none s.marks n;
-      }
+      let is : limited_run limits ms slot (arriving_from came slot n) s
+      ≡ Ok (nothing_came n ports (marked s.marks (empty_ideal ports idle.0))) =
+      search (arith, rules, quiet_from, rest_refuses_none limits ms n slot ports s.marks s.state, idle) in
+      search (arith, rules, none_departs, refuse_none)

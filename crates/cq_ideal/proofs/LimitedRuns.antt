@@ -105,8 +105,7 @@ module _ (limits : List (Option ℕ)) (ms : List Machine) where
 
   pub none_refused_in : (ports : ℕ) (traffic : List (List (Option Cell))) → NoLimits limits →
       AllByRecursion (RefusesNone limits (marks_down ports)) traffic
-  none_refused_in ports traffic none =
-      all_from_has _ traffic (λ cells _. no_limits_refuse_none limits ports cells none)
+  none_refused_in ports traffic none = search (arith, rules, all_from_has, no_limits_refuse_none)
 
 -- ## Slots without arrivals
 

@@ -28,8 +28,7 @@ no_earlier i a came t later l = grind (arith, common_steps, found_none came t i,
 
 later_on : (i : ℕ) (a : Arrival) (came : List Arrival) → RiseByInput (a ∷ came) → a.cell.id.input ≡ i →
     AllByRecursion (λ b. b.cell.id.input ≡ i → a.slot < b.slot) came
-later_on i a came rise same = all_by (λ b. b.cell.id.input ≡ i → a.slot < b.slot) came (λ t b at e.
-    rise zero (suc t) a b refl at (omega arith) (same ∙ sym e))
+later_on i a came rise same = let later = λ (t : ℕ). rise zero (suc t) a in search (arith, rules, all_by, later)
 
 -- of the line of an input, what is found in a slot stands in front of what is later
 found_first : (i t : ℕ) (came : List Arrival) → RiseByInput came →

@@ -17,11 +17,8 @@ inputs-preserved g c =
     elim c.match-admitted.branch [
       | in-None w ↦ rw (w.self-is, w.came-is, w.put.ensures)
           (search (arith, rules, in_turn_next inv c.inputs.self None None))
-      | in-Some+in_ok-queued-in-Some w ↦ rw (w.self-is, w.came-is, w.put-in-Some.ensures) (search (
-        arith,
-        rules,
-        in_turn_next inv w.keyed.new.self (Some w.in-Some.cell) (Some w.in_ok-queued-in-Some.queued),
-      ))
+      | in-Some+in_ok-queued-in-Some w ↦ rw (w.self-is, w.came-is, w.put-in-Some.ensures)
+          (search (arith, rules, in_turn_next inv w.keyed.new.self (Some w.in-Some.cell)))
     ]
 
 pub returns-in_err-queued-in-Some-clause-fault : goal.returns-in_err-queued-in-Some-clause-fault
