@@ -65,11 +65,8 @@ at_end new old j same end = cc (drop_all j old end, append-nil (take j new), tak
 
 pub none_used : (used : ℕ) (places : List (Option Queued)) → places ≡ replicate most_ports None → AreUsed used places
 none_used used places nobody =
-    let none = None in
-    subst (AreUsed used) (sym nobody) (record {
-      long = length-replicate most_ports none;
-      beyond = λ k _. same_at none most_ports k;
-    })
+    let none : Option Queued = None in
+    rw nobody (record { long = length-replicate most_ports none; beyond = λ k _. same_at none most_ports k })
 
 -- ## The lists of the outputs
 

@@ -3,7 +3,7 @@
 -- is sent. So after the last slot with an arrival no more cells wait than came in all, and each later slot takes one
 -- of them. Slots that are enough are enough with limits: no more cells are admitted in a slot than come, and there are
 -- as many slots.
-use Rattle.cq_ideal.proofs.Terms.{◌≡◌, ℕ, zero, suc, ◌≤◌, Bool, List, [], ◌∷◌, length, drop, Option, refl, ap, arith, ◌+◌, replicate, Result, Ok, common_steps, IfOk, Cell, Arrival, traffic_of, arriving, enough, Machine, Admission, admitted, admitted_in, empty_limited, limited_run, AreJudged, TagFault, no_arrivals, IdealState, IsEmptyIdeal, Ran, ideal_run, empty_ideal, most_ports, rules, All-replicate, Queued}
+use Rattle.cq_ideal.proofs.Terms.{◌≡◌, ℕ, zero, suc, ◌≤◌, Bool, List, [], ◌∷◌, length, drop, Option, refl, ap, arith, ◌+◌, replicate, Result, Ok, common_steps, IfOk, Cell, Arrival, traffic_of, arriving, enough, Machine, Admission, admitted, admitted_in, empty_limited, limited_run, AreJudged, TagFault, no_arrivals, IdealState, IsEmptyIdeal, Ran, ideal_run, empty_ideal, most_ports, rules, All-replicate}
 use Rattle.cq_ideal.proofs.Admitted.{its_marks}
 use Rattle.cq_ideal.proofs.Ends.{none_waits, nothing_left}
 use Rattle.cq_ideal.proofs.FlowCount.{come_count-traffic_of, length-traffic_of, quiet_at_end}

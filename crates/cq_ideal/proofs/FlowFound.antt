@@ -1,7 +1,7 @@
 -- What arrives in a slot at an input. It is the first arrival in the list that is of this slot and at this input, so
 -- an arrival of another slot or input hides nothing, and what holds of all that are of this slot and at this input
 -- holds of what is found. The cells that arrive in a slot are those that are found at its inputs.
-use Rattle.cq_ideal.proofs.Terms.{common_steps, ◌≡◌, ℕ, zero, suc, ◌+◌, false, List, [], ◌∷◌, ◌++◌, length, map, Option, Some, None, refl, arith, ◌==◌, find, AllByRecursion, cons_option, range_with_len, cases_eq, eq-eqb, ne_eqb, and_from, and_left, and_right, cond-true, cond-false, length-map-range_with_len, Cell, Arrival, is_at, arriving_at, arriving, most_ports, none_had, all_of_has}
+use Rattle.cq_ideal.proofs.Terms.{common_steps, ◌≡◌, ℕ, zero, suc, ◌+◌, false, List, [], ◌∷◌, ◌++◌, length, map, Option, Some, None, arith, ◌==◌, find, AllByRecursion, cons_option, range_with_len, eq-eqb, ne_eqb, and_from, and_left, and_right, cond-true, cond-false, length-map-range_with_len, Cell, Arrival, is_at, arriving_at, arriving, most_ports, none_had, all_of_has}
 use Rattle.cq_ideal.proofs.FlowRank.{present}
 
 -- the cell, as a list

@@ -8,7 +8,7 @@ use Rattle.cq_ideal.proofs.FlowLaw.{empty_at, all_came, classes, left_as_came, n
 use Rattle.cq_ideal.proofs.AtInput.{comes_at_input}
 use Rattle.cq_ideal.proofs.FlowRank.{AreOfClasses, present}
 use Rattle.cq_ideal.proofs.FlowRun.{flow_came, passed}
-use Rattle.cq_ideal.proofs.FlowStands.{Stands, is_of_flow, of_flow, shown}
+use Rattle.cq_ideal.proofs.FlowStands.{Stands, of_flow, shown}
 use Rattle.cq_ideal.proofs.LimitedRuns.{is_run_of, judged}
 use Rattle.cq_ideal.proofs.Packets.{TakenOrRefused, refused_here, taken_or_refused}
 use Rattle.cq_ideal.proofs.Standing.{StandAt, still_stand, all_stand, of_input, refused_are}

@@ -6,7 +6,7 @@ use Rattle.cq_ideal.proofs.Terms.{common_steps, rules, ◌≡◌, ℕ, zero, suc
 use Rattle.cq_ideal.proofs.Ends.{nothing_left}
 use Rattle.cq_ideal.proofs.FlowRank.{only_ok}
 use Rattle.cq_ideal.proofs.LastSlot.{comes, counted_in, slots_in, slots_of-append, slots_within}
-use Rattle.cq_ideal.proofs.LimitedEnds.{at_ok, cut_at, gone_long, limited_over_at_end, limited_test, no_limit, not_before, run_to, slots_as_before, state_ran, whole_as}
+use Rattle.cq_ideal.proofs.LimitedEnds.{at_ok, cut_at, gone_long, limited_over_at_end, limited_test, not_before, run_to, slots_as_before, state_ran, whole_as}
 use Rattle.cq_ideal.proofs.LimitedRuns.{is_run_of}
 use Rattle.cq_ideal.proofs.Parted.{arriving_here, arriving_length, departures_append, first_slot}
 use Rattle.cq_ideal.proofs.Waiting.{counted, some_waits, waiting}
@@ -28,8 +28,7 @@ one_of_waiting : (ms : List Machine) (slot : ℕ) (traffic : List (List (Option 
     slot + 1 ≤ slots_of (departures_of slot ran.gone)
 unfolding ideal_run
 one_of_waiting ms slot [] s ran one some is = grind (arith, common_steps, only_ok)
-one_of_waiting ms slot (cells ∷ traffic) s ran one some is =
-    let w = some_waits s.lists some in one_departs ms slot w.0 cells traffic s ran is w.1 (omega (arith, w.2))
+one_of_waiting ms slot (cells ∷ traffic) s ran one some is = search (arith, rules, some_waits, one_departs)
 
 -- ## The whole run
 

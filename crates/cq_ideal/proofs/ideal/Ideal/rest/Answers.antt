@@ -1,4 +1,4 @@
-use Rattle.cq_ideal.proofs.Terms.{rules, length-map, ◌-◌, arith, ap, IdealSwitch}
+use Rattle.cq_ideal.proofs.Terms.{rules, length-map, arith, ap, IdealSwitch}
 use Rattle.cq_ideal.proofs.Came.{arrived_later, fit_same}
 use Rattle.cq_ideal.proofs.LimitedRuns.{rest_refuses_none}
 use Rattle.cq_ideal.proofs.Resting.{length-idle, rested}

@@ -1,4 +1,4 @@
-use Rattle.cq_ideal.proofs.Terms.{rules, List, sym, ap, ◌∙◌, arith, Bool, arrival_at, mark_at, refused, where_up, nil_from_length, drop_all}
+use Rattle.cq_ideal.proofs.Terms.{rules, List, sym, ap, ◌∙◌, arith, Bool, arrival_at, mark_at, where_up, nil_from_length, drop_all}
 use Rattle.cq_ideal.proofs.Counting.{counting_none, counting_some, fewer_left, none_counted}
 use Rattle.cq_ideal.proofs.limiter.Limiter.count.Goals as goal
 use Rattle.cq_ideal.proofs.limiter.Limiter.count.Goals.{in-Some, in-None}

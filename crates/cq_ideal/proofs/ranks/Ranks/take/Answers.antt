@@ -1,4 +1,4 @@
-use Rattle.cq_ideal.proofs.Terms.{rules, None, Some, refl, sym, ◌∙◌, arith, err_from_is_err_and}
+use Rattle.cq_ideal.proofs.Terms.{rules, None, Some, sym, ◌∙◌, arith, err_from_is_err_and}
 use Rattle.cq_ideal.proofs.Admitted.{admitted_for_ports}
 use Rattle.cq_ideal.proofs.Came.{in_turn_next, in_turn_fault, in_turn_last}
 use Rattle.cq_ideal.proofs.ranks.Ranks.take.Goals as goal
