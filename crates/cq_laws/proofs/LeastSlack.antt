@@ -2,7 +2,7 @@
 -- slack rises at two matchings, falls by one at most at the departures between them, and by one at most at the next
 -- arrivals. So it never falls, and each cell that waits has more slack than the least so far. After arrivals it has
 -- no less, so that of all slacks then only those of the cells that have arrived can be the least.
-use Rattle.cq_laws.proofs.Terms.{has_there, stands_at, common_steps, rules, ◌≡◌, ℕ, zero, suc, ◌+◌, ◌-◌, ◌<◌, ◌≤◌, ◌⊎◌, Bool, true, false, List, [], ◌∷◌, length, map, Option, Some, None, refl, inl, inr, ⊎_elim, arith, ◌==◌, min, fold, insert, slice_get, option_and_then, AllByRecursion, enumerate_from, position_or_len, reduce, option_map, cases_lt, eq-eqb, ne_eqb, length-map, get_or_past, length-enumerate_from, same_Some, slice_get-get_or, Cell, Queued, Figures, place_of_arrival, Machine, AreForPorts, IdealState, IsStable, Fabric, input, cushion_of, came_to, Arrives, EachArrivesOr, EachRises, SlotRecord, FabricSlot, Agrees, InputFigures, first_here, first_later, slacks, either_by, input_after, figures_after, slack_on_arrival, all_from_has, Has, Falls, least_slack, HasMoreSlack}
+use Rattle.cq_laws.proofs.Terms.{has_there, stands_at, common_steps, rules, ◌≡◌, ℕ, zero, suc, ◌+◌, ◌-◌, ◌<◌, ◌≤◌, ◌⊎◌, Bool, true, false, List, [], ◌∷◌, length, map, Option, Some, None, refl, inl, ⊎_elim, arith, ◌==◌, min, fold, insert, slice_get, AllByRecursion, enumerate_from, position_or_len, reduce, option_map, cases_lt, eq-eqb, ne_eqb, length-map, get_or_past, length-enumerate_from, same_Some, slice_get-get_or, Cell, Queued, Figures, place_of_arrival, Machine, AreForPorts, IdealState, IsStable, Fabric, input, cushion_of, came_to, Arrives, EachArrivesOr, EachRises, SlotRecord, FabricSlot, Agrees, InputFigures, first_here, first_later, slacks, either_by, input_after, figures_after, slack_on_arrival, all_from_has, Has, Falls, least_slack, HasMoreSlack}
 use Rattle.std.proofs.lemmas.List.Edits.{get_or-insert_at, length-insert}
 use Rattle.cq_laws.proofs.Falls.{arrivals_fall, departures_fall}
 use Rattle.cq_laws.proofs.Sound.{one_in_order}

@@ -1,6 +1,6 @@
 -- Whole runs, slot by slot from states that agree. The empty states agree, so what holds of agreeing states holds
 -- from the first slot on.
-use Rattle.cq_laws.proofs.Terms.{common_steps, rules, ◌≡◌, ℕ, ◌+◌, ◌↔◌, List, [], ◌∷◌, length, Option, Some, Err, refl, ap, ◌∙◌, inl, inr, arith, ⊎_elim, All, slice_get, replicate, AllByRecursion, length-replicate, get_or_past, get_or_default, cases_lt, Cell, Queued, TagFault, Machine, AreForPorts, IsStable, Fabric, IsAmong, next_slot, empty_fabric, IsEmptyFabric, HasSlack, SlotRecord, FabricRun, FabricStops, IsEmptyIdeal, ideal_run, empty_ideal, list_of, RunsAlike, none_had, IdealState, Agrees}
+use Rattle.cq_laws.proofs.Terms.{common_steps, rules, ◌≡◌, ℕ, ◌+◌, ◌↔◌, List, [], ◌∷◌, length, Option, Some, Err, refl, ap, ◌∙◌, inl, arith, All, slice_get, replicate, AllByRecursion, length-replicate, get_or_past, get_or_default, cases_lt, Cell, Queued, TagFault, Machine, AreForPorts, IsStable, Fabric, IsAmong, next_slot, empty_fabric, IsEmptyFabric, HasSlack, SlotRecord, FabricRun, FabricStops, IsEmptyIdeal, ideal_run, empty_ideal, list_of, RunsAlike, none_had, IdealState, Agrees}
 use Rattle.cq_laws.proofs.OneSlot.{same_fault, same_slot, slack_arrived, ports_kept}
 
 module _ (ms : List Machine) (class_count : ℕ) where
