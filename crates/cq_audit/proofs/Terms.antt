@@ -56,7 +56,7 @@ pub use Rattle.cq_ideal.proofs.{FlowFound.all_found, LimitedParts.limited_parts,
 pub use Rattle.cq_ideal.specs.{IdealRun.empty_ideal, IdealSlot.fronts, Limiter.ComeToPorts, Limiter.LimiterView, Parts.RanksView}
 pub use Rattle.cq_lines.specs.{Lines.ending, Lines.BeginsWith}
 pub use Rattle.cq_lines.proofs.{Spelling.one_number, Walk.ending_ends, Walk.one_ending}
-pub use Rattle.cq_laws.proofs.{Came.came_from, Held.nothing_for, InputBest.stable_limited_run, Joined.all_go_on, KeptParts.transfers_one, LimitedSlots.same_limited_fault, LimitedWhole.begin, LimitedWhole.same_limited_run, Members.first_at, QuietSlots.quiet_transfers, Rises.sender}
+pub use Rattle.cq_laws.proofs.{Came.came_from, Held.nothing_for, InputBest.stable_limited_too, Joined.all_go_on, KeptParts.transfers_one, LimitedSlots.same_limited_fault, LimitedWhole.begin, LimitedWhole.same_limited_run, Members.first_at, QuietSlots.quiet_transfers, Rises.sender}
 pub use Rattle.cq_laws.specs.{Agreement.SendsAlike, Agreement.Agrees, Holding.held_for, LimitedAgreement.LimitedAgrees, LimitedAgreement.LimitedRunsAlike, Quiet.idled}
 pub use Rattle.cq_fabric.specs.Held.{HoldsFabric}
 pub use Rattle.cq_fabric.proofs.{Kept.limited_lists_kept, Kept.limited_outputs_kept, Known.AreRanked, Known.BuffersHaveRoom, Known.HaveArrived, Known.HaveJudged, Known.HaveMoved, Known.HaveSent, Rested.rested_agrees, Rested.rested_limited_run, Rested.still_held}

@@ -1,6 +1,6 @@
 -- A run with input-best matchings is a run with stable ones, for each input-best matching is stable. A whole run is a
 -- whole one too: the records tell which matchings were chosen, so no run of theirs with stable ones is over sooner.
-use Rattle.cq_laws.proofs.Terms.{common_steps, arith, ℕ, List, Option, rules, ◌+◌, [], ◌∷◌, take, Arrival, Cell, TagFault, Machine, Marked, IsStable, IsInputBest, Fabric, IsEmptyFabric, SlotRecord, FabricSlot, IsFault, LimitedRecord, LimitedFabricSlot, LimitedFabricRun, LimitedWholeRun, IsLimitedFault, AreAlso, RunBy, StopBy, WholeBy, AfterBy}
+use Rattle.cq_laws.proofs.Terms.{common_steps, arith, ℕ, List, Option, rules, ◌+◌, [], ◌∷◌, take, Arrival, Cell, TagFault, Machine, Marked, IsStable, IsInputBest, Fabric, IsEmptyFabric, SlotRecord, FabricSlot, IsFault, LimitedRecord, LimitedFabricSlot, IsLimitedFault, AreAlso, RunBy, StopBy, WholeBy, AfterBy}
 use Rattle.cq_laws.proofs.Parted.{ends_with}
 
 -- ## Where each slot of one kind is one of another, so are runs
@@ -60,13 +60,3 @@ module _ (ms : List Machine) where
     pub stable_limited_too : AreAlso (LimitedFabricSlot IsInputBest limits ms) (LimitedFabricSlot IsStable limits ms)
         (IsLimitedFault limits ms) (λ f. IsEmptyFabric f.state)
     stable_limited_too = search (arith, rules, are_also, stable_limited_slot)
-
-    pub stable_limited_run : (slot : ℕ) (traffic : List (List (Option Cell))) (f g : Marked Fabric)
-        (rs : List LimitedRecord) → LimitedFabricRun IsInputBest limits ms slot traffic f rs g →
-        LimitedFabricRun IsStable limits ms slot traffic f rs g
-    stable_limited_run = stable_limited_too.run
-
-pub stable_limited_whole : (limits : List (Option ℕ)) (ms : List Machine) (came : List Arrival)
-    (start g : Marked Fabric) (rs : List LimitedRecord) → LimitedWholeRun IsInputBest limits ms came start rs g →
-    LimitedWholeRun IsStable limits ms came start rs g
-stable_limited_whole limits ms = (stable_limited_too ms limits).whole

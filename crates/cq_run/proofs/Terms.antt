@@ -27,7 +27,7 @@ pub use Rattle.cq_ideal.proofs.LimitedEnds.{limited_not_more, run_as_before, sam
 pub use Rattle.cq_ideal.specs.LimitedEnding.{departures_limited, whole_limited_run}
 pub use Rattle.cq_ideal.specs.LimitedIdeal.{LimitedRan, empty_limited, unlimited}
 pub use Rattle.cq_laws.specs.LimitedFabric.{LimitedRecord, slots_in}
-pub use Rattle.cq_laws.proofs.InputBest.{stable_limited_whole}
+pub use Rattle.cq_laws.proofs.InputBest.{stable_limited_too}
 pub use Rattle.cq_simulate.proofs.FabricLaws.{always_slack, as_many_slots, best_in_each, once_each_slot, sends_as_ideal, slot_by_slot}
 pub use Rattle.cq_simulate.specs.FabricRuns.{IsFabricRun, IsKeptOf, departures_in_run, unpacked_run}
 unfoldable pub use Rattle.cq_simulate.specs.IdealRuns.{ideal_departures, ran_ideal}

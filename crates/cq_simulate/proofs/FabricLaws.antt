@@ -2,7 +2,7 @@
 -- ports and classes in every slot, and the run begins where nothing waits and no mark is up, where the fabric and the
 -- ideal switch agree. Its matchings are the input-best ones, so it is a run with stable matchings too, and sends and
 -- refuses what the ideal switch does.
-use Rattle.cq_laws.proofs.InputBest.{stable_limited_whole}
+use Rattle.cq_laws.proofs.InputBest.{stable_limited_too}
 use Rattle.cq_simulate.proofs.Terms.{common_steps, rules, ◌≡◌, ◌≤◌, List, Ok, refl, arith, All, length, Arrival, IsTraffic, Machine, Marked, NoLimits, admitted_in, first_slots, slots_of, one_limited_whole, recorded, Fabric, empty_fabric, FabricRun, LimitedFabricRun, LimitedRecord, LimitedWholeRun, admissions_in, empty_limited_fabric, slots_in, figures_of, IsInputBest, IsStable, classes_of, ports_of, IsSetup, Tables, machines_of, openings_of, AlwaysHasSlack, AreInputBest, IsFabricRun, IsKeptOf, SendsSlotBySlot, departures_in_run, ideal_departures, ideal_refusals, ran_ideal, slots_ran, slots_of_figures, run_of_whole}
 use Rattle.cq_simulate.proofs.Chosen.{first_chosen}
 use Rattle.cq_simulate.proofs.Departed.{last_departs_without_limits, slots_are}
@@ -41,7 +41,7 @@ module _ (t : Tables) (came : List Arrival) where
       (is : IsFabricRun t came rs) where
     -- with stable matchings it is one too
     stable : LimitedWholeRun IsStable t.limits ms came start rs is.end
-    stable = stable_limited_whole t.limits ms came start is.end rs is.runs
+    stable = (stable_limited_too ms t.limits).whole came start is.end rs is.runs
 
     pub as_many_slots : slots_ran t came ≡ length rs
     as_many_slots = stable_slots t came rs is.end traffic stable

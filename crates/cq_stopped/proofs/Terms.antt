@@ -80,7 +80,7 @@ pub use Rattle.cq_ideal.proofs.EnoughSlots.{waiting-empty}
 pub use Rattle.cq_ideal.proofs.{Ends.nothing_left, FlowCount.come_count-first, FlowLaw.all_in_range, FlowPut.NoLater, FlowPut.in_order_put, Packets.refused_here, Parted.arriving_length, Refusals.counts_more}
 pub use Rattle.cq_ideal.specs.{Limiter.where_up, declared.refused.Refused.Refused}
 pub use Rattle.cq_state.specs.declared.state.Seen.{Seen}
-pub use Rattle.cq_laws.proofs.{AfterTransfer.moved_has, Falls.rest_of, IdealLists.among_put_all, IdealLists.list_after, IdealLists.put_all_keeps, IdealLists.put_all_new, InputBest.stable_slot, InputBest.stable_limited_run, LimitedSlots.admission_for_ports, WholeRuns.empty_together, WholeRuns.empty_list}
+pub use Rattle.cq_laws.proofs.{AfterTransfer.moved_has, Falls.rest_of, IdealLists.among_put_all, IdealLists.list_after, IdealLists.put_all_keeps, IdealLists.put_all_new, InputBest.stable_slot, InputBest.stable_limited_too, LimitedSlots.admission_for_ports, WholeRuns.empty_together, WholeRuns.empty_list}
 pub use Rattle.cq_laws.specs.SlotBySlot.{RunBy}
 pub use Rattle.cq_resume.proofs.{Coming.is_between, Coming.one_comes, Judging.packets_alike, Judging.tally_is, Scheduling.schedule_known, Tallied.whole, Upheld.all_stand, Upheld.tallies_up, Walking.cells_in}
 pub use Rattle.cq_resume.specs.declared.found.Name.{Name}
