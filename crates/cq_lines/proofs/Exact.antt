@@ -1,7 +1,7 @@
 -- Why a text is read in one way. At a place one line at most stands at the front, and it leads to one place. So of
 -- two readings neither parts from the other: they have the same lines as long as both go on, and where one finds no
 -- line that may come, or the end, so does the other.
-use Rattle.cq_lines.proofs.Terms.{rules, arith, ◌≡◌, ◌≢◌, ℕ, List, [], ◌∷◌, ◌++◌, refl, ap, sym, ◌∙◌, append_assoc, common_steps, flat_map, append-nil, Leads, IsExact}
+use Rattle.cq_lines.proofs.Terms.{rules, arith, ◌≡◌, ◌≢◌, ℕ, List, [], ◌∷◌, ◌++◌, refl, sym, ◌∙◌, append_assoc, common_steps, flat_map, append-nil, Leads, IsExact}
 
 -- At a sound place one line at most stands at the front, it leads to one place, which is sound, and it has a letter
 -- at least.
@@ -30,12 +30,9 @@ module _ {P X : Type 0} (spelling : X → List ℕ) (Rule : P → X → P → Ty
 
   pub exact : (start : P) (MayEnd : P → Type 0) → IsSound start → IsExact spelling Rule start MayEnd
   exact start MayEnd sound = record {
-    one_reading = λ xs ys text f g.
-        (same_stop start xs ys f.last g.last [] [] sound f.allowed g.allowed (ap (λ t. t ++ []) (sym f.spelled
-        ∙ g.spelled)) (nothing_left f.last) (nothing_left g.last)).0;
+    one_reading = λ xs ys t f g. grind (arith, common_steps, same_stop start xs ys f.last g.last [] [], nothing_left);
     one_fault = search (arith, rules, same_stop);
     never_both = λ xs text n f g.
-        let same = same_stop start xs g.before f.last g.last [] g.rest sound f.allowed g.allowed in
-        let whole = append-nil (flat_map spelling xs) in
-        search (arith, rules, nothing_left f.last);
+        let same = same_stop start xs g.before f.last g.last [] g.rest sound in
+        grind (arith, common_steps, append-nil, nothing_left, same);
   }

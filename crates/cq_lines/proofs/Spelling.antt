@@ -2,7 +2,7 @@
 -- with the same digits are one. Digits with more digits behind them say a greater number, and 0 stands at the front
 -- of no other digit. So a text that goes on with digits behind those of one number begins with no lesser number, and
 -- with none at all behind a 0.
-use Rattle.cq_lines.proofs.Terms.{rules, ◌≡◌, ℕ, zero, suc, ◌+◌, ◌-◌, ◌*◌, ◌^◌, ◌<◌, ◌≤◌, ◌⊎◌, List, [], ◌∷◌, ◌++◌, map, drop, get_or, Option, None, Some, refl, ap, sym, subst, ◌∙◌, arith, lit≤, append_assoc, IsInRange, digits_of, number_from_digits_after, AllBelowBase, AllByRecursion, append-nil, number_digits_of, all_below_base_digits_of, first_digits_of, decimal, EndsDigits, BeginsWith, all_back, all_both, all_weaker, of_images, map-append, common_steps}
+use Rattle.cq_lines.proofs.Terms.{rules, ◌≡◌, ℕ, zero, suc, ◌+◌, ◌-◌, ◌*◌, ◌^◌, ◌<◌, ◌≤◌, ◌⊎◌, List, [], ◌∷◌, ◌++◌, map, drop, get_or, Option, None, Some, refl, ap, sym, subst, ◌∙◌, arith, lit≤, append_assoc, IsInRange, number_from_digits_after, AllBelowBase, AllByRecursion, append-nil, number_digits_of, all_below_base_digits_of, first_digits_of, decimal, EndsDigits, BeginsWith, all_back, all_both, all_weaker, of_images, map-append, common_steps}
 use Rattle.cq_base.proofs.Decimals.{decimal_small, decimal_above, decimal_more}
 use Rattle.std.proofs.Math.ListN.{get_or-map}
 use Rattle.std.proofs.lemmas.Int.Digits.{number_after_append, number_after_ge}
@@ -33,8 +33,7 @@ values_back (d ∷ ds) = grind (arith, common_steps, values_back ds)
 
 pub said_decimal : (n : ℕ) → said_after 0 (decimal n) ≡ n
 said_decimal zero = ap (said_after 0) (decimal_small 0 (lit≤ tt))
-said_decimal (suc k) = ap (said_after 0) (decimal_above (suc k) (omega arith))
-    ∙ ap (number_from_digits_after 10 0) (values_back (digits_of 10 (suc k))) ∙ number_digits_of 10 (suc k) (lit≤ tt)
+said_decimal (suc k) = grind (arith, common_steps, decimal_above (suc k), values_back, number_digits_of 10 (suc k))
 
 pub decimal_injective : (m n : ℕ) → decimal m ≡ decimal n → m ≡ n
 decimal_injective m n e = sym (said_decimal m) ∙ ap (said_after 0) e ∙ said_decimal n
@@ -43,9 +42,8 @@ decimal_injective m n e = sym (said_decimal m) ∙ ap (said_after 0) e ∙ said_
 
 pub digits_go_on : (a b x y : List ℕ) → AreDigits a → AreDigits b → EndsDigits y → a ++ x ≡ b ++ y →
     (ds : List ℕ) × (b ≡ a ++ ds) × (x ≡ ds ++ y)
-digits_go_on [] b x y p q ends e = (b, refl, e)
-digits_go_on (c ∷ a) [] x y p q ends e = absurd (subst EndsDigits (sym e) ends p.0)
 digits_go_on (c ∷ a) (d ∷ b) x y p q ends e = grind (arith, common_steps, digits_go_on a b x y p.1 q.1 ends)
+digits_go_on a b x y p q ends e = grind (arith, common_steps)
 
 nothing_goes_on : (ds x y : List ℕ) → AreDigits ds → EndsDigits x → x ≡ ds ++ y → ds ≡ []
 nothing_goes_on [] x y p ends e = refl
@@ -53,32 +51,23 @@ nothing_goes_on (d ∷ ds) x y p ends e = absurd (subst EndsDigits e ends p.0)
 
 -- the first digit of a number above 0 is not 0
 first_digit : (n : ℕ) → 0 < n → 48 < get_or (decimal n) 0 48
-first_digit n h =
-    let first = first_digits_of 10 n (lit≤ tt) h in
-    let e = ap (λ ds. get_or ds 0 48) (decimal_above n h) ∙ get_or-map (λ d. 48 + d) (digits_of 10 n) 0 0 in
-    omega arith
+first_digit n h = grind (arith, common_steps, decimal_above n h, get_or-map, first_digits_of 10 n)
 
 decimal_is_some : (n : ℕ) → decimal n ≡ [] → ⊥
-decimal_is_some n e =
-    let zero_said : n ≡ 0 = sym (said_decimal n) ∙ ap (said_after 0) e in search (arith, rules, decimal_small)
+decimal_is_some n e = grind (arith, common_steps, said_decimal n, decimal_small)
 
 alone_behind_zero : (n d : ℕ) (ds : List ℕ) → decimal n ≡ 48 ∷ d ∷ ds → ⊥
-alone_behind_zero zero d ds e = grind (arith, common_steps, decimal_small)
-alone_behind_zero (suc k) d ds e = let first = first_digit (suc k) (omega arith) in
-    let is = ap (λ cs. get_or cs 0 48) e in omega arith
+alone_behind_zero n d ds e = grind (arith, common_steps, decimal_small, first_digit n)
 
 above_zero : (m n d : ℕ) (ds : List ℕ) → decimal n ≡ decimal m ++ (48 + d) ∷ ds → 0 < m
-above_zero zero n d ds e = absurd (search (arith, rules, alone_behind_zero, decimal_small))
-above_zero (suc m) n d ds e = omega arith
+above_zero m n d ds e = grind (arith, common_steps, alone_behind_zero, decimal_small)
 
 -- digits with one more digit behind them say ten times their number at least, and are not those of 0
 more_digits : (m n d : ℕ) (ds : List ℕ) → decimal n ≡ decimal m ++ (48 + d) ∷ ds → (0 < m) × (m * 10 + d ≤ n)
 more_digits m n d ds e =
-    let said = sym (said_decimal n) ∙ ap (said_after 0) e
-    ∙ ap (number_from_digits_after 10 0) (map-append (λ c. c - 48) (decimal m) ((48 + d) ∷ ds))
-    ∙ number_after_append 10 0 (values (decimal m)) (values ((48 + d) ∷ ds))
-    ∙ ap (λ k. said_after (k * 10 + ((48 + d) - 48)) ds) (said_decimal m) in
-    omega (arith, number_after_ge 10 (m * 10 + ((48 + d) - 48)) (values ds) (lit≤ tt), above_zero)
+    let both = number_after_append 10 0 (values (decimal m)) (values ((48 + d) ∷ ds)) in
+    let rest = number_after_ge 10 (m * 10 + ((48 + d) - 48)) (values ds) (lit≤ tt) in
+    grind (arith, common_steps, said_decimal n, said_decimal m, map-append, above_zero)
 
 -- ## What a text begins with
 
@@ -90,9 +79,8 @@ pub one_number : (text x y : List ℕ) (m n : ℕ) → BeginsWith text (Some m) 
 one_number text x y m n a b =
     let more = digits_go_on (decimal m) (decimal n) x y (decimal_digits m) (decimal_digits n) b.ended (sym a.spelled
     ∙ b.spelled) in
-    let digits = all_back (IsInRange 48 57) (decimal m) more.0 (subst AreDigits more.1 (decimal_digits n)) in
-    let none = nothing_goes_on more.0 x y digits a.ended more.2 in
-    search (arith, rules, decimal_injective, append-nil)
+    let all = decimal_digits n in
+    search (arith, rules, all_back (IsInRange 48 57), nothing_goes_on, decimal_injective, append-nil)
 
 -- no number of 128 bits is spelled so: another digit stands behind a 0, or behind digits that say too much with it
 pub none_goes_on : (text rest after : List ℕ) (m d : ℕ) → d < 10 → text ≡ decimal m ++ rest →
@@ -100,10 +88,9 @@ pub none_goes_on : (text rest after : List ℕ) (m d : ℕ) → d < 10 → text 
     BeginsWith text (Some n) end → ⊥
 none_goes_on text rest after m d small e f why n end fits begins =
     let one = (48 + d) ∷ [] in
-    let digits = all_both (IsInRange 48 57) (decimal m) one (decimal_digits m) ((omega arith, omega arith), tt) in
-    let read : (decimal m ++ one) ++ after ≡ decimal n ++ end = search (arith, rules, append_assoc) in
-    let more = digits_go_on (decimal m ++ one) (decimal n) after end digits (decimal_digits n) begins.ended read in
-    let said = more_digits m n d more.0 (more.1 ∙ append_assoc (decimal m) one more.0) in omega arith
+    let all = all_both (IsInRange 48 57) (decimal m) one (decimal_digits m) in
+    let more = digits_go_on (decimal m ++ one) (decimal n) after end in
+    grind (arith, common_steps, all, more, decimal_digits n, append_assoc, more_digits m n d)
 
 pub digit_alone : (text rest : List ℕ) (n d : ℕ) → d < 10 → n ≡ d → text ≡ (48 + d) ∷ rest → text ≡ decimal n ++ rest
 digit_alone text rest n d small is e = grind (arith, common_steps, decimal_small)

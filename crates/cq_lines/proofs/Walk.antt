@@ -1,7 +1,7 @@
 -- Reading a line field by field. What was read so far stands at the front of the text, and whoever reads a whole line
 -- there reads the same fields first, and the rest of his line from the rest of the text. So where no field can go on,
 -- no line stands there.
-use Rattle.cq_lines.proofs.Terms.{common_steps, rules, ◌≡◌, ◌≢◌, ℕ, ◌+◌, ◌<◌, ◌≤◌, List, [], ◌∷◌, ◌++◌, length, map, take, drop, set, get_or, Option, None, Some, refl, ap, sym, ◌∙◌, arith, append_assoc, length-append, length-set, append-nil, append_cancel_left, take_more_set, take_more, take_all, take-append-le, take-take, length-take, field, ending, line, EndsDigits, MayFollow, BeginsWith, Fits, AllFit, InRange, Within, any_number, all_back, get_or_default, recursion_from_All}
+use Rattle.cq_lines.proofs.Terms.{common_steps, rules, ◌≡◌, ◌≢◌, ℕ, ◌+◌, ◌<◌, ◌≤◌, List, [], ◌∷◌, ◌++◌, length, map, take, drop, set, get_or, Option, None, refl, ap, sym, ◌∙◌, arith, append_assoc, length-append, length-set, append-nil, append_cancel_left, take_more_set, take_more, take_all, take-append-le, take-take, length-take, field, ending, line, EndsDigits, MayFollow, BeginsWith, Fits, AllFit, Within, all_back, get_or_default, recursion_from_All}
 use Rattle.cq_base.specs.Texts.{line_of_words}
 use Rattle.cq_lines.specs.declared.range.Range.{Range}
 use Rattle.cq_lines.proofs.Spelling.{one_field}
@@ -22,8 +22,7 @@ ending_ends [] more = λ digit. omega arith
 ending_ends (f ∷ fs) more = λ digit. omega arith
 
 may_follow : (f : Option ℕ) (rest : List ℕ) → EndsDigits rest → MayFollow f rest
-may_follow None rest ends = tt
-may_follow (Some n) rest ends = ends
+may_follow f rest ends = grind (arith, common_steps)
 
 pub begun_more : (fs : List (Option ℕ)) (f : Option ℕ) → begun (fs ++ f ∷ []) ≡ begun fs ++ 32 ∷ field f
 begun_more [] f = ap (λ t. 32 ∷ t) (append-nil (field f))
@@ -86,11 +85,7 @@ pub one_ending : (fs gs : List (Option ℕ)) (x y : List ℕ) → ending fs ++ x
 one_ending [] [] x y e = (refl, ap (drop 1) e)
 one_ending (f ∷ fs) (g ∷ gs) x y e =
     let inner : field f ++ (ending fs ++ x) ≡ field g ++ (ending gs ++ y) = search (arith, rules, append_assoc) in
-    let text = field f ++ (ending fs ++ x) in
-    let first = one_field text (ending fs ++ x) (ending gs ++ y) f g
-    (record { spelled = refl; ended = search (arith, rules, may_follow, ending_ends) })
-    (record { spelled = inner; ended = may_follow g _ (ending_ends gs y) }) in
-    search (arith, rules, one_ending fs gs x y first.1)
+    search (arith, rules, one_field (field f ++ (ending fs ++ x)), may_follow, ending_ends, one_ending fs gs x y)
 one_ending _ _ x y e = absurd (cc e)
 
 pub one_line : (word x y : List ℕ) (fs gs : List (Option ℕ)) → line word fs ++ x ≡ line word gs ++ y →
@@ -110,12 +105,8 @@ pub copied_in : (old copied new digits rest : List ℕ) (at k count : ℕ) → a
     take (at + k) new ≡ take at old ++ copied → count ≤ k → copied ≡ digits ++ rest → count ≡ length digits →
     take (at + count) new ≡ take at old ++ digits
 copied_in old copied new digits rest at k count inside front few spelled long =
-    let size : at + count ≡ length (take at old ++ digits) =
-    omega (arith, length-append (take at old) digits, length-take at old) in
-    sym (take-take (at + count) (at + k) new (omega arith))
-    ∙ ap (take (at + count)) (front ∙ ap (λ l. take at old ++ l) spelled ∙ sym (append_assoc (take at old) digits rest))
-    ∙ take-append-le (at + count) (take at old ++ digits) rest (omega arith)
-    ∙ take_all (at + count) (take at old ++ digits) (omega arith)
+    let front_of = take-take (at + count) (at + k) new in
+    grind (arith, common_steps, length-append, length-take, front_of, append_assoc, take-append-le, take_all)
 
 -- The text with what is gathered behind it is what stood there and the line as far as it goes.
 pub record IsGathered (start word text bytes : List ℕ) (end : ℕ) (fs : List (Option ℕ)) : Type 0 where
@@ -147,12 +138,7 @@ line_ends start word text bytes new end fs i past had put =
 -- what is within ranges fits
 pub within_fits : (ranges : List Range) (further : ℕ) (fs : List (Option ℕ)) → Within ranges further fs → AllFit fs
 within_fits ranges further fs within = recursion_from_All Fits fs (λ i d inside.
-    rw (get_or_default fs i d None inside)
-    (fits (get_or ranges i any_number) (get_or fs i None) (within.each i inside)))
-  where
-    fits : (r : Range) (f : Option ℕ) → InRange r f → Fits f
-    fits r None is = tt
-    fits r (Some n) is = is.2
+    grind (arith, common_steps, get_or_default fs i d None inside, within.each i inside))
 
 pub few_within : (ranges : List Range) (further : ℕ) (to fs : List (Option ℕ)) →
     length ranges + further ≤ length to → Within ranges further fs → length fs ≤ length to
