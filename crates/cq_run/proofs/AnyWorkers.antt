@@ -2,7 +2,7 @@
 -- run the setup and the limits, and what is written the names of the files and the length of a slot. So the same
 -- arrives whatever that number is; and each verdict, each plan that meets it, and each reason that denies it, is made
 -- of what arrives and of these. Numbers can be exchanged, so it holds both ways.
-use Rattle.cq_run.proofs.Terms.{rules, arith, common_steps, ◌≡◌, ◌+◌, ℕ, zero, suc, List, [], ◌∷◌, length, refl, ap, sym, Arrival, IsOkAnd, Result, Ok, Err, arrivals, arrivals_at, arrivals_of, cell_of, cells, Captured, Tables, Departure, LimitedRecord, IsFabricRun, PortRow, Kept, captures_out, checked, crossed, resumed, switched, ideal_departures, ran_ideal, packets_out, Contents, Aim, Denies, Meets, Crossing, Auditing, Parting, Resuming, Exactly, Refusal, Plan, Reader, ◌>>=◌, judged, ideally_sent, sent_or_tag, tables_in, judged_of_given, Command, Audit, Check, Ideal, Part, Resume, Run}
+use Rattle.cq_run.proofs.Terms.{rules, arith, common_steps, ◌≡◌, ◌+◌, ℕ, zero, suc, List, [], ◌∷◌, length, refl, ap, sym, Arrival, IsOkAnd, Result, Ok, Err, arrivals, arrivals_at, arrivals_of, cell_of, cells, Captured, Tables, Departure, LimitedRecord, IsFabricRun, PortRow, Kept, captures_out, crossed, resumed, switched, ideal_departures, ran_ideal, packets_out, Contents, Aim, Denies, Meets, Crossing, Auditing, Parting, Resuming, Exactly, Refusal, Plan, Reader, ◌>>=◌, judged, ideally_sent, sent_or_tag, tables_in, judged_of_given, Command, Audit, Check, Ideal, Part, Resume, Run}
 use Rattle.std.specs.Prelude.{max}
 use Rattle.cq_cells.proofs.Ranges.{flat_same}
 use Rattle.cq_cells.specs.Schedule.{stamp_slot, start}
@@ -12,7 +12,6 @@ use Rattle.cq_run.proofs.Reached.{rest_of, sent_of}
 use Rattle.cq_run.specs.declared.judge.Asked.TheVariants as asked
 use Rattle.cq_run.specs.Plan.{check_line}
 use Rattle.cq_run.specs.Workers.{WorkersChangeNothing, over, with_workers}
-use Rattle.cq_run.specs.declared.denial.Denial.TheVariants as why
 
 -- ## One verdict after another
 
@@ -24,9 +23,6 @@ record Follows (one other : Result Aim Refusal) : Type 0 where
 
 alike : (x : Result Aim Refusal) → Follows x x
 alike x = record { met = λ plan h. h; denied = λ refusal h. h; refused = λ refusal h. h }
-
-same : (x y : Result Aim Refusal) → y ≡ x → Follows x y
-same x y e = rw e (alike x)
 
 aimed : (a b : Aim) → ((plan : Plan) → Meets a plan → Meets b plan) →
     ((refusal : Refusal) → Denies a refusal → Denies b refusal) → Follows (Ok a) (Ok b)
@@ -122,29 +118,18 @@ module _ (n : ℕ) (t : Tables) where
         Follows (sent_of aim r t cs m) (sent_of aim r u cs m)
     sends cs aim h = grind (arith, common_steps, ideally_same, then_both)
 
-    check : Follows (Ok (Exactly (checked t))) (Ok (Exactly (checked u)))
-    unfolding check_line
-    check = alike (Ok (Exactly (checked t)))
-
     ideal : (cs : List (List Captured)) (sent : List Departure) →
         Follows (Ok (Exactly (switched t cs sent))) (Ok (Exactly (switched u cs sent)))
-    ideal cs sent = grind (arith, common_steps, same, switched_same)
-
-    audit : (cs : List (List Captured)) → Follows (rest_of asked.Audit r t cs m) (rest_of asked.Audit r u cs m)
-    audit cs = search (rules, then_both, sends, auditing)
-
-    resume : (name : List ℕ) (cs : List (List Captured)) →
-        Follows (rest_of (asked.Resume name) r t cs m) (rest_of (asked.Resume name) r u cs m)
-    resume name cs = search (rules, then_both, resuming)
+    ideal cs sent = rw (switched_same cs sent) (alike _)
 
     follows : (command : Command) → Follows (judged r (over one command) m) (judged r (over other command) m)
-    follows (Check old) = rw (first, second) check
-    follows (Ideal old) =
-        both (rest_of asked.Ideal) (λ cs. sends cs (λ v c sent. Exactly (switched v c sent)) (ideal cs))
+    unfolding check_line
+    follows (Check old) = rw (first, second) (alike _)
+    follows (Ideal old) = both (rest_of asked.Ideal) (λ cs. search (rules, sends, ideal))
     follows (Run old) = both (rest_of asked.Run) (λ cs. sends cs Crossing (crossing cs))
-    follows (Audit old) = both (rest_of asked.Audit) audit
+    follows (Audit old) = both (rest_of asked.Audit) (λ cs. search (rules, then_both, sends, auditing))
     follows (Part old slots state) = both (rest_of (asked.Part slots state)) (λ cs. parting cs slots state)
-    follows (Resume old state) = both (rest_of (asked.Resume state)) (resume state)
+    follows (Resume old state) = both (rest_of (asked.Resume state)) (λ cs. search (rules, then_both, resuming))
     follows _ = alike _
 
 -- ## Both ways

@@ -4,10 +4,9 @@
 -- holds is never denied.
 use Rattle.cq_run.proofs.Terms.{rules, ◌≡◌, ◌≢◌, ◌≤◌, ◌^◌, ◌+◌, ◌∙◌, ◌++◌, ℕ, List, [], ◌∷◌, length, Option, None, Some, refl, ap, inl, arith, sym, IfSome, IsOkAnd, Result, Ok, IsOk, get, AllByRecursion, Arrival, log_of, trace_of, Departure, Transfer, short_is, small_cells, traffic_is, arrivals, IsTraffic, all_weaker, limited_not_more, LimitedRecord, slots_in, Captured, all_both, all_back, classes_of, ports_of, Tables, machines_of, openings_of, as_many_slots, sends_as_ideal, stable_limited_too, departures_in_run, ideal_departures, ran_ideal, Contents, files_in, read_or_refused, Audit, Denial, Refusal, Halt, IsHaltOf, Aim, Auditing, Denies, Meets, KeepsUp, audited, captures_out, crossed, Reader, ◌>>=◌, captures_in, found_or_missing, ideally_sent, judged, read_or_refused_for, sent_or_tag, tables_in, text_in, all_replaced, common_steps, whole_limited_run, empty_limited, IsAuditHalted, IsAuditPassed, audit_is_exact, stable_log, trace_is_exact, IsYes, opening_fabric, IsNo, AuditRefusal, transfers_of_run, empty_list, DiffersFirst, all_stable, stable_sends, stable_slack, longest_file}
 use Rattle.cq_audit.specs.declared.refusal.AuditRefusal.TheVariants as of_log
-use Rattle.cq_tables.specs.Check.{Refused}
 use Rattle.cq_run.specs.declared.denial.Denial.TheVariants as why
 use Rattle.cq_run.specs.declared.refusal.Refusal.TheVariants as refused
-use Rattle.cq_run.specs.Auditing.{IsDenied, IsLogDenied, halt_for_log}
+use Rattle.cq_run.specs.Auditing.{IsDenied, halt_for_log}
 use Rattle.cq_run.specs.RunsAudited.{RunsAreAudited}
 use Rattle.cq_run.proofs.Left.{captures_same, last_two, outputs_named, tables_same, untouched}
 use Rattle.cq_run.proofs.NamesApart.{ArePairs, IsUnwritten, names_apart, reads_unwritten, trace_or_log}
@@ -16,14 +15,11 @@ use Rattle.cq_run.specs.declared.stop.Halt.TheVariants as stop
 
 -- ## The configuration was accepted
 
-read_ok : (x : Result Tables Refused) (t : Tables) → read_or_refused_for x ≡ Ok t → x ≡ Ok t
-read_ok x t h = grind (arith, common_steps)
-
 apart_at : (config : List ℕ) (o : Option (List ℕ)) (t : Tables) →
     (found_or_missing config o >>= (λ (bytes : List ℕ). read_or_refused_for (read_or_refused bytes))) ≡ Ok t →
     ArePairs (files_in t)
 apart_at config None t h = absurd (let P : ⊥ = cc h in P)
-apart_at config (Some bytes) t h = names_apart bytes t (read_ok (read_or_refused bytes) t h)
+apart_at config (Some bytes) t h = names_apart bytes t (grind (arith, common_steps))
 
 -- so no two names of its tables clash
 apart_in : (config : List ℕ) (m : Contents) (t : Tables) → tables_in config m ≡ Ok t → ArePairs (files_in t)
@@ -56,9 +52,7 @@ module _ (t : Tables) (captures : List (List Captured)) (rs : List LimitedRecord
 
     -- a line can name each slot of the run
     few_slots : length rs ≤ 2 ^ 64
-    few_slots =
-        let came : List Arrival = arrivals t captures in
-        omega (arith, as_many_slots t came rs traffic keeps.runs, limited_not_more, short_is)
+    few_slots = omega (arith, as_many_slots t (arrivals t captures) rs traffic keeps.runs, limited_not_more, short_is)
 
     -- its log is that of a stable run
     log_is : IsYes t.setup t.limits (arrivals t captures) (log_of note)
@@ -73,14 +67,11 @@ module _ (t : Tables) (captures : List (List Captured)) (rs : List LimitedRecord
     meets : Meets aim audited
     meets = (record { log_is = log_is; trace_is = refl }, refl)
 
-    -- a log of which this holds is refused for nothing
-    never_refused : (e : AuditRefusal) → e ≢ of_log.NoMemory → IsLogDenied t captures (log_of note) e → ⊥
-    never_refused e some denied =
-        (audit_is_exact t.setup t.limits (arrivals t captures)).never_both (log_of note) e some log_is denied
-
+    -- nothing denies it
     never_denied : (denial : Denial) → IsDenied t captures sent (trace_of sent) (log_of note) denial → ⊥
     never_denied (why.Log of_log.NoMemory) denied = denied
-    never_denied (why.Log refusal) denied = never_refused refusal (λ e. cc) denied
+    never_denied (why.Log refusal) denied =
+        (audit_is_exact t.setup t.limits (arrivals t captures)).never_both (log_of note) refusal (λ e. cc) log_is denied
     never_denied (why.Trace n) denied = trace_is_exact.differ (trace_of sent) (trace_of sent) n denied.1 refl
     never_denied _ denied = denied
 
@@ -150,13 +141,10 @@ module _ (t : Tables) (captures : List (List Captured)) (came : List Arrival) (t
   run_refused halt h = inl (rw is at h)
 
   module _ (sent : List Departure) (departs : ideal_departures t came ≡ Ok sent) where
-    sends : ideally_sent t captures ≡ Ok sent
-    sends = ap sent_or_tag (ap (ideal_departures t) (sym is) ∙ departs)
-
     -- a log that is refused
     pub log_denied : (refusal : AuditRefusal) → IsNo t.setup t.limits came log refusal →
         IsAuditHalted t captures trace log (halt_for_log refusal)
-    log_denied refusal h = search (arith, rules, sends)
+    log_denied refusal h = search (arith, rules)
 
     module _ (yes : IsYes t.setup t.limits came log) where
       log_stands : IsYes t.setup t.limits (arrivals t captures) log
@@ -165,7 +153,7 @@ module _ (t : Tables) (captures : List (List Captured)) (came : List Arrival) (t
       -- a trace that differs
       pub trace_denied : (text : List ℕ) (n : ℕ) → text ≡ trace_of sent → DiffersFirst trace text n →
           IsAuditHalted t captures trace log (stop.Refused (refused.Audit (why.Trace n)))
-      trace_denied text n same differs = grind (arith, common_steps, sends, log_stands)
+      trace_denied text n same differs = grind (arith, common_steps, log_stands)
 
       -- the run of the log sends what the ideal switch sends
       departed : IsTraffic (ports_of t.setup) (classes_of t.setup) came →
@@ -180,7 +168,7 @@ module _ (t : Tables) (captures : List (List Captured)) (came : List Arrival) (t
           let run = log_stands.run in
           record {
             sent = sent;
-            ideally = sends;
+            ideally = cc;
             meets = record { log_is = log_stands; trace_is = equal ∙ same };
             departed = departed traffic;
             stable = all_stable t (arrivals t captures) run.records run.end (rw is at traffic) run.runs;

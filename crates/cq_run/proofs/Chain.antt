@@ -1,7 +1,7 @@
 -- One judgement after another. Where the first ends without an answer, so do both; where it has one, both end as the
 -- second does. A name that the second is to read is to be read by both, since the first comes to the same without it,
 -- or misses it. First, the count of faults where an answer tells of none.
-use Rattle.cq_run.proofs.Terms.{rules, arith, ◌≡◌, ◌∙◌, ◌⊎◌, ℕ, List, ap, Option, None, Some, IfSome, Result, Ok, Err, common_steps, Contents, Space, Closed, Mode, Refusal, Missing, Halt, ◌>>=◌, Halts, IsHaltOf, Judges, InTurn, Pace, Ahead, Uncounted, AnyName, Call, Fails, Lasts}
+use Rattle.cq_run.proofs.Terms.{rules, arith, ◌≡◌, ◌∙◌, ◌⊎◌, ℕ, List, ap, Option, None, Some, IfSome, Result, Ok, Err, common_steps, Contents, Space, Closed, Mode, Refusal, Missing, Halt, ◌>>=◌, IsHaltOf, Judges, InTurn, Pace, Ahead, Uncounted, AnyName, Call, Fails, Lasts}
 use Rattle.std.specs.FinMap.{remove}
 use Rattle.cq_run.proofs.Stays.{Stays}
 
@@ -15,22 +15,12 @@ fails_after lasts same kept h = grind (arith, common_steps, lasts.both)
 pub counts_same : (pace : Pace) (U : Type 0) (old new : ℕ) → new ≡ old → Uncounted pace U old new
 counts_same pace U old new e = grind (arith, common_steps)
 
--- it was as before up to some moment, and what holds where it rose since then implies more
-pub counts_after : (pace : Pace) (U V : Type 0) (old mid new : ℕ) → (U → V) → mid ≡ old → Uncounted pace U mid new
-    → Uncounted pace V old new
-counts_after pace U V old mid new f e h = grind (arith, common_steps)
-
 -- more may be said of a name that was unread
 pub name_after : (pace : Pace) (R S : List ℕ → Type 0) (old mid new : ℕ) → ((name : List ℕ) → R name → S name)
     → mid ≡ old → Uncounted pace (AnyName R) mid new → Uncounted pace (AnyName S) old new
-name_after pace R S old mid new i e h = search (arith, rules, counts_after pace (AnyName R) (AnyName S) old mid new)
+name_after pace R S old mid new i e h = grind (arith, common_steps)
 
--- what ends reading in turn ends it at either pace
-pub halts_at : {A : Type 0} (p : Pace) (j : Contents → Result A Refusal) (R : List ℕ → Type 0) (old new : Space)
-    (halt : Halt) → Halts InTurn j R old new halt → Halts p j R old new halt
-halts_at p j R old new halt h = grind (arith, common_steps)
-
--- and where nothing did
+-- what judging ahead came to tells it
 pub counts_of : {A : Type 0} (j : Contents → Result A Refusal) (R : List ℕ → Type 0) (old new : Space)
     (result : Result A Halt) → Judges Ahead j R old new result → Uncounted Ahead (AnyName R) old.faults new.faults
 counts_of j R old new result h = grind (arith, common_steps)
@@ -101,7 +91,7 @@ module _ {A : Type 0} {j : Contents → Result A Refusal} {p : Pace} {old new : 
   -- what ends judging in turn ends it at either pace
   pub judges_at : {R : List ℕ → Type 0} {halt : Halt} → Judges InTurn j R old new (Err halt) →
       Judges p j R old new (Err halt)
-  judges_at {R} {halt} h = grind (arith, common_steps, halts_at p j R old new halt h.halt)
+  judges_at h = grind (arith, common_steps)
 
   -- an answer says nothing of names that are unread
   pub judges_any : {q : Pace} {R S : List ℕ → Type 0} {x : A} → Judges p j R old new (Ok x) →

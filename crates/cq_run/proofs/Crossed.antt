@@ -1,11 +1,6 @@
 -- The captures of the outputs, one after another: those that were made and those that are still to be made are all.
 -- Each is that which was built at its output.
-use Rattle.cq_run.proofs.Terms.{common_steps, rules, ◌≡◌, ◌<◌, ◌≤◌, ◌∙◌, ℕ, ◌+◌, List, [], ◌∷◌, ◌++◌, length, drop, get_or, refl, sym, append_assoc, arith, Result, Ok, append-nil, drop_all, drop_more, length-drop, trace_of, log_of, Departure, TagFault, Transfer, arrivals, Captured, AreTables, ports_of, PortRow, Tables, Plan, Meets, Reporting, Halt, IfOk, capture_out, captures_out, switched, IsSwitched, sent_or_tag, Switched, ArePacked, HaveLeftOf, Arrival, t0_of, packets_of, IsRecorded, IsTraffic, LimitedRecord, report_with, under_names, classes_of, always_slack, best_in_each, slot_by_slot, IsFabricRun, IsKeptOf, unpacked_run, ideal_departures, PackedFabricRun, Contents, AreGiven, AreRead, IsEmulation, KeepsUp, crossed, reported, Reader, IsCrossed, IsCrossing, Crossed, left_in_packets, Packing, each_packet_once}
-
--- a plan of these names and this text
-pub plan_is : (plan : Plan) (writes : List (List ℕ × List ℕ)) (text : List ℕ) → plan.writes ≡ writes →
-    plan.text ≡ text → plan ≡ record { writes = writes; text = text }
-plan_is plan writes text e f = grind (arith, common_steps)
+use Rattle.cq_run.proofs.Terms.{common_steps, rules, ◌≡◌, ◌<◌, ◌≤◌, ◌∙◌, ℕ, ◌+◌, List, [], ◌∷◌, ◌++◌, length, drop, get_or, refl, sym, append_assoc, arith, Result, Ok, append-nil, drop_all, drop_more, length-drop, Departure, TagFault, arrivals, Captured, AreTables, ports_of, PortRow, Tables, capture_out, captures_out, IsSwitched, sent_or_tag, Switched, ArePacked, HaveLeftOf, Arrival, t0_of, packets_of, IsRecorded, IsTraffic, LimitedRecord, under_names, classes_of, always_slack, best_in_each, slot_by_slot, IsFabricRun, IsKeptOf, unpacked_run, ideal_departures, PackedFabricRun, AreGiven, KeepsUp, IsCrossed, left_in_packets, Packing, each_packet_once}
 
 -- a run that has no tag fault
 pub sent_ok : (sent : List Departure) (x : Result (List Departure) TagFault) → sent_or_tag x ≡ Ok sent → x ≡ Ok sent
@@ -41,7 +36,7 @@ module _ (t : Tables) (captures : List (List Captured)) (sent : List Departure) 
     in_places = let outputs : length places ≡ ports_of t.setup = packed.outputs in omega arith
 
     pub some_left : drop output places ≡ [] → ⊥
-    some_left none = grind (arith, common_steps, in_places, length-drop output places)
+    some_left none = grind (arith, common_steps, packed.outputs, length-drop output places)
 
     module _ {place : Packing} {rest : List Packing} (first : drop output places ≡ place ∷ rest) where
       parts : get_or places output place ∷ drop (output + 1) places ≡ place ∷ rest
@@ -63,29 +58,10 @@ module _ (t : Tables) (captures : List (List Captured)) (sent : List Departure) 
   module _ (places : List Packing) (packed : ArePacked t captures sent places) (are : AreTables t)
       (rows : List PortRow) (all : rows ≡ t.ports) where
     pub rows_fit : length rows ≤ length places
-    rows_fit = let outputs : length places ≡ ports_of t.setup = packed.outputs in search (arith, rules)
+    rows_fit = grind (arith, common_steps, packed.outputs)
 
     pub packed_all : under_names rows places ≡ captures_out t captures sent 0 t.ports
-    packed_all = grind (arith, common_steps, rows_fit, packed_under)
-
-  -- these and the trace, and then the log
-  pub traced_writes : {made traced : List (List ℕ × List ℕ)} {trace : List ℕ} →
-      made ≡ captures_out t captures sent 0 t.ports → traced ≡ made ++ (t.trace, trace) ∷ [] → trace ≡ trace_of sent →
-      traced ≡ captures_out t captures sent 0 t.ports ++ (t.trace, trace_of sent) ∷ []
-  traced_writes all put is = cc
-
-  pub crossed_writes : {traced logged : List (List ℕ × List ℕ)} {log : List ℕ} (note : List Transfer) →
-      traced ≡ captures_out t captures sent 0 t.ports ++ (t.trace, trace_of sent) ∷ [] →
-      logged ≡ traced ++ (t.log, log) ∷ [] → log ≡ log_of note →
-      logged ≡ captures_out t captures sent 0 t.ports ++ (t.trace, trace_of sent) ∷ (t.log, log_of note) ∷ []
-  crossed_writes note all put is = grind (arith, common_steps, append_assoc)
-
-  -- a plan with these and the trace
-  pub switched_is : {plan : Plan} {traced : List (List ℕ × List ℕ)} →
-      traced ≡ captures_out t captures sent 0 t.ports ++ (t.trace, trace_of sent) ∷ [] →
-      plan.writes ≡ traced → plan.text ≡ [] → plan ≡ switched t captures sent
-  unfolding switched
-  switched_is all writes none = search (arith, rules)
+    packed_all = search (arith, rules, packed_under, packed.outputs)
 
 -- ## What is kept of a run of the crossbar switch, and the plan that is made of it
 
@@ -109,25 +85,3 @@ pub is_crossed : (t : Tables) (captures : List (List Captured)) (came : List Arr
     IsCrossed t captures (record { run = run; t0 = stamp })
 is_crossed t captures came run stamp given e s traffic kept sent =
     grind (arith, common_steps, keeps_up, keeps_up t captures kept.records given)
-
-module _ {t : Tables} {captures : List (List Captured)} {c : Crossed} (is : IsCrossed t captures c) where
-  -- a plan with its report alone
-  pub reporting : (result : Result Plan Halt) → IfOk result (λ plan. plan.writes ≡ []) →
-      IfOk result (λ plan. plan.text ≡ report_with c.run.figures c.run.refused.items) →
-      IfOk result (λ plan. Meets (Reporting t captures) plan)
-  unfolding reported
-  reporting result writes text = grind (arith, common_steps, plan_is)
-
-  -- one with its captures, its trace, its log and its report is what the crossbar switch does
-  pub crossing : {plan : Plan} →
-      plan.writes ≡ captures_out t captures c.run.sent.items 0 t.ports
-      ++ (t.trace, trace_of c.run.sent.items) ∷ (t.log, log_of c.run.note.items) ∷ [] →
-      plan.text ≡ report_with c.run.figures c.run.refused.items → IsCrossing t captures plan
-  unfolding crossed
-  crossing writes text = grind (arith, common_steps, keeps_up, plan_is)
-
-module _ (t : Tables) (captures : List (List Captured)) (plan : Plan) (is : IsCrossing t captures plan) where
-  -- what is written of what was read
-  pub emulates : (r : Reader) (config : List ℕ) (m : Contents) → AreRead r config m t captures →
-      IsEmulation r config m plan
-  emulates r config m read = grind (arith, common_steps, keeps_up)

@@ -2,25 +2,20 @@
 -- status says. Each end has one status, and what the end says of the verdict is what the status says of it. The table
 -- of refusals is used for three facts alone: no refusal has a status of an end that is none, one with the status of
 -- read faults comes only where contents are told, and words are refused only where they are no command.
-use Rattle.cq_run.proofs.Terms.{common_steps, arith, ◌≡◌, ℕ, List, rules, [], ◌∷◌, ◌≢◌, ◌⊎◌, IsTrue, Result, Ok, Err, Option, None, Some, IfSome, MatchOption, IsOkAnd, Call, Fails, Lasts, Reads, Writes, Contents, Space, Command, Refusal, Halt, Aim, Meets, IsJudged, Pace, Uncounted, Plan, CommandHalts, Decides, IsDenial, known_to, known_by, Reader, Taken, World, IsUntouched, IsCut, IsDone, IsCutAtFile, Rose, Words, Capture, Refused, Unread, NoMemory, Emulates, meaning_of, judged, judged_or_words, StatusCauses, Status, ◌+◌, PortRow, captures_from}
+use Rattle.cq_run.proofs.Terms.{common_steps, arith, ◌≡◌, ℕ, List, rules, [], ◌∷◌, ◌≢◌, ◌⊎◌, IsTrue, Result, Ok, Err, Option, None, Some, IfSome, MatchOption, Call, Fails, Lasts, Reads, Writes, Contents, Space, Command, Refusal, Halt, Aim, IsJudged, Pace, Uncounted, Plan, known_to, known_by, Reader, Taken, World, IsUntouched, IsCut, IsDone, IsCutAtFile, Rose, Words, Refused, Unread, NoMemory, Emulates, meaning_of, judged, judged_or_words, StatusCauses, Status, ◌+◌, PortRow, captures_from}
 use Rattle.cq_run.specs.declared.stop.Stop.{Stop}
 use Rattle.cq_run.specs.declared.stop.Stop.TheVariants.{Cut, Halted}
 use Rattle.cq_run.specs.declared.stop.Unwritten.{Unwritten}
 use Rattle.cq_run.specs.Ending.{CommandEnds, IsPlanned, CallsFor, EndsFor, WhereHalted, status_of}
 use Rattle.cq_run.proofs.Chain.{fails_after, counts_same}
-use Rattle.cq_run.proofs.Planned.{known_faults, same_faults, counts_known}
-use Rattle.cq_run.proofs.Told.{told_map, told_any}
+use Rattle.cq_run.proofs.Planned.{known_faults, counts_known}
+use Rattle.cq_run.proofs.Told.{told_any}
 use Rattle.cq_base.specs.declared.status.Status.TheVariants as status
 
 file_from : (ws : List (List ℕ × List ℕ)) (name : List ℕ) (old mid new : Space) → mid.told ≡ old.told →
     mid.faults ≡ old.faults → IsCutAtFile ws name mid new → IsCutAtFile ws name old new
 file_from [] name old mid new t l h = h
 file_from (w ∷ ws) name old mid new t l h = grind (arith, common_steps)
-
--- without a plan the command halts
-decides_halt : (p : Pace) (j : Contents → Result Aim Refusal) (R : List ℕ → Type 0) (old new : Space) (halt : Halt) →
-    Decides p j R old new (Err halt) → CommandHalts p j R old new halt
-decides_halt p j R old new halt h = grind (arith, common_steps)
 
 -- the file space at this moment, where standard output is as it was
 abbrev at : {S : Type 0} → (S → Space) → Taken → S → World
@@ -31,14 +26,14 @@ module _ {S : Type 0} {space : S → Space} {may_fail : Call → S → S → Typ
   pub judging_ends : {halt : Halt} → IsJudged space may_fail unbegun pace command old mid (Err halt) →
       CommandEnds pace r (λ name. Fails space may_fail unbegun (Reads name) old mid) (λ _. Unit {0}) (Unit {0}) command
       (at space out old) (at space out mid) (Err (Halted halt))
-  judging_ends {halt} h = grind (arith, common_steps, decides_halt pace _ _ _ _ halt (h.judges r), h.judges r)
+  judging_ends {halt} h = grind (arith, common_steps, h.judges r)
 
   module _ {plan : Plan} (judged : IsJudged space may_fail unbegun pace command old mid (Ok plan)) where
     is_planned : IsPlanned r command (space old) plan
-    is_planned = let d = judged.judges r in search (arith, rules, told_map)
+    is_planned = grind (arith, common_steps, judged.judges r)
 
     uncounted : (space mid).faults ≡ (space old).faults
-    uncounted = same_faults command (space old) (space mid) (judged.judges r).2.uncounted
+    uncounted = grind (arith, common_steps, judged.judges r, known_faults)
 
     -- the plan is done
     pub performed : {new : World} → IsDone plan (at space out mid) new →
@@ -53,14 +48,9 @@ module _ {S : Type 0} {space : S → Space} {may_fail : Call → S → S → Typ
         CommandEnds pace r (λ _. Unit {0}) (λ name. Fails space may_fail keeps (Writes name) old new) T command
         (at space out old) (at space out_new new) (Err (Cut unwritten))
     cut_short keeps new out_new T unwritten lasts kept h =
-        let since : (name : List ℕ) → Fails space may_fail keeps (Writes name) mid new →
-        Fails space may_fail keeps (Writes name) old new = search (arith, rules, fails_after, uncounted) in
-        search (arith, rules, file_from, is_planned, uncounted, since)
+        search (arith, rules, file_from, is_planned, uncounted, fails_after)
 
 -- no writing was begun where the run halted, and the status tells whether it did
-
-pub halts_so : {P : Type 0} (end : Result (Unit {0}) Stop) → P → WhereHalted end P
-halts_so end h = grind (arith, common_steps)
 
 pub halted_so : {P : Type 0} (end : Result (Unit {0}) Stop) {answer : Status} → answer ≡ status_of end →
     WhereHalted end P → answer ≢ status.Done → answer ≢ status.WriteFault → P
@@ -88,11 +78,6 @@ cut_rose [] name old new h = absurd h
 cut_rose (w ∷ ws) name old new h = grind (arith, common_steps, cut_rose ws name)
 
 module _ (p : Pace) (v : Contents → Result Aim Refusal) (known : Option Contents) (old new : World) where
-  -- want of memory says nothing of the verdict
-  memory_causes : Uncounted p (Outruns status.NoMemory) old.files.faults new.files.faults → IsUntouched old new →
-      StatusCauses p v known old new status.NoMemory
-  memory_causes c h = grind (arith, common_steps, told_any known)
-
   -- What is said of the verdict where contents are known calls for the status of a refusal: it is the verdict, or
   -- denies what the verdict aims at.
   halted_causes : (r : Refusal) (P : Contents → Type 0) →
@@ -101,24 +86,6 @@ module _ (p : Pace) (v : Contents → Result Aim Refusal) (known : Option Conten
       Uncounted p (Outruns (meaning_of r).status) old.files.faults new.files.faults → IsUntouched old new →
       StatusCauses p v known old new (meaning_of r).status
   halted_causes r P calls h c u = grind (arith, common_steps)
-
-  -- a refusal is the verdict
-  refusal_causes : (r : Refusal) → MatchOption known (IsTrue (meaning_of r).untold) (λ m. v m ≡ Err r) →
-      Uncounted p (Outruns (meaning_of r).status) old.files.faults new.files.faults → IsUntouched old new →
-      StatusCauses p v known old new (meaning_of r).status
-  refusal_causes r h c u = search (arith, rules, halted_causes)
-
-  -- a denial denies it
-  denial_causes : (r : Refusal) → IsDenial v known r →
-      Uncounted p (Outruns (meaning_of r).status) old.files.faults new.files.faults → IsUntouched old new →
-      StatusCauses p v known old new (meaning_of r).status
-  denial_causes r h c u = search (arith, rules, halted_causes)
-
-  -- a plan that was cut short is aimed at, and the cut was counted
-  cut_causes : (plan : Plan) → IfSome known (λ m. IsOkAnd (v m) (λ aim. Meets aim plan)) →
-      Rose old.files.faults new.files.faults ⊎ Rose old.out.faults new.out.faults →
-      StatusCauses p v known old new status.WriteFault
-  cut_causes plan by rose = search (arith, rules, told_map)
 
 -- Only words that are no command are refused as such. No judgement of contents refuses them: they are judged before any
 -- file is asked for.
@@ -133,9 +100,6 @@ unfolding captures_from
 never_captures r limit input [] m h = cc
 never_captures r limit input (row ∷ rows) m h = grind (arith, common_steps, never_captures r limit (input + 1) rows m)
 
-pub never_words : (r : Reader) (command : Command) (m : Contents) → IsOfContents (judged r command m)
-never_words r command m h = grind (arith, common_steps, never_captures)
-
 words_is : (r : Refusal) → (meaning_of r).status ≡ status.Words → r ≡ Words
 words_is r e = grind (arith, common_steps)
 
@@ -145,19 +109,14 @@ module _ (p : Pace) (a : Reader) (R W : List ℕ → Type 0) (T : Type 0) where
       StatusCauses p (judged a command) (known_to command old.files).told old new (status_of end)
   command_causes command old new (Ok x) h = grind (arith, common_steps)
   command_causes command old new (Err (Halted (Refused r))) h =
-      search (arith, rules, refusal_causes, counts_known, outruns_is, denial_causes, counts_same, same_faults)
+      search (arith, rules, halted_causes, counts_known, outruns_is, counts_same, known_faults)
   command_causes command old new (Err (Halted (Unread name))) h = grind (arith, common_steps, known_faults)
-  command_causes command old new (Err (Halted NoMemory)) h = search (arith, rules, memory_causes, counts_known)
-  command_causes command old new (Err (Cut at)) h = grind (arith, common_steps, cut_causes, cut_rose)
+  command_causes command old new (Err (Halted NoMemory)) h = search (arith, rules, told_any, counts_known)
+  command_causes command old new (Err (Cut at)) h = grind (arith, common_steps, cut_rose)
 
   not_words : (command : Command) (old new : World) (end : Result (Unit {0}) Stop) →
       CommandEnds p a R W T command old new end → status_of end ≡ status.Words → ⊥
-  not_words command old new end h e = grind (arith, common_steps, never_words, words_is)
-
-  causes_for : (command : Option Command) (old new : World) (end : Result (Unit {0}) Stop) →
-      EndsFor p a R W T command old new end →
-      StatusCauses p (judged_or_words a command) (known_by command old.files) old new (status_of end)
-  causes_for command old new end h = grind (arith, common_steps, command_causes)
+  not_words command old new end h e = grind (arith, common_steps, never_captures, words_is)
 
 -- the answer of the top call is the status of its end
 module _ (p : Pace) (a : Reader) (R W : List ℕ → Type 0) (T : Type 0) (command : Option Command) (old new : World)
@@ -165,7 +124,7 @@ module _ (p : Pace) (a : Reader) (R W : List ℕ → Type 0) (T : Type 0) (comma
     (ends : EndsFor p a R W T command old new end) where
   pub causes_at : {asked : Option Command} → asked ≡ command →
       StatusCauses p (judged_or_words a asked) (known_by asked old.files) old new answer
-  causes_at same = rw (is, same) (causes_for p a R W T command old new end ends)
+  causes_at same = grind (arith, common_steps, command_causes p a R W T)
 
   -- words that are no command end with the status of such words, and no others do
   pub words_end : command ≡ None → answer ≡ status.Words

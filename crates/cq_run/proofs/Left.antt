@@ -7,8 +7,7 @@ use Rattle.std.specs.FinMap.{insert}
 
 other_same : (m : Contents) (name bytes asked : List ℕ) → name ≢ asked → get (insert m name bytes) asked ≡ get m asked
 other_same m name bytes asked other =
-    let inserted = get-insert nat_list_cmp_total m name bytes asked in
-    grind (arith, common_steps, inserted, tells_apart exact_bytes asked name)
+    grind (arith, common_steps, get-insert nat_list_cmp_total m name bytes asked, tells_apart exact_bytes asked name)
 
 pub untouched : (ws : List (List ℕ × List ℕ)) (m left : Contents) (name : List ℕ) → all_replaced ws (Some m) ≡ Some left
     → AllByRecursion (λ w. w.0 ≢ name) ws → get left name ≡ get m name

@@ -1,6 +1,6 @@
 -- The files that an accepted configuration names. No two names clash, so a file that is read is none that is written,
 -- and the trace is not the log.
-use Rattle.cq_run.proofs.Terms.{rules, arith, ◌≡◌, ◌≢◌, ◌++◌, ◌&&◌, ℕ, suc, Bool, true, false, not, List, [], ◌∷◌, Option, None, Some, Ok, codes, is_some, refl, sym, inl, inr, IfSome, common_steps, AllByRecursion, list_any, and_from, not_from_false, bytes_eq-Decides, all_weaker, PortRow, Tables, at, first, unless, Named, apart_from, checks_in, clash, file_check, files_in, files_of, names_of, read_at, read_or_refused, tables_of, top_of, written_at, first_parts, Ports, Element, Top, DuplicateFile, EachPair, Has, has_left, has_right, pair_of_has}
+use Rattle.cq_run.proofs.Terms.{rules, arith, ◌≡◌, ◌≢◌, ◌++◌, ◌&&◌, ℕ, suc, true, false, List, [], ◌∷◌, None, Ok, codes, is_some, refl, sym, inl, inr, IfSome, common_steps, AllByRecursion, list_any, and_from, not_from_false, bytes_eq-Decides, all_weaker, PortRow, Tables, first, Named, apart_from, checks_in, clash, file_check, files_in, files_of, names_of, read_at, read_or_refused, tables_of, top_of, written_at, first_parts, Ports, Element, Top, EachPair, Has, has_left, has_right, pair_of_has}
 use Rattle.std.proofs.lemmas.List.Folds.{list_any-append}
 
 -- ## Checks that hold
@@ -16,14 +16,11 @@ files_checked text h = search (arith, rules, is_some, first_parts)
 abbrev pub ArePairs : List Named → Type 0
 ArePairs = EachPair (λ x n. clash n x ≡ false)
 
-no_clash : (b : Bool) (path : List ℕ) → at path (unless (not b) DuplicateFile) ≡ None → b ≡ false
-no_clash b path h = grind (arith, common_steps)
-
 pairs_in : (earlier names : List Named) → first (apart_from earlier names) ≡ None →
     AllByRecursion (λ k. list_any (clash k) earlier ≡ false) names × ArePairs names
 pairs_in earlier [] h = (tt, tt)
 pairs_in earlier (n ∷ names) h =
-    search (arith, rules, first_parts, all_weaker, list_any-append, no_clash, pairs_in (earlier ++ n ∷ []) names)
+    search (arith, rules, first_parts, all_weaker, list_any-append, pairs_in (earlier ++ n ∷ []) names)
 
 pub names_apart : (text : List ℕ) (t : Tables) → read_or_refused text ≡ Ok t → ArePairs (files_in t)
 unfolding read_or_refused
@@ -45,25 +42,16 @@ each_written : (P : List ℕ → Type 0) (i : ℕ) (rows : List PortRow) →
     ((n : Named) → Has (files_of i rows) n → n.is_read ≡ false → P n.file) → AllByRecursion (λ row. P row.write) rows
 each_written P i [] h = tt
 each_written P i (row ∷ rows) h =
-    let w : Named = written_at (Element Ports i) (codes "write") row.write in (
-      h w (search (arith, rules, has_left, has_right)) refl,
-      each_written P (suc i) rows (λ n k e. h n (has_right (names_of i row) (files_of (suc i) rows) n k) e),
-    )
+    let w : Named = written_at (Element Ports i) (codes "write") row.write in
+    search (arith, rules, has_left, has_right, h w, each_written P (suc i) rows)
 
 each_read : (P : List ℕ → Type 0) (i : ℕ) (rows : List PortRow) →
     ((n : Named) → Has (files_of i rows) n → n.is_read ≡ true → P n.file) →
     AllByRecursion (λ row. IfSome row.read P) rows
 each_read P i [] h = tt
-each_read P i (row ∷ rows) h = (
-  here row.read h,
-  each_read P (suc i) rows (λ n k e. h n (has_right (names_of i row) (files_of (suc i) rows) n k) e),
-)
-  where
-    here : (read : Option (List ℕ)) →
-        ((n : Named) → Has (files_of i (record row { read = read } ∷ rows)) n → n.is_read ≡ true → P n.file) →
-        IfSome read P
-    here None h = tt
-    here (Some file) h = h (read_at (Element Ports i) (codes "read") file) (inl refl) refl
+each_read P i (row ∷ rows) h =
+    let first = λ (file : List ℕ). h (read_at (Element Ports i) (codes "read") file) in
+    grind (arith, common_steps, first, has_right (names_of i row) (files_of (suc i) rows), each_read P (suc i) rows, h)
 
 -- no file that the tables write has this name
 pub record IsUnwritten (t : Tables) (name : List ℕ) : Type 0 where

@@ -1,7 +1,9 @@
 -- A switch of one port sends each cell in the slot in which it comes. Cells come one after another, at most one in a
 -- slot. So no cell waits when a slot begins; the cell that comes is alone in the one list, and leaves.
 -- The departures are the arrivals, and every packet leaves with its last cell, which alone is marked as last.
-use Rattle.cq_run.proofs.Terms.{common_steps, ◌⊎◌, inl, inr, ◌≡◌, ℕ, zero, suc, ◌+◌, ◌<◌, ◌≤◌, Bool, cond, List, [], ◌∷◌, map, replicate, Option, Some, None, Result, Ok, Err, refl, sym, ap, ◌∙◌, subst, ⊎_elim, arith, rules, ◌-◌, ◌*◌, length, flat_map, ◌==◌, append-nil, AllByRecursion, range_with_len, AllPairs, filter, cases_eq, cond-true, eq-eqb, and_from, Arrival, arriving, arriving_at, end_of, enough, traffic_of, Departure, TagFault, filter-append, arrivals, arrivals_at, arrivals_of, cell_of, cells, cells_of, t0_of, packet_at, start, IsInRange, IsLater, IsTraffic, traffic_is, departures_limited, whole_limited_run, LimitedRan, empty_limited, unlimited, all_weaker, run_as_before, same_sent, Captured, AreTables, classes_of, ports_of, Tables, machines_of, openings_of, ideal_departures, ran_ideal, ends_packet_at, leaving, packets_out, all_leave, as_it_leaves, ne_eqb, Cell, Queued, Machine, after_input, ranking, arriving_is, first_slot, ranked_none, NoLimits, all_slots, before_end, OutPacket, one_is, most_ports}
+use Rattle.cq_run.proofs.Terms.{common_steps, ◌⊎◌, inl, inr, ◌≡◌, ℕ, zero, suc, ◌+◌, ◌<◌, ◌≤◌, Bool, cond, List, [], ◌∷◌, map, replicate, Option, Some, None, Result, Ok, Err, refl, sym, ap, ◌∙◌, ⊎_elim, arith, rules, ◌-◌, ◌*◌, length, flat_map, ◌==◌, append-nil, AllByRecursion, range_with_len, filter, cases_eq, cond-true, eq-eqb, and_from, Arrival, arriving, arriving_at, end_of, enough, traffic_of, Departure, TagFault, filter-append, arrivals, arrivals_at, arrivals_of, cell_of, cells, cells_of, t0_of, packet_at, start, IsInRange, IsLater, IsTraffic, traffic_is, departures_limited, whole_limited_run, LimitedRan, empty_limited, unlimited, all_weaker, run_as_before, same_sent, Captured, AreTables, classes_of, ports_of, Tables, machines_of, openings_of, ideal_departures, ran_ideal, ends_packet_at, leaving, packets_out, all_leave, as_it_leaves, ne_eqb, Cell, Queued, Machine, after_input, ranking, arriving_is, first_slot, ranked_none, NoLimits, all_slots, before_end, OutPacket, one_is, most_ports}
+use Rattle.cq_base.proofs.{Each.all_give, Pooled.each_pair}
+use Rattle.cq_base.specs.Items.{EachPair}
 use Rattle.cq_ideal.specs.Ending.{arriving_from}
 use Rattle.cq_ideal.specs.IdealRun.{Ran, departures_of, ideal_run, departures_ran, empty_ideal}
 use Rattle.cq_ideal.specs.IdealSlot.{IdealState, Sent, departures_in, filled, fronts, ideal_sends, ideal_slot, put_all, rests}
@@ -116,10 +118,6 @@ unfolding departures_of departures_in
 in_slot_one s a q came gone e f h = grind (arith, common_steps)
 
 module _ (ms : List Machine) (inputs : ℕ) (many : suc inputs ≡ most_ports) where
-  run_empty : (s : ℕ) (ranks : List (List ℕ)) (ran : Ran) → ideal_run ms s [] (alone ranks) ≡ Ok ran → ran.gone ≡ []
-  unfolding ideal_run
-  run_empty s ranks ran h = cc
-
   -- from this slot on these leave in their slots
   abbrev LeaveFrom : ℕ → List Arrival → ℕ → Type 0
   LeaveFrom s came n = (ranks : List (List ℕ)) (ran : Ran) →
@@ -151,8 +149,8 @@ module _ (ms : List Machine) (inputs : ℕ) (many : suc inputs ≡ most_ports) w
 
   pub each_in_its_slot : (n s end : ℕ) (came : List Arrival) → InTurnFrom s came →
       AllByRecursion (λ a. a.slot < end) came → end ≤ s + n → LeaveFrom s came n
-  unfolding arriving_from departures_of
-  each_in_its_slot zero s end [] turn before all ranks ran h = grind (arith, common_steps, run_empty)
+  unfolding arriving_from departures_of ideal_run
+  each_in_its_slot zero s end [] turn before all ranks ran h = grind (arith, common_steps)
   each_in_its_slot zero s end (a ∷ came) turn before all ranks ran h = grind (arith, common_steps)
   each_in_its_slot (suc n) s end [] turn before all ranks ran h =
       idle_slot n s [] tt (each_in_its_slot n (s + 1) end [] tt tt (omega arith)) ranks ran h
@@ -166,22 +164,12 @@ module _ (ms : List Machine) (inputs : ℕ) (many : suc inputs ≡ most_ports) w
 
 -- ## Departures are arrivals
 
--- the first of these arrivals is of this slot or a later one
-abbrev BeginsFrom : ℕ → List Arrival → Type 0
-BeginsFrom slot [] = Unit {0}
-BeginsFrom slot (a ∷ came) = slot ≤ a.slot
-
-begins_later : (a : Arrival) (came : List Arrival) → a.cell.id.input ≡ 0 →
-    AllByRecursion (λ b. b.cell.id.input ≡ 0) came → AllPairs IsLater (a ∷ came) → BeginsFrom (a.slot + 1) came
-begins_later a came here all later = grind (arith, common_steps, later 0 1 a)
-
 in_turn : (classes slot : ℕ) (came : List Arrival) → AllByRecursion (IsInRange 1 classes) came →
-    AllPairs IsLater came → BeginsFrom slot came → InTurnFrom slot came
+    EachPair IsLater came → AllByRecursion (λ a. slot ≤ a.slot) came → InTurnFrom slot came
 in_turn classes slot [] ranges later first = tt
 in_turn classes slot (a ∷ came) ranges later first =
-    let inputs : AllByRecursion (λ b. b.cell.id.input ≡ 0) came = search (arith, rules, all_weaker) in
-    let next = λ (i j : ℕ). later (suc i) (suc j) in
-    search (arith, rules, begins_later a came, in_turn classes (a.slot + 1) came, next)
+    let next = all_give (IsLater a) (IsInRange 1 classes) (λ b. a.slot + 1 ≤ b.slot) in
+    search (arith, rules, next, in_turn classes (a.slot + 1) came)
 
 ran_ok : (P : List Departure → Type 0) (x : Result Ran TagFault) (sent : List Departure) →
     departures_ran x ≡ Ok sent → ((ran : Ran) → x ≡ Ok ran → P (departures_of 0 ran.gone)) → P sent
@@ -194,9 +182,6 @@ none_limited j = grind (arith, common_steps)
 same_departures : (x : Result LimitedRan TagFault) → departures_ran (unlimited x) ≡ departures_limited x
 same_departures x = grind (arith, common_steps)
 
-starts_alone : (ports : ℕ) (ranks : List (List ℕ)) → ports ≡ 1 → empty_ideal ports ranks ≡ alone ranks
-starts_alone ports ranks one = ap (λ (n : ℕ). empty_ideal n ranks) one
-
 pub sent_in_slot : (t : Tables) (came : List Arrival) (sent : List Departure) → ports_of t.setup ≡ 1 →
     NoLimits t.limits → IsTraffic (ports_of t.setup) (classes_of t.setup) came → ideal_departures t came ≡ Ok sent →
     AreInSlot came sent
@@ -206,17 +191,13 @@ sent_in_slot t came sent one none traffic h =
     let ports = ports_of t.setup in
     let ranks = openings_of t.setup in
     let whole = whole_limited_run t.limits ms came (empty_limited ports ranks) in
-    let P : ℕ → Type 0 = λ n. AllByRecursion (IsInRange n (classes_of t.setup)) came in
     let turn : InTurnFrom 0 came =
-    in_turn (classes_of t.setup) 0 came (subst P one traffic.in_range) traffic.one_by_one (begins came) in
+    in_turn (classes_of t.setup) 0 came (rw one at traffic.in_range) (each_pair IsLater came traffic.one_by_one)
+    (all_weaker _ (λ a. 0 ≤ a.slot) (λ a _. omega arith) came traffic.in_range) in
     ran_ok (λ l. AreInSlot came l) (ideal_run ms 0 (traffic_of came) (empty_ideal ports ranks)) sent
     (cc (same_sent ms ports ranks came, run_as_before t.limits ms ports ranks came none, same_departures whole, h))
     (λ ran is. each_in_its_slot ms 63 refl (enough came) 0 (end_of came) came turn (before_end came) (omega arith)
-    ranks ran (cc (all_slots came, starts_alone ports ranks one, is)))
-  where
-    begins : (came : List Arrival) → BeginsFrom 0 came
-    begins [] = tt
-    begins (a ∷ came) = omega arith
+    ranks ran (cc (all_slots came, one, is)))
 
 -- ## Every packet leaves, once and in its place: with its last cell, which alone is marked, in its slot
 

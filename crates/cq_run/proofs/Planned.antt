@@ -1,15 +1,14 @@
 -- From one judgement after another to a plan that meets what is aimed at: for each command what is judged of what it
 -- reads, and a plan that it comes to.
-use Rattle.cq_run.proofs.Terms.{resumed_best, resumed_slack, parted_best, parted_slack, rules, arith, ◌≡◌, ◌∙◌, ℕ, List, [], ◌∷◌, refl, sym, ap, ◌++◌, Result, Ok, Err, IfOk, IfErr, IsOk, common_steps, AllByRecursion, Departure, soak_captures, soak_tables, Captured, Tables, Call, Contents, Space, Closed, Command, Ideal, Run, Soak, Pass, Audit, Part, Resume, Given, Refusal, Halt, Aim, Reporting, Meets, Exactly, Auditing, Parting, Resuming, IsGiven, IsPassage, AreRead, IsAudited, AreGiven, IsJudged, IsHaltOf, Judges, Pace, InTurn, Uncounted, Plan, known_to, Reader, ◌>>=◌, ideally_sent, capture_in, text_in, state_in, capture_out, passed, audited, captures_out, resumed, file_alone, IsCrossing, IsIdeal, IsPassing, plain_tables, AreTables, Lasts, capture_of_all, trace_of, log_of, Audited, State, IsAuditHalted, IsAuditPassed, report_with, Crossed, IsPartHalt, IsResumeHalt, IsResuming, kept_by, IsPartText, IsResumedText, written}
+use Rattle.cq_run.proofs.Terms.{resumed_best, resumed_slack, parted_best, parted_slack, rules, arith, ◌≡◌, ◌∙◌, ℕ, List, [], ◌∷◌, refl, ap, Result, Ok, Err, IfOk, IfErr, IsOk, common_steps, Departure, soak_captures, soak_tables, Captured, Tables, Call, Contents, Space, Closed, Command, Ideal, Run, Soak, Pass, Audit, Part, Resume, Given, Refusal, Halt, Aim, Reporting, Meets, Exactly, Auditing, Resuming, IsGiven, IsPassage, AreRead, IsAudited, AreGiven, IsJudged, IsHaltOf, Judges, Pace, InTurn, Uncounted, Plan, known_to, Reader, ◌>>=◌, ideally_sent, capture_in, text_in, state_in, capture_out, passed, audited, file_alone, IsCrossing, IsIdeal, IsPassing, plain_tables, AreTables, Lasts, capture_of_all, trace_of, Audited, State, IsAuditHalted, IsAuditPassed, IsPartHalt, IsResumeHalt, IsResuming, IsPartText, written, recursion_from_All}
 use Rattle.cq_run.proofs.Stopped.{taken_up}
-use Rattle.cq_run.proofs.Chain.{counts_after, judges_computed, judges_computed_err}
+use Rattle.cq_run.proofs.Chain.{judges_computed, judges_computed_err}
 use Rattle.cq_run.proofs.Told.{told_any, told_map, told_two}
-use Rattle.cq_run.proofs.Crossed.{emulates, plan_is, sent_ok}
-use Rattle.cq_run.proofs.Reached.{computed_halts, computed_plans, given_so, read_told, Reached, begun, read_on, Settles, settled}
+use Rattle.cq_run.proofs.Crossed.{sent_ok}
+use Rattle.cq_run.proofs.Reached.{computed_halts, computed_plans, given_so, read_told, Reached, begun, read_on, settled}
 use Rattle.cq_run.proofs.OnePort.{all_leave_is, none_limited}
 use Rattle.cq_run.proofs.Stays.{capture_stays, short_stays}
 use Rattle.cq_run.specs.declared.denial.Denial.TheVariants.{LongLog, LongTrace}
-use Rattle.cq_run.proofs.TextRead.{text_stands}
 use Rattle.cq_run.specs.Headline.{IsStopped, IsTakenUp}
 use Rattle.cq_run.specs.declared.refusal.StateFault.TheVariants as stopped
 use Rattle.cq_run.specs.declared.judge.Asked.TheVariants as asked
@@ -18,14 +17,10 @@ use Rattle.cq_run.specs.declared.judge.Asked.TheVariants as asked
 pub known_faults : (command : Command) (s : Space) → (known_to command s).faults ≡ s.faults
 known_faults command s = grind (arith, common_steps)
 
-pub same_faults : (command : Command) (old new : Space) →
-    (known_to command new).faults ≡ (known_to command old).faults → new.faults ≡ old.faults
-same_faults command old new e = sym (known_faults command new) ∙ e ∙ known_faults command old
-
 -- the count of faults that a command knows of is that of the file space
 pub counts_known : (p : Pace) (U V : Type 0) (command : Command) (old new : Space) → (U → V) →
     Uncounted p U (known_to command old).faults (known_to command new).faults → Uncounted p V old.faults new.faults
-counts_known p U V command old new f h = grind (arith, common_steps, counts_after, known_faults)
+counts_known p U V command old new f h = grind (arith, common_steps)
 
 -- what is judged of a command that is this one
 pub judged_as : {S : Type 0} (space : S → Space) (may_fail : Call → S → S → Type 0) (keeps : S → S → Type 0) (p : Pace)
@@ -66,11 +61,6 @@ module _ {S : Type 0} {space : S → Space} {may_fail : Call → S → S → Typ
       }
   soak_judged (Err halt) meets none is halts = search (arith, rules, judges_computed_err)
 
--- a plan of any names
-pub all_any : (ws : List (List ℕ × List ℕ)) → AllByRecursion (λ _. Unit {0}) ws
-all_any [] = tt
-all_any (w ∷ ws) = (tt, all_any ws)
-
 -- ## Judging a configuration, its captures, and then what the ideal switch sends of them
 
 module _ {S : Type 0} {space : S → Space} {may_fail : Call → S → S → Type 0} {keeps : S → S → Type 0} {p : Pace}
@@ -81,8 +71,8 @@ module _ {S : Type 0} {space : S → Space} {may_fail : Call → S → S → Typ
       IfErr result (IsHaltOf (ideally_sent given.tables given.captures)) →
       IsJudged space may_fail keeps p (Run config) old now result
   run_judged {given = given} is (Ok plan) crossing refused = computed_plans _ _ (given_so asked.Run is)
-      crossing.is_sent (crossing.records, crossing.keeps_up.runs, crossing.written) (all_any plan.writes) (λ r.
-      told_map (space old).told _ _ (emulates given.tables given.captures plan crossing r config) (read_told is r))
+      crossing.is_sent (crossing.records, crossing.keeps_up.runs, crossing.written)
+      (search (rules, recursion_from_All)) (λ r. let read = read_told is r in search (arith, rules, told_map))
   run_judged is (Err halt) crossing refused = computed_halts _ _ (given_so asked.Run is) halt refused
 
   -- the same of the ideal switch
@@ -91,7 +81,7 @@ module _ {S : Type 0} {space : S → Space} {may_fail : Call → S → S → Typ
       IfErr result (IsHaltOf (ideally_sent given.tables given.captures)) →
       IsJudged space may_fail keeps p (Ideal config) old now result
   ideal_judged is (Ok plan) ideal refused = computed_plans _ _ (given_so asked.Ideal is) ideal.is_sent ideal.written
-      (all_any plan.writes) (λ r. told_any (space old).told _ (λ m. tt))
+      (search (rules, recursion_from_All)) (λ r. told_any (space old).told _ (λ m. tt))
   ideal_judged is (Err halt) ideal refused = computed_halts _ _ (given_so asked.Ideal is) halt refused
 
 -- ## Passing: what leaves a switch of one port, from the one capture that is read
@@ -111,7 +101,7 @@ module _ (from to : List ℕ) (packets : List Captured) where
 
   module _ (plan : Plan) (is : IsPassing (plain_tables from to) packets to plan) where
     plan_passed : plan ≡ passed from to packets is.sent
-    plan_passed = plan_is plan _ [] is.writes is.text
+    plan_passed = grind (arith, common_steps)
 
     passage_at : (r : Reader) → AreTables (plain_tables from to) → (m : Contents) →
         capture_in r from 0 (plain_tables from to).limit_bytes m ≡ Ok packets → IsPassage r from to m plan
@@ -150,10 +140,6 @@ last t captures trace log = ideally_sent t captures >>= (λ sent. Ok (Auditing t
 abbrev pub from_log : Tables → List (List Captured) → List ℕ → Contents → Result Aim Refusal
 from_log t captures trace m = text_in LongLog t.log m >>= (λ log. last t captures trace log)
 
-pub halt_settles : {t : Tables} {captures : List (List Captured)} {trace log : List ℕ} (halt : Halt) →
-    IsAuditHalted t captures trace log halt → Settles (last t captures trace log) (Err halt)
-halt_settles halt h = grind (arith, common_steps)
-
 module _ (given : Given) (trace log : List ℕ) where
   -- what a yes says
   emulates_at : (r : Reader) (config : List ℕ) (plan : Plan) → IsAuditPassed given.tables given.captures trace log →
@@ -165,9 +151,9 @@ module _ (given : Given) (trace log : List ℕ) where
     captures = given.captures;
     read = read;
     trace = trace;
-    traced = text_stands (Audited LongTrace) _ given.tables.trace m trace texts.0;
+    traced = search (arith, rules);
     log = log;
-    logged = text_stands (Audited LongLog) _ given.tables.log m log texts.1;
+    logged = search (arith, rules);
     audit = passed.meets.log_is;
     stable = passed.stable;
     slack = passed.slack;
@@ -203,19 +189,10 @@ module _ {S : Type 0} {space : S → Space} {keeps : S → S → Type 0} {old s1
         (λ r. told_two told _ _ _ (emulates_at given trace log r config plan passed written) (read_told is r)
         (told_two told _ _ _ (λ m a b. (a, b)) (rw is.told at traced.ok)
         (rw (traced.told, is.told) at logged.ok)))
-    audit_judged (Err halt) passed written halted = search (rules, settled, at_last, halt_settles)
+    audit_judged (Err halt) passed written halted =
+        settled at_last (Err halt) (grind (arith, common_steps)) tt (λ r. tt)
 
 -- ## Stopping a run and taking one up: the configuration, its captures, and then the text of a state
-
--- what denies such an aim can come where contents are not told
-module _ (t : Tables) (captures : List (List Captured)) where
-  part_settles : (slots : ℕ) (name : List ℕ) (halt : Halt) → IsPartHalt t captures slots halt →
-      Settles (Ok (Parting t captures slots name)) (Err halt)
-  part_settles slots name halt h = grind (arith, common_steps)
-
-  resume_settles : (text : List ℕ) (halt : Halt) → IsResumeHalt t captures text halt →
-      Settles (Ok (Resuming t captures text)) (Err halt)
-  resume_settles text halt h = grind (arith, common_steps)
 
 -- what is said of a run that stops, and of one that goes on
 module _ (t : Tables) (captures : List (List Captured)) (text : List ℕ) {r : Reader} {config state : List ℕ}
@@ -244,7 +221,7 @@ module _ (t : Tables) (captures : List (List Captured)) (text : List ℕ) {r : R
         read = read;
         given = is.given;
         text = text;
-        found = search (arith, rules, text_stands);
+        found = search (arith, rules);
         kept = is.kept;
         goes_on = is.goes_on;
         input_best = resumed_best t captures is.given.tables is.given.each goes.from is.kept can goes.resumed;
@@ -261,10 +238,9 @@ module _ {S : Type 0} {space : S → Space} {keeps : S → S → Type 0} {old no
       IsJudged space may_fail keeps InTurn (Part config slots name) old now result
   part_judged {slots = slots} (Ok plan) are (text, text_is, written) halted =
       settled (given_so (asked.Part slots name) is) (Ok plan) (_, refl, (text, text_is, written))
-      (rw written (refl, tt)) (λ r. told_map (space old).told _ _
-      (λ m are_read. stops_as _ _ text are are_read text_is written) (read_told is r))
-  part_judged {slots = slots} (Err halt) are text halted = settled (given_so (asked.Part slots name) is) (Err halt)
-      (part_settles given.tables given.captures slots name halt halted) tt (λ r. tt)
+      (rw written (refl, tt)) (λ r. search (arith, rules, told_map, stops_as, read_told is r))
+  part_judged {slots = slots} (Err halt) are text halted =
+      settled (given_so (asked.Part slots name) is) (Err halt) (grind (arith, common_steps)) tt (λ r. tt)
 
   module _ (lasts : Lasts keeps) {new : S} (kept : keeps now new) {Q : List ℕ → Type 0} {text : List ℕ}
       (read : Judges InTurn (state_in name) Q (space now) (space new) (Ok text)) where
@@ -279,16 +255,7 @@ module _ {S : Type 0} {space : S → Space} {keeps : S → S → Type 0} {old no
         IfErr result (IsResumeHalt given.tables given.captures text) →
         IsJudged space may_fail keeps InTurn (Resume config name) old new result
     resume_judged (Ok plan) met refused =
-        settled at_state (Ok plan) (_, refl, (met.kept, met.goes_on, met.written)) (all_any plan.writes)
+        settled at_state (Ok plan) (_, refl, (met.kept, met.goes_on, met.written)) (search (rules, recursion_from_All))
         (λ r. told_two (space old).told _ _ _ (λ m are_read d. goes_as _ _ text are_read d met) (read_told is r)
         (rw is.told at read.ok))
-    resume_judged (Err halt) met refused = search (rules, settled, at_state, resume_settles)
-
--- what was kept of a run that goes on is built
-pub resuming_is : {t : Tables} {captures : List (List Captured)} {text : List ℕ} (c : Crossed) {plan : Plan} →
-    AreGiven t captures → IsResumedText t captures text (kept_by c) →
-    plan.writes ≡ captures_out t captures c.run.sent.items 0 t.ports ++ (t.trace, trace_of c.run.sent.items)
-    ∷ (t.log, log_of c.run.note.items) ∷ [] →
-    plan.text ≡ report_with c.run.figures c.run.refused.items → IsResuming t captures text plan
-unfolding resumed
-resuming_is c {plan} are goes writes report = search (arith, rules, plan_is plan _ _ writes report)
+    resume_judged (Err halt) met refused = settled at_state (Err halt) (grind (arith, common_steps)) tt (λ r. tt)

@@ -2,9 +2,9 @@
 -- the rest, is reading them all, and what ends one of these ends the whole. Where files are read ahead, reading leaves
 -- contents as they are, so the first capture is judged as if nothing had come between. Where it ends the whole, the
 -- later inputs say nothing but what the count of faults may show.
-use Rattle.cq_run.proofs.Terms.{rules, ◌≡◌, ◌<◌, ◌≤◌, ℕ, ◌+◌, List, [], ◌∷◌, ◌++◌, length, take, drop, get_or, refl, arith, length-take-le, Result, Ok, Err, Option, None, Some, IfSome, IfOk, IfErr, MatchOption, common_steps, take_all, take_more, Contents, Space, Closed, Captured, PortRow, Refusal, Halt, Judges, Halts, InTurn, Ahead, AnyName, Uncounted, Reader, ◌>>=◌, packets_at, captures_from, Spells, Call, Fails, Lasts, Reads, NoMemory}
+use Rattle.cq_run.proofs.Terms.{rules, ◌≡◌, ◌<◌, ℕ, ◌+◌, List, [], ◌∷◌, ◌++◌, length, take, drop, get_or, refl, arith, length-take-le, Result, Ok, Err, Option, Some, IfSome, IfOk, IfErr, MatchOption, common_steps, take_more, Contents, Space, Closed, Captured, PortRow, Refusal, Halt, Judges, Halts, InTurn, Ahead, AnyName, Uncounted, Reader, ◌>>=◌, packets_at, captures_from, Spells, Call, Fails, Lasts, Reads}
 use Rattle.cq_run.proofs.Stays.{captures_from_stay, packets_stay}
-use Rattle.cq_run.proofs.Chain.{judges_then, judges_after, judges_any, judges_both, judges_computed, judges_as, counts_of, halts_at, name_after, fails_after}
+use Rattle.cq_run.proofs.Chain.{judges_then, judges_after, judges_both, judges_computed, judges_as, counts_of, name_after, fails_after}
 use Rattle.cq_run.specs.declared.decoding.Decoding.{Decoding}
 use Rattle.cq_run.specs.Decoding.{HasBegun, IsBegunFor, source}
 use Rattle.cq_run.specs.Input.{IsHaltFor, IsInFront}
@@ -64,19 +64,6 @@ module _ (r : Reader) (limit : ℕ) (rows : List PortRow) (k : ℕ) (row : PortR
   reads_more e g h =
       rw e (judges_as more_is (judges_both then_this g (judges_both _ h (judges_computed h.closed refl))))
 
-module _ (r : Reader) (limit : ℕ) (rows : List PortRow) {R : List ℕ → Type 0} where
-  -- all ports were read
-  pub reads_all : {k : ℕ} {Q : List ℕ → Type 0} {old new : Space} {made : List Packets} → length rows ≤ k →
-      Judges InTurn (captures_from r limit 0 (take k rows)) Q old new (Ok made) →
-      Judges InTurn (captures_from r limit 0 rows) R old new (Ok made)
-  reads_all {k} over h = judges_any (rw (take_all k rows over) at h)
-
-  -- no port was read yet
-  pub reads_none : {at : Space} {made : List Packets} → at.mode ≡ Closed → made ≡ [] →
-      Judges InTurn (captures_from r limit 0 (take 0 rows)) R at at (Ok made)
-  unfolding captures_from
-  reads_none c e = rw e (judges_computed {r = Ok []} c refl)
-
 -- ## Reading ahead: the first input was read before the later ones, and is looked at once these have been read
 
 -- in a call that reads this name, the object failed since then
@@ -88,9 +75,8 @@ module _ (r : Reader) (input limit : ℕ) where
   arrived : (told : Option Contents) (packets : List Captured) (read : Option (List ℕ)) (begun : Option Decoding)
       → IsBegunFor read input limit told begun → MatchOption begun (packets ≡ []) (λ d. Spells (source d) packets)
       → IfSome told (λ m. packets_at r input limit read m ≡ Ok packets)
-  arrived told packets None None b h = grind (arith, common_steps, told_any)
   arrived told packets (Some name) (Some d) b h = grind (arith, common_steps, capture_is r name input limit (source d))
-  arrived told packets read begun b h = absurd b
+  arrived told packets read begun b h = grind (arith, common_steps, told_any)
 
   -- what is wrong with its bytes ends judging
   halted : (R : List ℕ → Type 0) (old new : Space) (halt : Halt) (read : Option (List ℕ)) (begun : Option Decoding)
@@ -115,7 +101,7 @@ module _ (r : Reader) (limit input : ℕ) (row : PortRow) (rows : List PortRow) 
   pub file_ends : {R : List ℕ → Type 0} {old new : Space} {halt : Halt} →
       Halts InTurn (packets_at r input limit row.read) R old new halt → new.mode ≡ Closed → new.told ≡ old.told →
       Judges Ahead (captures_from r limit input (row ∷ rows)) R old new (Err halt)
-  file_ends {R} {old} {new} {halt} h c t = grind (arith, common_steps, first_ends, halts_at)
+  file_ends h c t = grind (arith, common_steps, first_ends)
 
 -- what failed since the first file was read failed since this call began, for no fault was counted before
 module _ {S : Type 0} (space : S → Space) {keeps : S → S → Type 0} {row : PortRow} {input limit : ℕ} {old mid : S}
@@ -143,15 +129,12 @@ module _ {S : Type 0} (space : S → Space) {keeps : S → S → Type 0} {row : 
     capture_ends : {halt : Halt} {later : Result (List (List Captured)) Halt} →
         MatchOption begun ⊥ (λ d. IsHaltFor input (source d) halt) → Later later → Whole (Err halt)
     capture_ends {halt} {later} h g =
-        let here = halted r input limit Ever (space old) (space new) halt row.read begun b.decoding h
-        (name_after Ahead Since Ever (space old).faults (space mid).faults (space new).faults ever b.uncounted
-        (counts_of (captures_from r limit (input + 1) rows) Since (space mid) (space new) later g)) in
-        first_ends r limit input row rows (search (arith, rules))
+        let here = halted r input limit Ever (space old) (space new) halt row.read begun b.decoding h in
+        first_ends r limit input row rows (search (arith, rules, name_after, ever, counts_of))
 
     module _ (packets : List Captured) (h : MatchOption begun (packets ≡ []) (λ d. Spells (source d) packets)) where
       first : Judges Ahead (packets_at r input limit row.read) Ever (space old) (space mid) (Ok packets)
-      first =
-          let ok = arrived r input limit (space old).told packets row.read begun b.decoding h in search (arith, rules)
+      first = grind (arith, common_steps, arrived r input limit (space old).told packets row.read begun b.decoding h)
 
       -- the first capture is sound, and a later one ends it
       later_ends : {halt : Halt} → Later (Err halt) → Whole (Err halt)
@@ -162,12 +145,7 @@ module _ {S : Type 0} (space : S → Space) {keeps : S → S → Type 0} {row : 
       -- all are sound
       all_arrive : {others : List (List Captured)} → Later (Ok others) → Whole (Ok (packets ∷ others))
       unfolding captures_from
-      all_arrive g = judges_both (then_later r limit input row rows) first
-          (judges_both _ g (judges_computed g.closed refl))
-
-      -- all are sound, and memory ran out after that
-      memory_ends : {others : List (List Captured)} → Later (Ok others) → Whole (Err NoMemory)
-      memory_ends g = grind (arith, common_steps)
+      all_arrive g = search (arith, rules, judges_both, first, judges_computed)
 
     -- whatever the first and the later ones came to, with the first in front
     pub together : (first : Result (List Captured) Halt) (later result : Result (List (List Captured)) Halt) →
@@ -176,14 +154,7 @@ module _ {S : Type 0} (space : S → Space) {keeps : S → S → Type 0} {row : 
         IsInFront first later result → Whole result
     together (Err halt) later result spelt halts g is = rw is (capture_ends halts g)
     together (Ok packets) (Err halt) result spelt halts g is = rw is (later_ends packets spelt g)
-    together (Ok packets) (Ok others) (Ok all) spelt halts g is = rw is (all_arrive packets spelt g)
-    together (Ok packets) (Ok others) (Err halt) spelt halts g is = rw is (memory_ends packets spelt g)
-
--- with the first in front there is one more
-pub one_more : (row : PortRow) (rest : List PortRow) (first : Result Packets Halt)
-    (later result : Result (List Packets) Halt) → IfOk later (λ made. length made ≡ length rest) →
-    IsInFront first later result → IfOk result (λ made. length made ≡ length (row ∷ rest))
-one_more row rest first later result each is = grind (arith, common_steps)
+    together (Ok packets) (Ok others) result spelt halts g is = grind (arith, common_steps, all_arrive packets spelt g)
 
 -- no input is left
 pub none_arrive : (r : Reader) (limit input : ℕ) (R : List ℕ → Type 0) (at : Space) → at.mode ≡ Closed

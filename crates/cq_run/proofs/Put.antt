@@ -1,15 +1,10 @@
 -- Texts that are put one after another. A text that was cut short after others were put whole is a front of all: what
 -- was taken before it has a known length, so the front's length is that and the piece's. A front of a text is a front
 -- of each longer text. So what comes of putting the pieces of a line that are left comes of putting the line.
-use Rattle.cq_run.proofs.Terms.{rules, ◌≡◌, ◌<◌, ◌≤◌, ℕ, ◌+◌, List, [], ◌∷◌, ◌++◌, length, take, drop, get_or, refl, ap, sym, ◌∙◌, arith, append_assoc, Result, Ok, Err, IsErr, common_steps, append_known, flat_map, append-nil, take_at, take-append-drop, drop_all, drop_more, take-append-add, Taken, Puts, joined, line, piece_text}
+use Rattle.cq_run.proofs.Terms.{rules, ◌≡◌, ◌<◌, ◌≤◌, ℕ, ◌+◌, List, [], ◌∷◌, ◌++◌, length, take, drop, get_or, refl, arith, append_assoc, Result, Ok, Err, IsErr, common_steps, append_known, flat_map, append-nil, take_at, take-append-drop, drop_all, drop_more, take-append-add, Taken, Puts, joined, line, piece_text}
 use Rattle.cq_run.specs.declared.say.Piece.{Piece}
 use Rattle.cq_space.specs.Whole.{PutsAll}
 use Rattle.cq_space.specs.declared.whole.WriteFault.{WriteFault}
-
--- the digits that were written at the front
-pub front_is : (text old new : List ℕ) (count : ℕ) → count ≡ length text → new ≡ text ++ drop count old →
-    take count new ≡ text
-front_is text old new count c e = ap (take count) e ∙ take_at text (drop count old) count (sym c)
 
 pub puts_as : {E : Type 0} (a b : List ℕ) (old new : Taken) (r : Result (Unit {0}) E) → a ≡ b → Puts a old new r →
     Puts b old new r
@@ -34,8 +29,7 @@ puts_then a b old mid new (Err f) e l h = grind (arith, common_steps, take-appen
 
 joined_is : (ps : List Piece) → joined ps ≡ flat_map piece_text ps
 joined_is [] = refl
-joined_is (p ∷ []) = sym (append-nil (piece_text p))
-joined_is (p ∷ q ∷ ps) = ap (λ (rest : List ℕ). piece_text p ++ rest) (joined_is (q ∷ ps))
+joined_is (p ∷ ps) = grind (arith, common_steps, append-nil, joined_is ps)
 
 -- a piece, as the whole of a call puts it
 pub puts_all : {text text' : List ℕ} {old new : Taken} (r : Result (Unit {0}) WriteFault) → text ≡ text' →

@@ -1,14 +1,13 @@
 -- What is known at a moment of judging a command. All that was judged so far was accepted: no fault was counted, the
 -- file space is closed, its contents are as before, and of these the command comes to what is left to judge. So where a
 -- name that is read next is unread or refused, or what was read is judged, that is what the command comes to.
-use Rattle.cq_run.proofs.Terms.{rules, arith, ◌≡◌, ◌∙◌, ◌⊎◌, ℕ, IsTrue, List, subst, inl, inr, length, Option, IfOk, IfSome, Result, Ok, Err, common_steps, AllByRecursion, Captured, Tables, Call, Fails, Lasts, Reads, Closed, Contents, Space, Command, Given, Refusal, Halt, NoMemory, Refused, Unread, Aim, Auditing, Crossing, Denies, Exactly, Meets, Parting, Resuming, Departure, switched, command_asking, ideally_sent, state_in, text_in, EndsGiven, IsGiven, judged_of_given, Emulates, AreRead, IsJudged, IsHaltOf, Judges, Pace, InTurn, Plan, Decides, IsDenial, known_to, Reader, meaning_of, ◌>>=◌, MayRead, MayWrite, captures_in, judged, tables_in, AreTables, ports_of}
+use Rattle.cq_run.proofs.Terms.{rules, arith, ◌≡◌, ◌⊎◌, ℕ, IsTrue, List, subst, inl, inr, length, Option, IfOk, IfSome, Result, Ok, Err, common_steps, AllByRecursion, Captured, Tables, Call, Fails, Lasts, Reads, Closed, Contents, Space, Command, Given, Refusal, Halt, NoMemory, Refused, Unread, Aim, Auditing, Crossing, Denies, Exactly, Meets, Parting, Resuming, Departure, switched, command_asking, ideally_sent, state_in, text_in, EndsGiven, IsGiven, judged_of_given, Emulates, AreRead, IsJudged, IsHaltOf, Judges, Pace, InTurn, Plan, Decides, IsDenial, known_to, Reader, meaning_of, ◌>>=◌, MayRead, MayWrite, captures_in, judged, tables_in, AreTables, ports_of}
 use Rattle.cq_run.specs.declared.denial.Denial.TheVariants.{LongLog, LongTrace}
 use Rattle.cq_run.specs.declared.judge.Asked.{Asked}
 use Rattle.cq_run.specs.declared.judge.Asked.TheVariants as asked
 use Rattle.cq_run.proofs.Chain.{ComesTo, comes_to_itself, goes_on, judges_back, judges_computed_err, judges_more, judges_then, counts_same, judges_after, judges_at, fails_after}
 use Rattle.cq_run.proofs.TextRead.{from_front}
 use Rattle.cq_run.proofs.Stays.{Stays, captures_from_stay, tables_stay}
-use Rattle.cq_run.proofs.Told.{told_map}
 
 -- ## What is computed of all that was read
 
@@ -99,10 +98,7 @@ module _ {S : Type 0} {space : S → Space} {keeps : S → S → Type 0} {comman
   module _ {now : S} {v : Result Aim Refusal} (reached : Reached space keeps command old now (λ r m. v)) where
     aims : (p : Pace) (r : Reader) (R : List ℕ → Type 0) (aim : Aim) → v ≡ Ok aim →
         Judges p (judged r command) R (space old) (space now) (Ok aim)
-    aims p r R aim e =
-        let ok = told_map (space old).told (ComesTo (judged r command) (λ m. v)) (λ m. judged r command m ≡ Ok aim)
-        (λ m c. c.same ∙ e) (reached.comes r) in
-        grind (arith, common_steps)
+    aims p r R aim e = grind (arith, common_steps, reached.comes r)
 
 -- once a configuration is read, what is judged of what it gives is left
 pub given_so : {S : Type 0} {space : S → Space} {keeps : S → S → Type 0} {config : List ℕ} {old now : S} {given : Given}
@@ -159,8 +155,7 @@ module _ {S : Type 0} {space : S → Space} {may_fail : Call → S → S → Typ
       let judges = λ (r : Reader). known command reached.knows p r (Failed space may_fail keeps command old new)
       (space old) (space new) (Ok plan) (aim, meets, aims reached p r _ aim e) in search (arith, rules, judges)
   settled reached (Err (Refused refusal)) (untold, inl e) names emulates =
-      halted reached.knows (λ r. judges_back (λ name u. u) (reached.comes r) reached.told reached.uncounted
-      (judges_computed_err reached.closed (e, untold))) reached.kept
+      halted reached.knows (λ r. search (arith, rules, judges_back, reached.comes r, judges_computed_err)) reached.kept
   settled {v} reached (Err (Refused refusal)) (untold, inr (aim, e, denied)) names emulates = record {
     judges = λ r.
         let judges = aims reached p r (Failed space may_fail keeps command old new) aim e in

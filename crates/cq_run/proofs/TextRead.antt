@@ -1,9 +1,7 @@
 -- What is told of a text, as the trace or the log of an audit or the state of a stopped run, from what was read under
 -- its name: its bytes, where they are not too many. The name that was asked for is the one that is to be read, or a
 -- copy of it.
-use Rattle.cq_run.proofs.Terms.{rules, ◌≡◌, ◌<◌, ◌≤◌, ◌⊎◌, ℕ, IsTrue, List, length, inl, inr, arith, codes, false, Option, Some, IfSome, Ok, Err, IsErrOf, Vec, nat_le, le-ltb, lt-ltb, get, Global, Contents, bytes_of, Refusal, Missing, Configuration, IsRefused, IsToRead, meaning_of, short_in, tables_in, first, read_or_refused, common_steps, ◌∙◌, sym, slice_index, Captured, PcapRefusal, IsFaulty, Spells, Space, Halts, AnyName, Pace, Uncounted, Reader, halt_for, capture_in, file_in, Lacks, ReadRefusal, spelt_or_faulty, fault_is_read, spelt_is_read, is_fault}
-use Rattle.cq_run.specs.declared.refusal.CaptureFault.TheVariants.{Read}
-use Rattle.cq_space.specs.declared.whole.ReadRefusal.TheVariants as whole
+use Rattle.cq_run.proofs.Terms.{rules, ◌≡◌, ◌<◌, ◌≤◌, ◌⊎◌, ℕ, IsTrue, List, length, inl, inr, arith, codes, false, Option, Some, IfSome, Ok, Err, nat_le, le-ltb, lt-ltb, get, Contents, bytes_of, Refusal, Missing, Configuration, IsRefused, IsToRead, meaning_of, short_in, tables_in, first, read_or_refused, common_steps, ◌∙◌, sym, slice_index, Captured, PcapRefusal, IsFaulty, Spells, Space, Halts, AnyName, Pace, Uncounted, Reader, halt_for, capture_in, file_in, Lacks, spelt_or_faulty, fault_is_read, spelt_is_read}
 use Rattle.cq_run.proofs.Stays.{get-remove_same}
 use Rattle.cq_pcap.specs.Reading.{packets_of}
 
@@ -26,17 +24,6 @@ module _ (long : Refusal) (limit : ℕ) (name : List ℕ) where
       IsToRead (short_in long limit name) told asked
   text_is_to_read told asked a = grind (arith, common_steps, get-remove_same)
 
--- ## What was accepted
-
-pub text_stands : (long : Refusal) (limit : ℕ) (name : List ℕ) (m : Contents) (bytes : List ℕ) →
-    short_in long limit name m ≡ Ok bytes → get m name ≡ Some bytes
-text_stands long limit name m bytes h = search (arith, rules)
-
--- a name that is missing was read with no fault
-pub missing_is_no_fault : (r : ReadRefusal) (P : Type 0) → r ≡ whole.Missing →
-    IsErrOf {T = Vec ℕ Global} (Err r) whole.Fault ⊎ P → P
-missing_is_no_fault r P e h = grind (arith, common_steps)
-
 pub too_long : (text : List ℕ) → nat_le (length text) 1048576 ≡ false →
     read_or_refused text ≡ Err (record { code = 10; path = codes "-" })
 unfolding read_or_refused first
@@ -45,11 +32,6 @@ too_long text e = rw e cc
 pub configuration_long : (told : Option Contents) (name asked path : List ℕ) → asked ≡ name → path ≡ codes "-" →
     IfSome told (λ m. 1048576 < length (bytes_of m asked)) → IsRefused (tables_in name) told (Configuration 10 path)
 configuration_long told name asked path a e h = search (arith, rules, too_long)
-
--- a file that is too long was read with no fault
-pub long_is_no_fault : (r : ReadRefusal) (n : ℕ) (P : Type 0) → r ≡ whole.Long n →
-    IsErrOf {T = Vec ℕ Global} (Err r) whole.Fault ⊎ P → P
-long_is_no_fault r n P e h = grind (arith, common_steps)
 
 pub configuration_is_to_read : (told : Option Contents) (name : List ℕ) → IsToRead (tables_in name) told name
 configuration_is_to_read told name = grind (arith, common_steps, get-remove_same)
@@ -68,10 +50,6 @@ one_answer r s bytes are = go (spelt_or_faulty bytes are)
     go (inl (packets, h)) = r.spelt bytes packets h ∙ sym (s.spelt bytes packets h)
     go (inr (fault, h)) = r.faulty bytes fault h ∙ sym (s.faulty bytes fault h)
 
--- bytes are at no fault by want of memory
-faulty_told : (bytes : List ℕ) (fault : PcapRefusal) → IsFaulty bytes fault → IsTrue (is_fault (Read fault))
-faulty_told bytes fault h = grind (arith, common_steps)
-
 module _ (r : Reader) (name : List ℕ) (input limit : ℕ) (bytes : List ℕ) where
   pub capture_is : (told : Option Contents) (packets : List Captured) →
       IfSome told (λ m. file_in name input limit m ≡ Ok bytes) → Spells bytes packets
@@ -83,8 +61,4 @@ module _ (r : Reader) (name : List ℕ) (input limit : ℕ) (bytes : List ℕ) w
       IfSome old.told (λ m. file_in name input limit m ≡ Ok bytes) → IfSome found (IsFaulty bytes)
       → Uncounted p (AnyName R) old.faults new.faults →
       Halts p (capture_in r name input limit) R old new (halt_for input found)
-  capture_halts p R old new found at faulty kept = grind (arith, common_steps, faulty_told)
-
--- a file that was read was read with no fault
-pub read_is_no_fault : (v : Vec ℕ Global) (P : Type 0) → IsErrOf {T = Vec ℕ Global} (Ok v) whole.Fault ⊎ P → P
-read_is_no_fault v P h = grind (arith, common_steps)
+  capture_halts p R old new found at faulty kept = grind (arith, common_steps)

@@ -1,5 +1,5 @@
--- What holds of told contents, and of what a sink tells.
-use Rattle.cq_run.proofs.Terms.{arith, common_steps, ℕ, List, ◌≡◌, Option, IfSome, Result, Err, IsErrAnd, Puts, TakesText, Taken}
+-- What holds of told contents, and what the exit of a `?` returns.
+use Rattle.cq_run.proofs.Terms.{arith, common_steps, ◌≡◌, Option, IfSome, Result, Err, IsErrAnd}
 
 -- a fact that follows from another
 pub told_map : {A : Type 0} (told : Option A) (P Q : A → Type 0) → ((m : A) → P m → Q m) → IfSome told P → IfSome told Q
@@ -13,11 +13,6 @@ told_two told P Q R f g h = grind (arith, common_steps)
 -- a fact that always holds
 pub told_any : {A : Type 0} (told : Option A) (P : A → Type 0) → ((m : A) → P m) → IfSome told P
 told_any told P f = grind (arith, common_steps)
-
--- a sink that was given a text took it, or, where that failed, a front of it
-pub took : {E : Type 0} (text : List ℕ) (old new : Taken) (result : Result (Unit {0}) E) → Puts text old new result →
-    TakesText text old new
-took text old new result h = grind (arith, common_steps)
 
 -- what the exit of a `?` returns, where the conversion of the error is told by an equation
 pub exit_is : {T E : Type 0} {e : E} (r : Result T E) → IsErrAnd r (λ y. y ≡ e) → r ≡ Err e

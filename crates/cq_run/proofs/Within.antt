@@ -9,8 +9,7 @@ in_range least most text n e = grind (arith, common_steps, leb-true)
 three_within : (word first second third : List ℕ) (command : Command) →
     with_three word first second third ≡ Some command → IsWithinRange command
 three_within word first second third command e =
-    let slots = in_range 1 most_soak_slots third in
-    grind (arith, common_steps, in_range 0 most_slots second, in_range 1 most_ports second, slots)
+    grind (arith, common_steps, in_range 0 most_slots second, in_range 1 most_ports second, in_range 1 most_soak_slots)
 
 tested : (b : Bool) (o : Option Command) (command : Command) → cond b o None ≡ Some command → o ≡ Some command
 tested b o command e = grind (arith, common_steps)

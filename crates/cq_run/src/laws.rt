@@ -20,6 +20,7 @@ pub fn runs_are_audited()
 /// Over two configurations that differ in their number of workers alone every command comes to the same: one plan, byte
 /// for byte, meets what it aims at over both, and it is denied or refused over both for the same. It does nothing: its
 /// contract is the claim.
+#[tactic(auto, using(crate::proofs::AnyWorkers::workers_change_nothing))]
 pub fn workers_change_nothing()
     ensures { (r : Reader) → WorkersChangeNothing r }
 {}

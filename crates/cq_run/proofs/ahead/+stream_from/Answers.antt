@@ -1,5 +1,5 @@
-use Rattle.cq_run.proofs.Terms.{rules, ◌≡◌, [], arith, nil_from_length}
-use Rattle.cq_run.proofs.Ports.{file_ends, none_arrive, one_more, together}
+use Rattle.cq_run.proofs.Terms.{rules, ◌≡◌, [], arith, nil_from_length, common_steps}
+use Rattle.cq_run.proofs.Ports.{file_ends, none_arrive, together}
 use Rattle.cq_run.proofs.Told.{exit_is}
 use Rattle.cq_run.proofs.ahead.+stream_from.Goals as goal
 
@@ -27,9 +27,8 @@ pub finish_port-requires-clause-small : goal.finish_port-requires-clause-small
 finish_port-requires-clause-small g t c = search (arith, rules)
 
 pub returns-in_err-begun-in-Some-clause-judges : goal.returns-in_err-begun-in-Some-clause-judges
-returns-in_err-begun-in-Some-clause-judges g t c = λ r.
-    rw (exit_is _ c.from_residual.ensures.1, c.in-Some.ensures.cases.0)
-    (file_ends r _ _ _ _ (c.in_err-begun-in-Some.ensures.halts r) c.begin_port.ensures.closed c.begin_port.ensures.told)
+returns-in_err-begun-in-Some-clause-judges g t c =
+    λ r. search (arith, rules, exit_is, file_ends, c.in_err-begun-in-Some.ensures.halts r)
 
 pub returns-in_ok-begun-in-Some-clause-judges : goal.returns-in_ok-begun-in-Some-clause-judges
 returns-in_ok-begun-in-Some-clause-judges g t c = λ r.
@@ -39,4 +38,4 @@ returns-in_ok-begun-in-Some-clause-judges g t c = λ r.
     c.finish_port.ensures.halts (c.stream_from-later.ensures.judges r) c.in_front.ensures)
 
 pub returns-in_ok-begun-in-Some-clause-each : goal.returns-in_ok-begun-in-Some-clause-each
-returns-in_ok-begun-in-Some-clause-each g t c = search (arith, rules, one_more)
+returns-in_ok-begun-in-Some-clause-each g t c = grind (arith, common_steps)

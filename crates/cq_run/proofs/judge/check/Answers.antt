@@ -23,7 +23,7 @@ module _ {S : Type 0} {space : S → Space} {keeps : S → S → Type 0} {config
   at_line kept {tables = tables} h (Ok plan) line memory =
       settled (at_plan kept h) (Ok plan) (Exactly (checked tables), refl, line) (rw line tt)
       (λ r. told_any (space old).told _ (λ m. tt))
-  at_line kept h (Err halt) line memory = let is : halt ≡ NoMemory = memory in rw is (no_memory (at_plan kept h))
+  at_line kept h (Err halt) line memory = rw memory (no_memory (at_plan kept h))
 
 pub returns-in_err-tables : goal.returns-in_err-tables
 returns-in_err-tables g c = rw (exit_is _ c.from_residual.ensures.1) (read_ends _ g.met.F.Files.lasts_unbegun

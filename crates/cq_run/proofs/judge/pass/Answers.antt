@@ -8,5 +8,4 @@ pub pass_over-work-requires-clause-plain : goal.pass_over-work-requires-clause-p
 pass_over-work-requires-clause-plain g c κs within = search (arith, rules)
 
 pub returns-in_err-tables : goal.returns-in_err-tables
-returns-in_err-tables g c = rw (exit_is _ c.from_residual.ensures.1)
-    (no_memory (at_capture g.met.F.Files.lasts_unbegun c.requires))
+returns-in_err-tables g c = search (arith, rules, exit_is, no_memory, at_capture, g.met.F.Files.lasts_unbegun)

@@ -1,5 +1,4 @@
-use Rattle.cq_run.proofs.Terms.{arith, rules}
-use Rattle.cq_run.proofs.Stopped.{part_halt}
+use Rattle.cq_run.proofs.Terms.{arith, common_steps, rules}
 use Rattle.cq_run.proofs.Told.{exit_is}
 use Rattle.cq_run.proofs.parting.part_by_crossbar.Goals as goal
 
@@ -13,4 +12,4 @@ returns-clause-refused g c =
 
 -- a tag fault
 pub returns-in_err-parted-clause-refused : goal.returns-in_err-parted-clause-refused
-returns-in_err-parted-clause-refused g c = search (arith, rules, exit_is, part_halt)
+returns-in_err-parted-clause-refused g c = grind (arith, common_steps, exit_is)

@@ -1,5 +1,5 @@
-use Rattle.cq_run.proofs.Stopped.{resume_halt, resume_refused, resumed_by, taken_up}
-use Rattle.cq_run.proofs.Terms.{refl}
+use Rattle.cq_run.proofs.Stopped.{resumed_by, taken_up}
+use Rattle.cq_run.proofs.Terms.{arith, common_steps, refl}
 use Rattle.cq_run.proofs.Told.{exit_is}
 use Rattle.cq_run.proofs.parting.resume_by_schedule.Goals as goal
 
@@ -12,10 +12,8 @@ returns-clause-resumed g c = λ captures is given. resumed_by c.args.tables.now 
 
 -- a text that is refused
 pub returns-in_err-taken-clause-refused : goal.returns-in_err-taken-clause-refused
-returns-in_err-taken-clause-refused g c = λ captures is. rw (exit_is _ c.from_residual.ensures.1)
-    (resume_refused c.args.tables.now captures _ is _ _ c.in_err-taken.ensures.cause)
+returns-in_err-taken-clause-refused g c = λ captures is. grind (arith, common_steps, exit_is)
 
 -- a tag fault
 pub returns-in_err-run-clause-refused : goal.returns-in_err-run-clause-refused
-returns-in_err-run-clause-refused g c = λ captures is. rw (exit_is _ c.from_residual-in_err-run.ensures.1)
-    (resume_halt _ _ _ is _ _ c.in_ok-taken.ensures.read _ c.in_err-run.ensures.refused)
+returns-in_err-run-clause-refused g c = λ captures is. grind (arith, common_steps, exit_is)

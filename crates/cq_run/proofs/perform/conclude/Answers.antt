@@ -1,5 +1,5 @@
-use Rattle.cq_run.proofs.Terms.{Err}
-use Rattle.cq_run.proofs.Ends.{cut_short, halts_so, judging_ends, performed}
+use Rattle.cq_run.proofs.Terms.{arith, rules}
+use Rattle.cq_run.proofs.Ends.{cut_short, judging_ends, performed}
 use Rattle.cq_run.proofs.Told.{exit_is}
 use Rattle.cq_run.proofs.perform.conclude.Goals as goal
 
@@ -17,7 +17,7 @@ returns-in_ok-perform-in-Ok-clause-ends g c = λ pace command start r is.
     performed r _ (rw c.in-Ok.is at is) c.in_ok-perform-in-Ok.ensures.done
 
 pub returns-in-Err-clause-unbegun : goal.returns-in-Err-clause-unbegun
-returns-in-Err-clause-unbegun g c = λ start kept. halts_so (Err c.from.result) kept
+returns-in-Err-clause-unbegun g c = λ start kept. search (arith, rules)
 
 pub returns-in_err-perform-in-Ok-clause-unbegun : goal.returns-in_err-perform-in-Ok-clause-unbegun
 returns-in_err-perform-in-Ok-clause-unbegun g c = λ start kept. rw (exit_is _ c.from_residual.ensures.1) tt

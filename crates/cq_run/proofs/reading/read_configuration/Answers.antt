@@ -1,5 +1,5 @@
-use Rattle.cq_run.proofs.Terms.{arith, rules, ap, Err}
-use Rattle.cq_run.proofs.TextRead.{configuration_is_to_read, configuration_long, long_is_no_fault}
+use Rattle.cq_run.proofs.Terms.{arith, rules, ap, Err, ⊎_elim}
+use Rattle.cq_run.proofs.TextRead.{configuration_is_to_read, configuration_long}
 use Rattle.cq_run.proofs.reading.read_configuration.Goals as goal
 
 pub returns-in-Err-Fault-clause-judges : goal.returns-in-Err-Fault-clause-judges
@@ -9,4 +9,4 @@ returns-in-Err-Fault-clause-judges g c =
 
 pub returns-in-Err-Long-clause-judges : goal.returns-in-Err-Long-clause-judges
 returns-in-Err-Long-clause-judges g c =
-    search (arith, rules, c.in-Err-Long.ensures.whole.long, configuration_long, g.F.Files.space, long_is_no_fault)
+    search (arith, rules, c.in-Err-Long.ensures.whole.long, configuration_long, g.F.Files.space, ⊎_elim)

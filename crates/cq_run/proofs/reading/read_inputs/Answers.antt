@@ -1,12 +1,13 @@
-use Rattle.cq_run.proofs.Terms.{Reader, rules, arith, sym, length-append}
+use Rattle.cq_run.proofs.Terms.{Reader, rules, arith, sym, length-append, captures_from, take_all}
 use Rattle.cq_run.proofs.Chain.{fails_after}
 use Rattle.cq_run.proofs.TextRead.{from_front}
-use Rattle.cq_run.proofs.Ports.{ends_all, reads_more, reads_all, reads_none}
+use Rattle.cq_run.proofs.Ports.{ends_all, reads_more}
 use Rattle.cq_run.proofs.Told.{exit_is}
 use Rattle.cq_run.proofs.reading.read_inputs.Goals as goal
 
 pub ports-init : goal.ports-init
-ports-init g c = search (arith, rules, reads_none, g.F.Files.space, g.met.F.Files.lasts_unbegun.none)
+unfolding captures_from
+ports-init g c = search (arith, rules, g.F.Files.space, g.met.F.Files.lasts_unbegun.none)
 
 pub ports-preserved : goal.ports-preserved
 ports-preserved g c =
@@ -21,8 +22,7 @@ returns-in_err-capture-clause-judges g c = λ r. rw (exit_is _ c.from_residual.e
     (c.in_err-capture.ensures.judges r))
 
 pub returns-clause-judges : goal.returns-clause-judges
-returns-clause-judges g c = λ r. rw (c.of.ensures, sym c.as_slice-rows.ensures)
-    (reads_all r _ _ (omega (arith, c.ports-test.false)) (c.ports.invariant.judged r))
+returns-clause-judges g c = λ r. search (arith, rules, take_all, c.ports.invariant.judged r)
 
 pub returns-clause-each : goal.returns-clause-each
 returns-clause-each g c = search (arith, rules)

@@ -1,5 +1,4 @@
 use Rattle.cq_run.proofs.Terms.{arith, rules, sym}
-use Rattle.cq_run.proofs.Ends.{halts_so}
 use Rattle.cq_run.proofs.Told.{exit_is}
 use Rattle.cq_run.proofs.stream.stream.Goals as goal
 
@@ -8,7 +7,7 @@ pub returns-in_err-name-clause-ends : goal.returns-in_err-name-clause-ends
 returns-in_err-name-clause-ends g c = search (arith, rules, exit_is)
 
 pub returns-in_err-name-clause-unbegun : goal.returns-in_err-name-clause-unbegun
-returns-in_err-name-clause-unbegun g c = halts_so _ (g.met.F.Files.lasts_unbegun.none _)
+returns-in_err-name-clause-unbegun g c = search (arith, rules, g.met.F.Files.lasts_unbegun.none)
 
 pub returns : goal.returns
 returns g c = rw (sym c.in_ok-name.ensures) (search (arith, rules, c.conclude.ensures.ends, c.conclude.ensures.unbegun))

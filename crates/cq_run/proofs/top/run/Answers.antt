@@ -1,5 +1,4 @@
-use Rattle.cq_run.proofs.Terms.{arith, rules, string_bytes, ◌∙◌, sym, Err}
-use Rattle.cq_run.proofs.Ends.{halts_so}
+use Rattle.cq_run.proofs.Terms.{arith, rules, string_bytes, ◌∙◌, sym}
 use Rattle.cq_run.proofs.Within.{words_within}
 use Rattle.cq_run.proofs.top.run.Goals as goal
 
@@ -10,7 +9,7 @@ pub returns-in-Some : goal.returns-in-Some
 returns-in-Some g c = rw (sym c.in_ok-command.ensures.command ∙ c.in-Some.is) c.obey.ensures
 
 pub returns-in_err-command-clause-unbegun : goal.returns-in_err-command-clause-unbegun
-returns-in_err-command-clause-unbegun g c = halts_so _ (g.met.F.Files.lasts_unbegun.none _)
+returns-in_err-command-clause-unbegun g c = search (arith, rules, g.met.F.Files.lasts_unbegun.none)
 
 pub returns-in-None-clause-unbegun : goal.returns-in-None-clause-unbegun
-returns-in-None-clause-unbegun g c = halts_so (Err c.from.result) (g.met.F.Files.lasts_unbegun.none c.args.files.now)
+returns-in-None-clause-unbegun g c = search (arith, rules, g.met.F.Files.lasts_unbegun.none)
