@@ -1,25 +1,19 @@
 -- More than four words are no command, and neither are four whose first begins no form of four.
-use Rattle.cq_words.proofs.Terms.{rules, ◌≡◌, ℕ, ◌≤◌, Bool, true, false, List, [], ◌∷◌, length, map, if◌then◌else◌, Option, None, refl, arith, common_steps, codes, is_some, list_all, bytes_eq, bytes_eq-Decides, command_for, is_value, numbered, parted, Command}
+use Rattle.cq_words.proofs.Terms.{rules, ◌≡◌, ℕ, ◌≤◌, Bool, false, List, [], ◌∷◌, length, map, if◌then◌else◌, Option, None, refl, arith, common_steps, codes, is_some, list_all, bytes_eq, bytes_eq-Decides, command_for, is_value, numbered, parted, Command}
 
 pub too_many_words : {W : Type 0} (bytes : W → List ℕ) (words : List W) → 5 ≤ length words
     → ◌≡◌ {A = Option Command} None (command_for (map bytes words))
-too_many_words bytes [] many = refl
-too_many_words bytes (word ∷ []) many = refl
-too_many_words bytes (word ∷ a ∷ []) many = absurd (omega arith)
-too_many_words bytes (word ∷ a ∷ b ∷ []) many = absurd (omega arith)
-too_many_words bytes (word ∷ a ∷ b ∷ c ∷ []) many = absurd (omega arith)
 too_many_words bytes (word ∷ a ∷ b ∷ c ∷ d ∷ rest) many = search (arith, rules)
+too_many_words bytes _ many = absurd (omega arith)
 
 -- a first word that is neither `soak` nor `part` begins no command of four words
 no_word : (a d e : Bool) (x y : Option Command) → d ≡ false → e ≡ false
     → false ≡ is_some (if a then (if d then x else if e then y else None) else None)
-no_word true d e x y f g = grind (arith, common_steps)
-no_word false d e x y f g = refl
+no_word a d e x y f g = grind (arith, common_steps)
 
 -- a text that is another one
 other_text : (word text : List ℕ) → (word ≡ text → ⊥) → (b : Bool) → bytes_eq word text ≡ b → b ≡ false
-other_text word text other true e = absurd (other ((bytes_eq-Decides word text).0 e))
-other_text word text other false e = refl
+other_text word text other b e = grind (arith, common_steps, bytes_eq-Decides)
 
 pub no_three : (word first second third : List ℕ) → (word ≡ codes "soak" → ⊥) → (word ≡ codes "part" → ⊥)
     → false ≡ is_some (command_for (word ∷ first ∷ second ∷ third ∷ []))

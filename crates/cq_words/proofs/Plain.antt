@@ -1,23 +1,19 @@
 -- A value is no flag: it is not empty and begins with no dash. So where no subcommand can follow, a walk of
 -- `clap` hands it to the next positional, and nothing of it is refused.
-use Rattle.cq_words.proofs.Terms.{rules, arith, ◌≡◌, ◌&&◌, ℕ, Bool, true, false, not, refl, ap, List, [], ◌∷◌, None, common_steps, ◌==◌, bytes_eq, Held, Rule, Text, Walk, arg_by_index, idle, to_positional, value, walked, word_met, Shape, step_passes, turn_passes, is_value}
+use Rattle.cq_words.proofs.Terms.{rules, arith, ◌≡◌, ℕ, Bool, true, false, not, List, [], ◌∷◌, None, common_steps, bytes_eq, Held, Rule, Text, Walk, arg_by_index, idle, to_positional, value, walked, word_met, Shape, step_passes, turn_passes, is_value}
 use Rattle.clap.specs.Lexer.{long_of, short_of}
 
 not_true : (b : Bool) → not b ≡ true → b ≡ false
-not_true true h = cc
-not_true false h = refl
+not_true b h = grind (arith, common_steps)
 
 pub no_dashes : (text : Text) → is_value text ≡ true → bytes_eq text (45 ∷ 45 ∷ []) ≡ false
-no_dashes [] h = refl
-no_dashes (byte ∷ rest) h = ap (λ (b : Bool). b && bytes_eq rest (45 ∷ [])) (not_true (byte == 45) h)
+no_dashes text h = grind (arith, common_steps, not_true)
 
 pub no_long : (text : Text) → is_value text ≡ true → long_of text ≡ None
-no_long [] h = refl
-no_long (byte ∷ rest) h = grind (arith, common_steps, not_true)
+no_long text h = grind (arith, common_steps, not_true)
 
 pub no_short : (text : Text) → is_value text ≡ true → short_of text ≡ None
-no_short [] h = refl
-no_short (byte ∷ rest) h = grind (arith, common_steps, not_true)
+no_short text h = grind (arith, common_steps)
 
 -- where a walk stands before the value of a positional
 abbrev pub at : Held → ℕ → Walk

@@ -1,7 +1,7 @@
 -- `clap` splits the words of a command into the values that they are, and refuses none of them. Each form is
 -- run through `clap`'s own rule of a parse. Its first word is one of the subcommands by its text, so the rest
 -- goes to that subcommand. There each value goes to the next positional, which has no value yet.
-use Rattle.cq_words.proofs.Terms.{common_steps, arith, rules, ◌≡◌, ◌&&◌, ℕ, suc, fold, Bool, true, false, refl, sym, List, [], ◌∷◌, Option, None, codes, is_some, if◌then◌else◌, ◌∙◌, ap, ap₂, option_and_then, AllByRecursion, list_all, bytes_eq, bytes_eq-Decides, Held, Rule, Text, Walk, arg_by_index, finished, first_of, nothing_held, rows_after, to_positional, value, walked, Shape, filled, new_shape, subcommand_of, with_index, default_passes, is_valid, level_passes, settle_passes, step_passes, takes, walk_passes, command_for, is_value, with_config, captures_in, command_found, line, numbers_in, slots_in, state_in, value_rule, Command}
+use Rattle.cq_words.proofs.Terms.{common_steps, arith, rules, ◌≡◌, ◌&&◌, ℕ, suc, fold, Bool, true, false, refl, sym, List, [], ◌∷◌, Option, None, codes, is_some, if◌then◌else◌, ◌∙◌, ap, option_and_then, list_all, bytes_eq, bytes_eq-Decides, Held, Rule, Text, Walk, arg_by_index, finished, first_of, nothing_held, rows_after, to_positional, value, walked, Shape, filled, new_shape, subcommand_of, with_index, default_passes, is_valid, level_passes, settle_passes, step_passes, takes, walk_passes, command_for, is_value, with_config, captures_in, command_found, line, numbers_in, slots_in, state_in, value_rule, Command}
 use Rattle.cq_words.proofs.Plain.{at, value_taken, value_walked}
 
 -- the value of a place, as `clap` fills it in
@@ -54,35 +54,27 @@ AreTaken word rules w place (v ∷ vs) =
     (w ≡ at w.held place) × (step_passes (leaf word rules) place w.held value ≡ true)
     × AreTaken word rules (after rules w.held place v) (suc place) vs
 
--- each is a value
-abbrev AreValues : List Text → Type 0
-AreValues vs = AllByRecursion (λ v. is_value v ≡ true) vs
-
-all_are : (vs : List Text) → AreValues vs → list_all is_value vs ≡ true
-all_are [] are = refl
-all_are (v ∷ vs) are = ap₂ ◌&&◌ are.0 (all_are vs are.1)
-
 -- the words are split into what they are, and `clap` takes them
 abbrev pub IsSplit : List Text → Type 0
 IsSplit words = (command_found (subcommand_of line words) ≡ command_for words) × (takes line words ≡ true)
 
 module _ (word : Text) (rules : List Rule) where
-  values_walked : (w : Walk) (place : ℕ) (vs : List Text) → AreValues vs → AreTaken word rules w place vs →
-      fold (walked rules []) w vs ≡ walked_to rules w place vs
+  values_walked : (w : Walk) (place : ℕ) (vs : List Text) → list_all is_value vs ≡ true →
+      AreTaken word rules w place vs → fold (walked rules []) w vs ≡ walked_to rules w place vs
   values_walked w place [] are taken = refl
   values_walked w place (v ∷ vs) are taken =
-      search (arith, rules, value_walked, values_walked (after rules w.held place v) (suc place) vs are.1 taken.2)
+      grind (arith, common_steps, value_walked, values_walked (after rules w.held place v) (suc place) vs)
 
-  walk_taken : (w : Walk) (place : ℕ) (vs : List Text) → AreValues vs → AreTaken word rules w place vs →
+  walk_taken : (w : Walk) (place : ℕ) (vs : List Text) → list_all is_value vs ≡ true → AreTaken word rules w place vs →
       walk_passes (leaf word rules) [] w vs ≡ true
   unfolding walk_passes
   walk_taken w place [] are taken = refl
-  walk_taken w place (v ∷ vs) are taken = ap (λ (u : Walk). walk_passes (leaf word rules) [] u (v ∷ vs)) taken.0
-      ∙ ap₂ ◌&&◌ (value_taken (leaf word rules) w.held place v are.0 ∙ taken.1) (ap
-      (λ (u : Walk). walk_passes (leaf word rules) [] u vs) (value_walked rules w.held place v are.0)
-      ∙ walk_taken (after rules w.held place v) (suc place) vs are.1 taken.2)
+  walk_taken w place (v ∷ vs) are taken =
+      let rest = walk_taken (after rules w.held place v) (suc place) vs in
+      grind (arith, common_steps, value_taken (leaf word rules), value_walked rules, rest)
 
-  module _ (vs : List Text) (are : AreValues vs) (taken : AreTaken word rules (at nothing_held 1) 1 vs) where
+  module _ (vs : List Text) (are : list_all is_value vs ≡ true)
+      (taken : AreTaken word rules (at nothing_held 1) 1 vs) where
     abbrev end : Walk
     end = walked_to rules (at nothing_held 1) 1 vs
 
@@ -102,38 +94,22 @@ module _ (word : Text) (rules : List Rule) where
         → IsSplit (word ∷ vs)
     form_split command ends splits is asks = (
       splits ∙ ap command (λ k name. found name k) ∙ sym (is
-          ∙ ap (λ (b : Bool). if b then command (λ name. first_of name (finished rules end.held)) else None)
-          (all_are vs are)),
+          ∙ ap (λ (b : Bool). if b then command (λ name. first_of name (finished rules end.held)) else None) are),
       asks ∙ ap (λ (b : Bool). b && true) (passes ends),
     )
 
 -- ---- all words that are a command
 
 -- what has the form of a command is values, and a command
-command_values : (vs : List Text) (x : Option Command) → is_some (if list_all is_value vs then x else None) ≡ true →
-    AreValues vs × (is_some x ≡ true)
-command_values [] x h = (tt, h)
-command_values (v ∷ vs) x h = go (is_value v) refl (command_values vs x) h
-  where
-    Made : Bool → List Text → Type 0
-    Made b vs = is_some (if b then x else None) ≡ true → AreValues vs × (is_some x ≡ true)
-
-    go : (b : Bool) → is_value v ≡ b → Made (list_all is_value vs) vs → Made (b && list_all is_value vs) (v ∷ vs)
-    go true e rest h = let r = rest h in ((e, r.0), r.1)
-    go false e rest h = let bad : false ≡ true = h in cc
+command_values : (b : Bool) (x : Option Command) → is_some (if b then x else None) ≡ true →
+    (b ≡ true) × (is_some x ≡ true)
+command_values b x h = grind (arith, common_steps)
 
 -- a word that reads the same as a known one is split as that is, and of another one the other words are asked
 chosen : (word known : Text) (vs : List Text) (x y : Option Command) →
     is_some (if bytes_eq word known then x else y) ≡ true → IsSplit (known ∷ vs) →
     (is_some y ≡ true → IsSplit (word ∷ vs)) → IsSplit (word ∷ vs)
-chosen word known vs x y h here other = go (bytes_eq word known) refl h
-  where
-    go : (b : Bool) → bytes_eq word known ≡ b → is_some (if b then x else y) ≡ true → IsSplit (word ∷ vs)
-    go true e h = search (rules, bytes_eq-Decides)
-    go false e h = other h
-
-none_left : (words : List Text) → false ≡ true → IsSplit words
-none_left words bad = cc
+chosen word known vs x y h here other = grind (arith, common_steps, bytes_eq-Decides)
 
 -- the command of one value
 abbrev config_of : Text → (Text → Option Text) → Option Command
@@ -146,7 +122,7 @@ command_split [] h = let bad : false ≡ true = h in cc
 command_split (word ∷ []) h = let bad : false ≡ true = h in cc
 command_split (word ∷ v ∷ []) h =
     let vs : List Text = v ∷ [] in
-    let w = command_values vs _ h in
+    let w = command_values (list_all is_value vs) _ h in
     chosen word (codes "check") vs _ _ w.1
     (form_split (codes "check") config_rules vs w.0 (refl, refl, tt) (config_of (codes "check")) refl refl refl refl)
     (λ h. chosen word (codes "ideal") vs _ _ h
@@ -155,25 +131,25 @@ command_split (word ∷ v ∷ []) h =
     (form_split (codes "run") config_rules vs w.0 (refl, refl, tt) (config_of (codes "run")) refl refl refl refl)
     (λ h. chosen word (codes "audit") vs _ _ h
     (form_split (codes "audit") config_rules vs w.0 (refl, refl, tt) (config_of (codes "audit")) refl refl refl refl)
-    (none_left (word ∷ vs)))))
+    (λ bad. cc))))
 command_split (word ∷ v ∷ u ∷ []) h =
     let vs : List Text = v ∷ u ∷ [] in
-    let w = command_values vs _ h in
+    let w = command_values (list_all is_value vs) _ h in
     chosen word (codes "pass") vs _ _ w.1
     (form_split (codes "pass") pass_rules vs w.0 (refl, refl, (refl, refl, tt))
     (λ get. captures_in (get (codes "IN")) (get (codes "OUT"))) refl refl refl refl)
     (λ h. chosen word (codes "resume") vs _ _ h
     (form_split (codes "resume") resume_rules vs w.0 (refl, refl, (refl, refl, tt))
     (λ get. state_in (get (codes "CONFIG")) (get (codes "STATE"))) refl refl refl refl)
-    (none_left (word ∷ vs)))
+    (λ bad. cc))
 command_split (word ∷ v ∷ u ∷ t ∷ []) h =
     let vs : List Text = v ∷ u ∷ t ∷ [] in
-    let w = command_values vs _ h in
+    let w = command_values (list_all is_value vs) _ h in
     chosen word (codes "soak") vs _ _ w.1
     (form_split (codes "soak") soak_rules vs w.0 (refl, refl, (refl, refl, (refl, refl, tt)))
     (λ get. numbers_in (get (codes "SEED")) (get (codes "PORTS")) (get (codes "SLOTS"))) refl refl refl refl)
     (λ h. chosen word (codes "part") vs _ _ h
     (form_split (codes "part") part_rules vs w.0 (refl, refl, (refl, refl, (refl, refl, tt)))
     (λ get. slots_in (get (codes "CONFIG")) (get (codes "SLOTS")) (get (codes "STATE"))) refl refl refl refl)
-    (none_left (word ∷ vs)))
+    (λ bad. cc))
 command_split (word ∷ a ∷ b ∷ c ∷ d ∷ rest) h = search (arith, rules)

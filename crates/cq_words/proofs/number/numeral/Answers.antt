@@ -1,4 +1,4 @@
-use Rattle.cq_words.proofs.Terms.{rules, ◌≡◌, if◌then◌else◌, Some, None, true, ℕ, List, ◌-◌, ◌≤◌, length, arith, sym, ◌∙◌, ◌&&◌, Bool, ◌+◌, ◌<◌, drop, get_or, ap, list_all, is_ascii_digit, nat_tests, at_drop_more, at_drop_all, is_numeral, value_of}
+use Rattle.cq_words.proofs.Terms.{common_steps, rules, ◌≡◌, if◌then◌else◌, Some, None, true, ℕ, List, ◌-◌, ◌≤◌, length, arith, sym, ◌∙◌, ◌<◌, get_or, list_all, is_ascii_digit, nat_tests, at_drop_more, at_drop_all, is_numeral, value_of}
 use Rattle.cq_words.proofs.Places.{one_digit_more, below_more_digits, all_places}
 use Rattle.cq_words.proofs.number.numeral.Goals as goal
 
@@ -8,14 +8,11 @@ loop-digit-preserved c =
     let is_digit : is_ascii_digit (get_or c.args.text.now c.loop-digit.digit-index 0) ≡ true = search rules in
     let digit : c.from.result ≡ get_or c.args.text.now c.loop-digit.digit-index 0 - 48 = search rules in
     let below : c.from.result < 10 = grind (arith, nat_tests) in
+    let first = at_drop_more (list_all is_ascii_digit) c.args.text.now c.loop-digit.digit-index 0 at in
     record {
-      digits = sym (at_drop_more (list_all is_ascii_digit) c.args.text.now c.loop-digit.digit-index 0 at
-          ∙ ap (λ (b : Bool). b && list_all is_ascii_digit (drop (c.loop-digit.digit-index + 1) c.args.text.now))
-          is_digit) ∙ c.loop-digit.invariant.digits;
-      value = rw digit (sym (one_digit_more c.loop-digit.value c.args.text.now c.loop-digit.digit-index at)
-          ∙ c.loop-digit.invariant.value);
-      small = below_more_digits c.loop-digit.digit-index c.loop-digit.value c.from.result c.loop-digit.invariant.small
-          below;
+      digits = grind (arith, common_steps, first);
+      value = cc (one_digit_more c.loop-digit.value c.args.text.now c.loop-digit.digit-index at, digit);
+      small = search (arith, rules, below_more_digits);
     }
 
 numeral_is : (text : List ℕ) (v : ℕ) → 1 ≤ length text → length text ≤ 20 → list_all is_ascii_digit text ≡ true →
