@@ -1,7 +1,7 @@
 -- What the fields of a line tell. Fields are in the ranges of a kind of line exactly where they are the numbers of
 -- what the line tells, and these are in their own ranges. Fields are taken one by one, for each range asks for its
 -- own.
-use Rattle.cq_state.proofs.Terms.{rules, ◌≡◌, ℕ, zero, suc, ◌-◌, ◌^◌, ◌<◌, ◌≤◌, true, false, List, [], ◌∷◌, length, map, get_or, Option, None, Some, refl, ap, sym, ◌∙◌, arith, common_steps, length-map, ⊤, unwrap_or, AllByRecursion, Range, Within, InRange, any_number, Seen, Named, Shape, Moved, between, count, count_or_none, port, cell, ranges, IsCount, IsSeen, AreRankNumbers, IsNamed, IsSent, IsMoved, cell_numbers, number_at, seen_of, rank_of, named_of, sent_of, moved_of}
+use Rattle.cq_state.proofs.Terms.{rules, ◌≡◌, ℕ, zero, suc, ◌-◌, ◌^◌, ◌<◌, ◌≤◌, List, [], ◌∷◌, length, map, get_or, Option, None, Some, refl, ap, sym, ◌∙◌, arith, common_steps, length-map, ⊤, unwrap_or, AllByRecursion, Range, Within, InRange, any_number, Seen, Named, Shape, Moved, between, count, count_or_none, cell, ranges, IsCount, IsSeen, AreRankNumbers, IsNamed, IsSent, IsMoved, cell_numbers, number_at, seen_of, rank_of, named_of, sent_of, moved_of}
 
 -- ## From numbers to fields
 
@@ -13,9 +13,8 @@ Fits (r ∷ rs) (f ∷ fs) = InRange r f × Fits rs fs
 
 pub fits_within : (rs : List Range) (fs : List (Option ℕ)) → Fits rs fs → Within rs 0 fs
 fits_within [] [] h = record { enough = omega arith; few = omega arith; each = λ i inside. absurd (omega arith) }
-fits_within [] (f ∷ fs) h = absurd h
-fits_within (r ∷ rs) [] h = absurd h
 fits_within (r ∷ rs) (f ∷ fs) h = search (arith, rules, fits_within rs fs h.1)
+fits_within _ _ h = absurd h
 
 own_within : (i : ℕ) → i < 2 ^ 128 → InRange (between i i) (Some i)
 own_within i small = search (arith, rules)
@@ -27,30 +26,14 @@ seen_within i x small is = search (arith, rules, fits_within, own_within)
 numbers_within : (ns : List ℕ) → AllByRecursion (λ n. n < 2 ^ 128) ns → (i : ℕ) → i < length ns →
     InRange any_number (get_or (map Some ns) i None)
 numbers_within [] all i inside = absurd (omega arith)
-numbers_within (n ∷ ns) all zero inside = let small : n < 2 ^ 128 = all.0 in (omega arith, omega arith, omega arith)
-numbers_within (n ∷ ns) all (suc i) inside = numbers_within ns all.1 i (omega arith)
+numbers_within (n ∷ ns) all i inside = grind (arith, common_steps, numbers_within ns all.1)
 
 pub rank_within : (j : ℕ) (ns : List ℕ) → j < 2 ^ 128 → AreRankNumbers ns →
     Within (between j j ∷ []) 32 (Some j ∷ map Some ns)
-rank_within j ns small is = record {
-  enough = omega arith;
-  few = let few = is.0 in let size = length-map ns Some in omega arith;
-  each = at;
-}
-  where
-    at : (i : ℕ) → i < length (Some j ∷ map Some ns) →
-        InRange (get_or (between j j ∷ []) i any_number) (get_or (Some j ∷ map Some ns) i None)
-    at zero inside = own_within j small
-    at (suc i) inside = search (arith, rules, length-map, numbers_within)
-
-pub low_in_range : (ports n : ℕ) → ports ≤ 64 → n < ports → InRange (port ports) (Some n)
-low_in_range ports n few low = (omega arith, omega arith, omega arith)
-
-pub count_in_range : (n : ℕ) → IsCount n → InRange count (Some n)
-count_in_range n is = let small : n < 2 ^ 63 = is in (omega arith, omega arith, omega arith)
+rank_within j ns small is = search (arith, rules, length-map, own_within, numbers_within, is.0)
 
 pub named_fits : (ports : ℕ) (c : Named) → ports ≤ 64 → IsNamed ports c → Fits (cell ports) (map Some (cell_numbers c))
-named_fits ports c few is = grind (arith, common_steps, count_in_range, low_in_range)
+named_fits ports c few is = grind (arith, common_steps)
 
 -- ## From fields to numbers
 
@@ -79,8 +62,7 @@ record IsNumber (f : Option ℕ) (least most : ℕ) : Type 0 where
   fits : unwrap_or f 0 < 2 ^ 128
 
 is_number : (f : Option ℕ) (least most : ℕ) → InRange (between least most) f → IsNumber f least most
-is_number None least most is = absurd (let clash : false ≡ true = is in let P : ⊥ = cc in P)
-is_number (Some n) least most is = search rules
+is_number f least most is = grind (arith, common_steps)
 
 pub record IsShape (fs : List (Option ℕ)) : Type 0 where
   pub fields : fs ≡ map Some (number_at fs 0 ∷ number_at fs 1 ∷ number_at fs 2 ∷ number_at fs 3 ∷ [])

@@ -4,7 +4,7 @@
 use Rattle.cq_state.proofs.Terms.{rules, ◌≡◌, ℕ, ltb, cond, List, [], ◌∷◌, ◌++◌, Option, refl, arith, append_assoc, append-nil, Kind, Line, Place, ComesAt, Comes, MayEnd, word, spelled, start, kinds, IsStateExact, ◌≢◌, AllByRecursion, common_steps}
 use Rattle.cq_base.specs.Items.{EachPair}
 use Rattle.cq_lines.specs.Lines.{line, ending}
-use Rattle.cq_lines.proofs.Exact.{OneWay, exact}
+use Rattle.cq_lines.proofs.Exact.{exact}
 use Rattle.cq_lines.proofs.Walk.{one_line, line_is_some}
 use Rattle.cq_state.proofs.Written.{line_of}
 
@@ -50,7 +50,5 @@ all_apart : AreApart kinds
 all_apart = search rules
 
 pub state_is_exact : IsStateExact
-state_is_exact = exact spelled Comes (λ p. AreApart p.due) way start MayEnd all_apart
-  where
-    way : OneWay spelled Comes (λ p. AreApart p.due)
-    way = search (arith, rules, same_line, one_place, still_apart, line_is_some)
+state_is_exact = exact spelled Comes (λ p. AreApart p.due)
+    (search (arith, rules, same_line, one_place, still_apart, line_is_some)) start MayEnd all_apart

@@ -3,7 +3,7 @@
 -- the same lines are the same. From the front on: where a kind is due, the lines that lead to the end of the text begin
 -- with those of this kind, each of which tells what its fields say, and what is behind them leads to the end from where
 -- the next kind is due.
-use Rattle.cq_state.proofs.Terms.{common_steps, ◌≡◌, ℕ, ◌+◌, false, List, [], ◌∷◌, ◌++◌, map, drop, Option, Some, refl, ap, sym, ◌∙◌, arith, rules, append_assoc, inl, inr, IsTrue, unwrap_or, AllByRecursion, append-nil, Transfer, Kind, Version, Next, Shape, Sum, Input, Rank, Listed, Buffered, Sent, Moved, End, Head, Seen, Named, State, Line, kinds, start, IsInRange, IsSeen, AreRankNumbers, IsNamed, IsSent, IsMoved, state_lines, state_text, numbered, input_line, rank_line, cell_line, sent_line, moved_line, added, gathered, nothing, number_at, seen_of, rank_of, named_of, sent_of, moved_of, ◌<◌, ◌≤◌, add-zero, length, ⊎_elim, ◌⊎◌, Within, is_free, needed, ranges, further, ports_behind, cell_numbers}
+use Rattle.cq_state.proofs.Terms.{common_steps, ◌≡◌, ℕ, ◌+◌, false, List, [], ◌∷◌, ◌++◌, map, drop, Option, Some, refl, ap, sym, arith, rules, append_assoc, inl, inr, IsTrue, unwrap_or, AllByRecursion, append-nil, Transfer, Kind, Version, Next, Shape, Sum, Input, Rank, Listed, Buffered, Sent, Moved, End, Head, Seen, Named, State, Line, kinds, start, IsInRange, IsSeen, AreRankNumbers, IsNamed, IsSent, IsMoved, state_lines, state_text, numbered, input_line, rank_line, cell_line, sent_line, moved_line, added, gathered, nothing, number_at, seen_of, rank_of, named_of, sent_of, moved_of, ◌<◌, ◌≤◌, add-zero, length, ⊎_elim, ◌⊎◌, Within, is_free, needed, ranges, further, ports_behind, cell_numbers}
 use Rattle.cq_state.proofs.Fields.{shape_told, seen_told, rank_told, named_told, sent_told, moved_told}
 use Rattle.cq_state.proofs.OneReading.{state_is_exact}
 use Rattle.cq_state.proofs.Written.{Completes, at, line_of, lines_are, plain, state_has_text}
@@ -47,8 +47,7 @@ module _ (k : Kind) (once : (ports : ℕ) → (is_free k ≡ false) × (needed p
 
   one_told : (ports : ℕ) (xs : List Line) → Completes (at (k ∷ due) 0 ports) xs → OneTold ports xs
   one_told ports [] c = absurd (omega (arith, ends k due 0 ports c, once ports))
-  one_told ports (x ∷ xs) c =
-      grind (arith, common_steps, once ports, no_more (ports_behind ports k x.fields) xs, goes_on k due 0 ports x xs c)
+  one_told ports (x ∷ xs) c = grind (arith, common_steps, once ports, no_more, goes_on k due 0 ports x xs c)
 
 -- ## Many lines
 
@@ -79,8 +78,7 @@ module _ {X : Type 0} (k : Kind) (due : List Kind) (ports : ℕ) (told : (fs : L
   many_told (x ∷ xs) seen few c = ⊎_elim
       (λ one.
       let reads_one = reads seen x.fields one.within in
-      let rest = many_told xs (seen + 1) (⊎_elim (λ free. inl free) (λ low. inr (omega arith)) one.room)
-      (rw (told x.fields) at one.rest) in
+      let rest = many_told xs (seen + 1) (grind (arith, common_steps)) (rw (told x.fields) at one.rest) in
       record {
         values = value x.fields ∷ rest.values;
         behind = rest.behind;
@@ -178,7 +176,6 @@ have_one_text = record {
   allowed = state_has_text;
   one_state = λ s t is_s is_t e.
       let same = state_is_exact.one_reading (state_lines s) (state_lines t) (state_text s) (state_has_text s is_s)
-      (search (arith, rules, state_has_text)) in
-      sym (state_again s is_s) ∙ ap (gathered nothing) same ∙ state_again t is_t;
+      (rw e (state_has_text t is_t)) in cc (state_again s is_s, state_again t is_t);
   each_told = λ xs text f. each_told xs (f.last, f.allowed, f.ended);
 }

@@ -1,7 +1,7 @@
 -- Reading a state's text line by line. What is gathered is what the lines that were read tell, and one line more adds
 -- what it tells: its numbers are within what the state keeps of them, since they are within the ranges of its kind.
 -- Where the text may end, its lines are those of a state, so what is gathered is that state.
-use Rattle.cq_state.proofs.Terms.{rules, ◌≡◌, ◌≢◌, ℕ, ◌+◌, ◌^◌, ◌<◌, ◌≤◌, true, List, [], ◌∷◌, ◌++◌, length, refl, ap, sym, ◌∙◌, arith, length-append, common_steps, ◌==◌, eqb-true, append-nil, one_line_more, Kind, State, AreLow, added, gathered, nothing, place_of, IsInRange, state_text, Line, Place, ComesAt, Comes, MayEnd, spelled, IsStateFault, get_or, Option, Range, Within, any_number, Moved, ranges, further, number_at}
+use Rattle.cq_state.proofs.Terms.{rules, ◌≡◌, ◌≢◌, ℕ, ◌+◌, ◌^◌, ◌<◌, ◌≤◌, true, List, [], ◌∷◌, ◌++◌, length, refl, ap, sym, ◌∙◌, arith, length-append, common_steps, ◌==◌, eqb-true, append-nil, one_line_more, Kind, State, AreLow, added, gathered, nothing, place_of, IsInRange, state_text, Line, Place, ComesAt, Comes, MayEnd, spelled, IsStateFault, Option, Within, ranges, further}
 use Rattle.cq_state.proofs.Due.{ReadSoFar}
 use Rattle.cq_state.proofs.OneText.{each_told, state_again}
 use Rattle.cq_state.proofs.Written.{Completes}
@@ -9,18 +9,9 @@ use Rattle.cq_state.specs.declared.next.Place as kept
 
 -- ## The numbers of a line
 
-number_low : (rs : List Range) (further : ℕ) (fs : List (Option ℕ)) (i : ℕ) → Within rs further fs → i < length rs →
-    number_at fs i ≤ (get_or rs i any_number).most
-number_low rs further fs i within inside = search (arith, rules)
-
-number_below : (rs : List Range) (further : ℕ) (fs : List (Option ℕ)) (i n : ℕ) → Within rs further fs → i < length rs →
-    (get_or rs i any_number).most < n → number_at fs i < n
-number_below rs further fs i n within inside low = let most = number_low rs further fs i within inside in omega arith
-
 are_low : (k : Kind) (fs : List (Option ℕ)) (ports index : ℕ) → ports < 2 ^ 16 →
     Within (ranges ports index k) (further k) fs → AreLow k fs
-are_low Moved fs ports index few w = grind (arith, common_steps, number_low, number_below)
-are_low _ fs ports index few w = grind (arith, common_steps, number_low, number_below)
+are_low k fs ports index few w = grind (arith, common_steps, w.each)
 
 -- the numbers of a line that comes are no greater than what is kept of them
 pub low_line : (due : List Kind) (seen ports : ℕ) (x : Line) (next : Place) → ports < 2 ^ 16 →
@@ -50,17 +41,13 @@ line_told text told after line place next rest behind x had comes e adds shorter
       few = few;
     }
 
-none_left : (rest : List ℕ) → true ≡ (length rest == 0) → rest ≡ []
-none_left [] e = refl
-none_left (c ∷ rest) e = grind (arith, common_steps, eqb-true)
-
 pub state_told : (text : List ℕ) (told : State) (line : ℕ) (place : kept.Place) (rest : List ℕ) →
     ReadSoFar text told line place rest → true ≡ (length rest == 0) → MayEnd (place_of place) →
     IsInRange told × (text ≡ state_text told)
 unfolding Completes
 state_told text told line place rest had none may =
     let each = each_told had.lines (place_of place, had.so_far.allowed, may) in
-    search (arith, rules, state_again, none_left, append-nil)
+    grind (arith, common_steps, state_again, append-nil, eqb-true)
 
 pub fault_told : (text : List ℕ) (told : State) (line : ℕ) (place : kept.Place) (rest : List ℕ) →
     ReadSoFar text told line place rest → ((x : Line) (next : Place) (more : List ℕ) →

@@ -1,24 +1,16 @@
 -- Writing a state's text part by part. A part is put line by line. Parts that are put one after another are one
 -- text, which is seen from the end back: what is put last stands behind what was put before it. And where the text is
 -- too long with a part, all of it is.
-use Rattle.cq_state.proofs.Terms.{rules, ◌≡◌, ℕ, ◌+◌, ◌<◌, ◌≤◌, List, [], ◌∷◌, ◌++◌, length, map, take, get_or, Result, Ok, Err, IfErr, ap, sym, ◌∙◌, arith, append_assoc, length-take, common_steps, flat_map, append-nil, take_more, take_all, take-append-drop, length-append, flat_map-append, Listed, Buffered, End, State, state_lines, state_text, head_lines, numbers, numbered, input_line, rank_line, cell_line, sent_line, moved_line, Line, spelled, IsTooLong, drop, parts}
+use Rattle.cq_state.proofs.Terms.{rules, ◌≡◌, ℕ, ◌+◌, ◌<◌, ◌≤◌, List, [], ◌∷◌, ◌++◌, length, map, take, get_or, Result, IfErr, ap, sym, arith, append_assoc, length-take, common_steps, flat_map, append-nil, take_more, take-append-drop, length-append, flat_map-append, Listed, Buffered, End, State, state_lines, state_text, head_lines, numbers, numbered, input_line, rank_line, cell_line, sent_line, moved_line, Line, spelled, IsTooLong, drop, parts}
 use Rattle.cq_state.specs.declared.write.StateLong.{StateLong}
-use Rattle.cq_state.specs.declared.write.StateLong.TheVariants.{Long, NoMemory}
 
 abbrev text : List Line → List ℕ
 text xs = flat_map spelled xs
-
-one_line : (x : Line) → text (x ∷ []) ≡ spelled x
-one_line x = append-nil (spelled x)
 
 -- what is put behind a part stands with it behind what was there before
 pub put_behind : (old now new : List ℕ) (xs ys : List Line) → now ≡ old ++ text xs → new ≡ now ++ text ys →
     new ≡ old ++ text (xs ++ ys)
 put_behind old now new xs ys e f = grind (arith, common_steps, append_assoc, flat_map-append)
-
-line_behind : (old now new : List ℕ) (xs : List Line) (x : Line) → now ≡ old ++ text xs → new ≡ now ++ spelled x →
-    new ≡ old ++ text (xs ++ x ∷ [])
-line_behind old now new xs x e f = put_behind old now new xs (x ∷ []) e (f ∙ ap (λ t. now ++ t) (sym (one_line x)))
 
 numbered_parts : {X : Type 0} (line : ℕ → X → Line) (n : ℕ) (xs ys : List X) →
     numbered line n (xs ++ ys) ≡ numbered line n xs ++ numbered line (n + length xs) ys
@@ -28,9 +20,7 @@ numbered_parts line n (y ∷ xs) ys = grind (arith, common_steps, numbered_parts
 -- a text is too long that is as long as one that is
 long_on : {A : Type 0} (r : Result A StateLong) (now all : List ℕ) → length now ≤ length all →
     IfErr r (IsTooLong now) → IfErr r (IsTooLong all)
-long_on (Ok a) now all le long = tt
-long_on (Err NoMemory) now all le long = tt
-long_on (Err Long) now all le long = omega arith
+long_on r now all le long = grind (arith, common_steps)
 
 -- the items of a list, a line each, as far as they are put
 module _ {X : Type 0} (xs : List X) (old : List ℕ) (line : ℕ → X → Line) (i : ℕ) where
@@ -38,11 +28,7 @@ module _ {X : Type 0} (xs : List X) (old : List ℕ) (line : ℕ → X → Line)
       now ≡ old ++ text (numbered line 0 (take i xs)) → x ≡ line i (get_or xs i d) → new ≡ now ++ spelled x →
       new ≡ old ++ text (numbered line 0 (take (i + 1) xs))
   line_put d x now new inside e is f =
-      grind (arith, common_steps, numbered_parts, length-take, line_behind, take_more)
-
-  pub lines_put : (new : List ℕ) → length xs ≤ i → new ≡ old ++ text (numbered line 0 (take i xs)) →
-      new ≡ old ++ text (numbered line 0 xs)
-  lines_put new past e = e ∙ ap (λ ys. old ++ text (numbered line 0 ys)) (take_all i xs past)
+      grind (arith, common_steps, numbered_parts, length-take, put_behind, append-nil, take_more)
 
   -- where the first of them are too long, so are all
   pub lines_long : {A : Type 0} (r : Result A StateLong) (now : List ℕ) →
@@ -50,8 +36,7 @@ module _ {X : Type 0} (xs : List X) (old : List ℕ) (line : ℕ → X → Line)
       IfErr r (IsTooLong (old ++ text (numbered line 0 xs)))
   lines_long r now e long =
       let all = ap (λ (ys : List X). length (text (numbered line 0 ys))) (take-append-drop i xs) in
-      let parts = numbered_parts line 0 (take i xs) (drop i xs) in
-      long_on r now _ (grind (arith, common_steps, flat_map-append, length-append)) long
+      long_on r now _ (grind (arith, common_steps, numbered_parts, flat_map-append, length-append)) long
 
 pub state_put : (s : State) (t0 t1 t2 t3 t4 t5 t6 t7 t8 : List ℕ) → t1 ≡ t0 ++ text (head_lines s.head) →
     t2 ≡ t1 ++ text (numbered input_line 0 s.inputs) → t3 ≡ t2 ++ text (numbered rank_line 0 s.ranks) →
@@ -60,7 +45,7 @@ pub state_put : (s : State) (t0 t1 t2 t3 t4 t5 t6 t7 t8 : List ℕ) → t1 ≡ t
     t8 ≡ t7 ++ spelled (numbers End []) → t8 ≡ t0 ++ state_text s
 unfolding state_lines
 state_put s t0 t1 t2 t3 t4 t5 t6 t7 t8 head inputs ranks listed buffered sent moved end = put_behind t0 t1 t8
-    (head_lines s.head) _ head (search (arith, rules, put_behind, one_line))
+    (head_lines s.head) _ head (search (arith, rules, put_behind, append-nil))
 
 -- where it is too long with one of the parts behind the head, all of it is
 part_fits : (head : List Line) (ps : List (List Line)) (k : ℕ) (t0 t1 now : List ℕ) → k < length ps →

@@ -4,7 +4,7 @@
 -- so here.
 use Rattle.cq_state.proofs.Terms.{common_steps, rules, ◌≡◌, ℕ, ◌+◌, ◌<◌, ◌≤◌, List, [], ◌∷◌, ◌++◌, length, map, refl, sym, subst, arith, lit≤, inr, AllByRecursion, Within, Kind, Input, Rank, Listed, Buffered, Sent, Moved, End, State, Line, Place, Comes, HasRoom, MayEnd, needed, ranges, further, ports_behind, start, IsStateText, IsInRange, state_lines, state_text, numbers, numbered, input_line, rank_line, cell_line, sent_line, moved_line, all_weaker, Option, ap, head_lines}
 use Rattle.cq_lines.specs.Texts.{Leads}
-use Rattle.cq_state.proofs.Fields.{count_in_range, fits_within, low_in_range, named_fits, rank_within, seen_within}
+use Rattle.cq_state.proofs.Fields.{fits_within, named_fits, rank_within, seen_within}
 
 abbrev pub line_of : Kind → List (Option ℕ) → Line
 line_of k fs = record { kind = k; fields = fs }
@@ -70,8 +70,7 @@ module _ (s : State) (is : IsInRange s) where
       (fits_within [] [] tt) refl (at (End ∷ []) 1 s.head.ports, refl, (lit≤ tt, tt))
 
   listed_due : Completes (at (Listed ∷ Buffered ∷ Sent ∷ Moved ∷ End ∷ []) 0 s.head.ports) (from_listed s)
-  listed_due =
-      search (arith, rules, skip, part, all_weaker, fits_within, named_fits, count_in_range, low_in_range, few, end_due)
+  listed_due = search (arith, rules, skip, part, all_weaker, fits_within, named_fits, few, end_due)
 
   ranks_due : Completes (at (Rank ∷ Listed ∷ Buffered ∷ Sent ∷ Moved ∷ End ∷ []) 0 s.head.ports) (from_ranks s)
   ranks_due = part Rank _ s.head.ports rank_line (λ _ _. refl) (λ _ _. refl) s.ranks _ 0 s.head.ports
@@ -84,7 +83,7 @@ module _ (s : State) (is : IsInRange s) where
   inputs_due = search (arith, rules, part, all_weaker, seen_within, few, skip, ranks_due, is.inputs_told)
 
   whole : Completes start (state_lines s)
-  whole = rw lines_are (search (arith, rules, one_more, skip, inputs_due, fits_within, count_in_range))
+  whole = rw lines_are (search (arith, rules, one_more, skip, inputs_due, fits_within))
 
 -- the text of a state in range is that of its lines
 pub state_has_text : (s : State) → IsInRange s → IsStateText (state_lines s) (state_text s)

@@ -1,5 +1,5 @@
-use Rattle.cq_state.proofs.Terms.{arith, rules, ◌+◌, ap, line_by}
-use Rattle.cq_state.proofs.Writing.{line_put, lines_long, lines_put}
+use Rattle.cq_state.proofs.Terms.{arith, rules, take_all, ◌+◌, ap, line_by}
+use Rattle.cq_state.proofs.Writing.{line_put, lines_long}
 use Rattle.cq_state.proofs.Written.{map_numbered, plain}
 use Rattle.cq_state.proofs.write.put_each.Goals as goal
 
@@ -22,5 +22,4 @@ items-preserved g c =
     }
 
 pub returns-clause-lines : goal.returns-clause-lines
-returns-clause-lines g c = rw (map_numbered (line_by c.args.kind g.T.Told.fields) 0 c.args.items.now)
-    (lines_put c.args.items.now c.args.text.now.items _ c.items.item-index _ c.items-test.false c.items.invariant.lines)
+returns-clause-lines g c = search (arith, rules, map_numbered, take_all)

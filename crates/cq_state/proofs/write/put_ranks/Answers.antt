@@ -1,5 +1,5 @@
-use Rattle.cq_state.proofs.Terms.{arith, rules, ◌∷◌, map, Some, ap, ◌∙◌, rank_line}
-use Rattle.cq_state.proofs.Writing.{line_put, lines_put}
+use Rattle.cq_state.proofs.Terms.{arith, rules, take_all, ◌∷◌, map, Some, ap, ◌∙◌, rank_line}
+use Rattle.cq_state.proofs.Writing.{line_put}
 use Rattle.cq_state.proofs.Written.{line_of}
 use Rattle.cq_state.specs.declared.kind.Kind.TheVariants as kind
 use Rattle.cq_state.proofs.write.put_ranks.Goals as goal
@@ -11,4 +11,4 @@ outputs-preserved c = line_put c.args.ranks.now c.args.text.now.items rank_line 
     c.in_ok-put_numbers.ensures
 
 pub returns : goal.returns
-returns c = search (arith, rules, lines_put)
+returns c = search (arith, rules, take_all)
