@@ -1,6 +1,6 @@
 -- One word after another. What was drawn, joined with what the generator still gives, is the whole list; at its end
 -- nothing is left to be drawn.
-use Rattle.cq_gen.proofs.Terms.{common_steps, ◌≡◌, ℕ, suc, ◌+◌, ◌-◌, ◌<◌, ◌≤◌, List, [], ◌∷◌, ◌++◌, length, append_assoc, arith, append-nil, length_push, first_draws, generator_of, Lcg, pcg32}
+use Rattle.cq_gen.proofs.Terms.{common_steps, ◌≡◌, ℕ, suc, ◌-◌, ◌<◌, ◌≤◌, List, [], ◌∷◌, ◌++◌, length, append_assoc, arith, append-nil, length_push, first_draws, generator_of, Lcg, pcg32}
 use Rattle.rand_core.specs.Steps.{first_words}
 
 -- what is known while words are drawn

@@ -2,7 +2,6 @@ mod Terms
 pub mod Counted
 pub mod Drawn
 pub mod InRange
-pub mod Made
 pub mod Put
 pub mod Routed
 pub mod Small

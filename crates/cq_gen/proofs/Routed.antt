@@ -1,8 +1,8 @@
 -- A made packet goes where its word says. Its destination is the address of one output and of no other, and its tag
 -- has the priority of one rule and of no other, so what is found is that one.
-use Rattle.cq_gen.proofs.Terms.{common_steps, rules, ◌≡◌, ℕ, zero, suc, ◌+◌, ◌*◌, ◌/◌, ◌%◌, ◌<◌, ◌≤◌, ◌^◌, Bool, true, false, ◌&&◌, length, map, find, Some, refl, sym, ap, arith, mod-lt, Option, cases_eq, eq-eqb, ne_eqb, IsInRange, range_with_len, frame_of, output_address, packet_of, soak_address, soak_rule, soak_tables, option_map_or, AddressRow, FrameParts, plain_tables}
+use Rattle.cq_gen.proofs.Terms.{common_steps, rules, ◌≡◌, ℕ, zero, suc, ◌+◌, ◌*◌, ◌/◌, ◌%◌, ◌<◌, ◌≤◌, ◌^◌, Bool, true, false, length, map, find, Some, refl, arith, mod-lt, cases_eq, eq-eqb, ne_eqb, IsInRange, range_with_len, frame_of, output_address, packet_of, soak_address, soak_tables, FrameParts, plain_tables}
 use Rattle.cq_frame.specs.Frame.{destination, priority}
-use Rattle.cq_route.specs.Route.{class_for, is_met, is_to, output_for, route}
+use Rattle.cq_route.specs.Route.{class_for, is_to, output_for, route}
 
 -- what is found is the item of the only number that passes
 found_counted : {X : Type 0} (test : X → Bool) (f : ℕ → X) (j a n : ℕ) → a ≤ j → j < a + n → test (f j) ≡ true →
@@ -18,30 +18,20 @@ priority_is : (output input rank : ℕ) → priority (frame_of output input rank
 unfolding priority frame_of
 priority_is output input rank = grind (arith, common_steps)
 
-is_to_output : (output : ℕ) → is_to (Some (output_address output)) (soak_address output) ≡ true
-is_to_output output = ap (λ (b : Bool). b && true) (eq-eqb output output refl)
-
-is_to_other : (output k : ℕ) → (k ≡ output → ⊥) → is_to (Some (output_address output)) (soak_address k) ≡ false
-is_to_other output k apart = ap (λ (b : Bool). b && true) (ne_eqb output k (λ e. apart (sym e)))
-
 output_is : (ports output : ℕ) → output < ports → output_for (soak_tables ports) (Some (output_address output)) ≡ output
 unfolding soak_tables plain_tables
-output_is ports output inside = ap (λ (r : Option AddressRow). option_map_or (λ row. row.output) r 0)
-    (found_counted (is_to (Some (output_address output))) soak_address output 0 ports (omega arith) (omega arith)
-    (is_to_output output) (is_to_other output))
+output_is ports output inside =
+    let found = found_counted (is_to (Some (output_address output))) soak_address output 0 ports in
+    search (arith, rules, found, eq-eqb, ne_eqb)
 
 -- the fields of a frame with this priority
 abbrev with_priority : FrameParts → ℕ → Type 0
 with_priority fields rank = fields.pcp ≡ Some rank
 
-met_by_other : (input rank : ℕ) (fields : FrameParts) → with_priority fields rank → (k : ℕ) → (k ≡ rank → ⊥) →
-    is_met input fields (soak_rule k) ≡ false
-met_by_other input rank fields e k apart = grind (arith, common_steps, ne_eqb)
-
 class_is : (ports input rank : ℕ) (fields : FrameParts) → rank < 8 → with_priority fields rank →
     class_for (soak_tables ports) input fields ≡ rank
 unfolding soak_tables plain_tables
-class_is ports input rank fields few e = search (arith, rules, found_counted, met_by_other, eq-eqb)
+class_is ports input rank fields few e = search (arith, rules, found_counted, ne_eqb, eq-eqb)
 
 frame_routed : (ports input output rank : ℕ) → output < ports → rank < 8 →
     route (soak_tables ports) input (frame_of output input rank) ≡ (output, rank)

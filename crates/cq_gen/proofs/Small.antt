@@ -44,19 +44,16 @@ again (p ∷ ps) = ap (λ (qs : List Captured). p ∷ qs) (again ps)
 
 module _ (words : List ℕ) (ports slots input : ℕ) (few : slots ≤ most_soak_slots) (bytes : List ℕ)
     (wrote : bytes ≡ written (map to_write (packets_to words ports slots input))) where
-  packets : List Captured
+  abbrev packets : List Captured
   packets = packets_to words ports slots input
 
   small : AllByRecursion IsSmall (map read_again (map to_write packets))
-  unfolding packets
   small = subst (AllByRecursion IsSmall) (sym (again packets)) (packets_small words ports slots input few)
 
   pub file_small : length bytes ≤ 2 ^ 28
-  unfolding packets
   file_small = search (arith, rules, length-map, length-packets_to, length-spelt, small, length-append)
 
   pub file_read : packets_of bytes ≡ Ok (packets_to words ports slots input)
-  unfolding packets
   file_read =
       let ps = map to_write packets in
       ap packets_of wrote ∙ spelt_is_read (written ps) (map read_again ps) (written_is_spelt ps (writable ps small))
@@ -65,10 +62,4 @@ module _ (words : List ℕ) (ports slots input : ℕ) (few : slots ≤ most_soak
 -- a file that is read has no fault, so a refusal is want of memory
 pub only_memory : (bytes : List ℕ) (packets : List Captured) (why : PcapRefusal) → packets_of bytes ≡ Ok packets →
     IfSome (fault_of why) (λ fault. packets_of bytes ≡ Err fault) → why ≡ refusal.NoMemory
-only_memory bytes packets refusal.NoMemory read unread = refl
-only_memory bytes packets why read unread = absurd (let P : ⊥ = cc in P)
-
--- and what is read is the packets
-pub same_packets : (bytes : List ℕ) (read packets : List Captured) → packets_of bytes ≡ Ok packets →
-    packets_of bytes ≡ Ok read → read ≡ packets
-same_packets bytes read packets e f = let both : Ok read ≡ Ok packets = sym f ∙ e in cc
+only_memory bytes packets why read unread = grind (arith, common_steps)

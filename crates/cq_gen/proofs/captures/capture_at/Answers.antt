@@ -1,5 +1,5 @@
 use Rattle.cq_gen.proofs.Terms.{arith, rules}
-use Rattle.cq_gen.proofs.Small.{file_read, file_small, only_memory, same_packets}
+use Rattle.cq_gen.proofs.Small.{file_read, file_small, only_memory}
 use Rattle.cq_gen.proofs.captures.capture_at.Goals as goal
 
 pub read_capture-requires : goal.read_capture-requires
@@ -10,4 +10,4 @@ pub unreachable-requires : goal.unreachable-requires
 unreachable-requires c = search (arith, rules, file_read, c.in_default.not-NoMemory, only_memory)
 
 pub returns-in-Ok : goal.returns-in-Ok
-returns-in-Ok c = search (arith, rules, file_read, same_packets)
+returns-in-Ok c = search (arith, rules, file_read)
