@@ -1,5 +1,5 @@
 -- Rows that are listed by the numbers of their addresses.
-use Rattle.cq_route.proofs.Terms.{common_steps, ℕ, zero, suc, ◌≡◌, ◌<◌, ◌==◌, ◌+◌, Bool, w64, List, [], ◌∷◌, ◌++◌, length, take, drop, get_or, Option, None, Some, option_map, All, refl, ap, sym, ◌∙◌, arith, rules, if◌then◌else◌, to_be_bytes, find, option_map_or, option_or, unwrap_or, bytes_eq, cond_both, Decides-eqb, same_from_decides, take_more, All-push, find-append, be_bytes_8, bytes_eq-Decides, AddressRow, Tables, IsAddress, IsDirectoryOf, number_of, some_if, is_to, output_for}
+use Rattle.cq_route.proofs.Terms.{common_steps, ℕ, suc, ◌≡◌, ◌<◌, ◌==◌, ◌+◌, Bool, w64, List, [], ◌∷◌, ◌++◌, length, take, drop, get_or, Option, None, Some, option_map, All, refl, ap, sym, ◌∙◌, arith, rules, to_be_bytes, find, option_or, unwrap_or, bytes_eq, cond_both, Decides-eqb, same_from_decides, take_more, All-push, find-append, be_bytes_8, bytes_eq-Decides, AddressRow, Tables, IsAddress, IsDirectoryOf, number_of, some_if, is_to, output_for}
 use Rattle.std.specs.HashMap.{HashMap, IsEmpty, get}
 use Rattle.std.specs.Prelude.{nat_eq}
 use Rattle.cq_route.specs.declared.directory.Directory.{Directory}
@@ -14,9 +14,7 @@ AreAddresses rows = All (λ row. IsAddress row.mac) rows
 
 -- an address behind two bytes of zero
 widened : (mac : List ℕ) → IsAddress mac → (i : ℕ) → get_or (0 ∷ 0 ∷ mac) i 0 < 256
-widened mac a zero = omega arith
-widened mac a (suc zero) = omega arith
-widened mac a (suc (suc i)) = a.bytes i
+widened mac a i = grind (arith, common_steps, a.bytes)
 
 bytes_are : (mac : List ℕ) (n : ℕ) → IsAddress mac → n ≡ number_of mac → to_be_bytes w64 n ≡ 0 ∷ 0 ∷ mac
 unfolding number_of
@@ -34,29 +32,17 @@ same_test mac other a b = grind (arith, common_steps, Decides-eqb, same_address,
 find_same : (p q : AddressRow → Bool) (rows : List AddressRow) → All (λ row. p row ≡ q row) rows →
     find p rows ≡ find q rows
 find_same p q [] all = refl
-find_same p q (r ∷ rows) all = ap (λ b. if b then Some r else find p rows) (all 0 r (omega arith))
-    ∙ ap (λ o. if q r then Some r else o) (find_same p q rows (λ k d h. all (suc k) d (omega arith)))
+find_same p q (r ∷ rows) all = cc (all 0 r (omega arith), find_same p q rows (λ k d h. all (suc k) d (omega arith)))
 
 -- what is listed of an address is what the first row with it says
 pub listed_is : (mac : List ℕ) (rows : List AddressRow) → IsAddress mac → AreAddresses rows →
     listed rows (number_of mac) ≡ option_map (λ row. row.output) (find (is_to (Some mac)) rows)
 listed_is mac rows a all = grind (arith, common_steps, option_map, find_same, same_test)
 
-either : (o e : Option AddressRow) →
-    option_map (λ (row : AddressRow). row.output) (option_or o e)
-    ≡ option_or (option_map (λ (row : AddressRow). row.output) o)
-    (option_map (λ (row : AddressRow). row.output) e)
-either (Some r) e = refl
-either None e = refl
-
-one : (p : AddressRow → Bool) (row : AddressRow) →
-    option_map (λ (r : AddressRow). r.output) (find p (row ∷ [])) ≡ some_if (p row) row.output
-one p row = grind (arith, common_steps, cond_both, option_map)
-
 -- one row more: it is listed where none with its number came before it
 pub listed_push : (rows : List AddressRow) (row : AddressRow) (q : ℕ) →
     listed (rows ++ row ∷ []) q ≡ option_or (listed rows q) (some_if (number_of row.mac == q) row.output)
-listed_push rows row q = grind (arith, common_steps, option_map, find-append, either, one)
+listed_push rows row q = grind (arith, common_steps, option_map, find-append, cond_both)
 
 -- the rows are listed in a map
 pub record AreListed {S : Type 0} (rows : List AddressRow) (outputs : HashMap ℕ ℕ S) : Type 0 where
@@ -68,17 +54,11 @@ pub directory_is : (t : Tables) (d : Directory) → AreListed t.addresses d.outp
 unfolding IsDirectoryOf
 directory_is t d l = λ mac a. l.known (number_of mac) ∙ listed_is mac t.addresses a l.macs
 
-found : (o : Option AddressRow) (d : ℕ) →
-    unwrap_or (option_map (λ (row : AddressRow). row.output) o) d
-    ≡ option_map_or (λ (row : AddressRow). row.output) o d
-found (Some row) d = refl
-found None d = refl
-
 -- frames to an address go where the directory says, or by default
 pub goes_to : (t : Tables) (d : Directory) (mac : List ℕ) → IsAddress mac → IsDirectoryOf t d →
     unwrap_or (get nat_eq d.outputs (number_of mac)) t.default_output ≡ output_for t (Some mac)
 unfolding IsDirectoryOf
-goes_to t d mac a is = grind (arith, common_steps, found)
+goes_to t d mac a is = grind (arith, common_steps)
 
 -- no row speaks of a frame without an address
 nobody : (rows : List AddressRow) → find (is_to None) rows ≡ None
@@ -99,7 +79,6 @@ pub listed_more : {S : Type 0} (rows : List AddressRow) (i : ℕ) (old new : Has
     ((q : ℕ) → get nat_eq new q ≡ option_or (get nat_eq old q) (some_if (n == q) (get_or rows i d).output)) →
     AreListed (take (i + 1) rows) new
 listed_more rows i old new n d inside l a is learnt =
-    rw (take_more rows i d inside) (record {
-      macs = All-push (λ (r : AddressRow). IsAddress r.mac) (take i rows) (get_or rows i d) l.macs a;
-      known = λ q. rw (listed_push (take i rows) (get_or rows i d) q, ← is, ← l.known q) (learnt q);
-    })
+    let more = take_more rows i d inside in
+    let all = All-push (λ (r : AddressRow). IsAddress r.mac) (take i rows) (get_or rows i d) l.macs a in
+    search (arith, rules, more, all, listed_push, l.known, learnt)
