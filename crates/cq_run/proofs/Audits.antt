@@ -2,16 +2,14 @@
 -- written, so over what is left the same tables and captures are judged; the trace and the log stand there as they were
 -- written. The run with input-best matchings is a stable one, and its log is read as what it is spelt from. A yes that
 -- holds is never denied.
-use Rattle.cq_run.proofs.Terms.{rules, ◌≡◌, ◌≢◌, ◌≤◌, ◌^◌, ◌+◌, ◌∙◌, ◌++◌, ℕ, List, [], ◌∷◌, length, Option, None, Some, refl, ap, inl, arith, sym, IfSome, IsOkAnd, Result, Ok, IsOk, get, AllByRecursion, Arrival, log_of, trace_of, Departure, Transfer, short_is, small_cells, traffic_is, arrivals, IsTraffic, all_weaker, limited_not_more, LimitedRecord, slots_in, Captured, all_both, all_back, classes_of, ports_of, Tables, machines_of, openings_of, as_many_slots, sends_as_ideal, stable_limited_too, departures_in_run, ideal_departures, ran_ideal, Contents, files_in, read_or_refused, Audit, Denial, Refusal, Halt, IsHaltOf, Aim, Auditing, Denies, Meets, KeepsUp, audited, captures_out, crossed, Reader, ◌>>=◌, captures_in, found_or_missing, ideally_sent, judged, read_or_refused_for, sent_or_tag, tables_in, text_in, all_replaced, common_steps, whole_limited_run, empty_limited, IsAuditHalted, IsAuditPassed, audit_is_exact, stable_log, trace_is_exact, IsYes, opening_fabric, IsNo, AuditRefusal, transfers_of_run, empty_list, DiffersFirst, all_stable, stable_sends, stable_slack, longest_file}
+use Rattle.cq_run.proofs.Terms.{rules, ◌≡◌, ◌≢◌, ◌≤◌, ◌^◌, ◌∙◌, ◌++◌, ℕ, List, [], ◌∷◌, length, Option, None, Some, refl, ap, arith, IfSome, IsOkAnd, Result, Ok, IsOk, get, AllByRecursion, Arrival, log_of, trace_of, Departure, Transfer, short_is, small_cells, traffic_is, arrivals, IsTraffic, all_weaker, limited_not_more, LimitedRecord, slots_in, Captured, all_both, all_back, classes_of, ports_of, Tables, machines_of, openings_of, as_many_slots, sends_as_ideal, stable_limited_too, departures_in_run, ideal_departures, ran_ideal, Contents, files_in, read_or_refused, Audit, Denial, Refusal, Aim, Auditing, Denies, Meets, KeepsUp, audited, captures_out, crossed, Reader, ◌>>=◌, captures_in, found_or_missing, ideally_sent, judged, read_or_refused_for, sent_or_tag, tables_in, text_in, all_replaced, common_steps, whole_limited_run, empty_limited, IsAuditPassed, audit_is_exact, stable_log, trace_is_exact, IsYes, opening_fabric, transfers_of_run, empty_list, all_stable, stable_sends, stable_slack, longest_file}
 use Rattle.cq_audit.specs.declared.refusal.AuditRefusal.TheVariants as of_log
 use Rattle.cq_run.specs.declared.denial.Denial.TheVariants as why
-use Rattle.cq_run.specs.declared.refusal.Refusal.TheVariants as refused
-use Rattle.cq_run.specs.Auditing.{IsDenied, halt_for_log}
+use Rattle.cq_run.specs.Auditing.{IsDenied}
 use Rattle.cq_run.specs.RunsAudited.{RunsAreAudited}
 use Rattle.cq_run.proofs.Left.{captures_same, last_two, outputs_named, tables_same, untouched}
 use Rattle.cq_run.proofs.NamesApart.{ArePairs, IsUnwritten, names_apart, reads_unwritten, trace_or_log}
 use Rattle.cq_run.proofs.TextRead.{text_is}
-use Rattle.cq_run.specs.declared.stop.Halt.TheVariants as stop
 
 -- ## The configuration was accepted
 
@@ -135,25 +133,10 @@ ranks_fit t came sent e = search (arith, rules)
 
 module _ (t : Tables) (captures : List (List Captured)) (came : List Arrival) (trace log : List ℕ)
     (is : came ≡ arrivals t captures) where
-  -- the ideal run has no result
-  pub run_refused : (halt : Halt) → IsHaltOf (sent_or_tag (ideal_departures t came)) halt →
-      IsAuditHalted t captures trace log halt
-  run_refused halt h = inl (rw is at h)
-
   module _ (sent : List Departure) (departs : ideal_departures t came ≡ Ok sent) where
-    -- a log that is refused
-    pub log_denied : (refusal : AuditRefusal) → IsNo t.setup t.limits came log refusal →
-        IsAuditHalted t captures trace log (halt_for_log refusal)
-    log_denied refusal h = search (arith, rules)
-
     module _ (yes : IsYes t.setup t.limits came log) where
       log_stands : IsYes t.setup t.limits (arrivals t captures) log
       log_stands = rw is at yes
-
-      -- a trace that differs
-      pub trace_denied : (text : List ℕ) (n : ℕ) → text ≡ trace_of sent → DiffersFirst trace text n →
-          IsAuditHalted t captures trace log (stop.Refused (refused.Audit (why.Trace n)))
-      trace_denied text n same differs = grind (arith, common_steps, log_stands)
 
       -- the run of the log sends what the ideal switch sends
       departed : IsTraffic (ports_of t.setup) (classes_of t.setup) came →

@@ -1,6 +1,6 @@
 -- The captures of the outputs, one after another: those that were made and those that are still to be made are all.
 -- Each is that which was built at its output.
-use Rattle.cq_run.proofs.Terms.{common_steps, rules, ◌≡◌, ◌<◌, ◌≤◌, ◌∙◌, ℕ, ◌+◌, List, [], ◌∷◌, ◌++◌, length, drop, get_or, refl, sym, append_assoc, arith, Result, Ok, append-nil, drop_all, drop_more, length-drop, Departure, TagFault, arrivals, Captured, AreTables, ports_of, PortRow, Tables, capture_out, captures_out, IsSwitched, sent_or_tag, Switched, ArePacked, HaveLeftOf, Arrival, t0_of, packets_of, IsRecorded, IsTraffic, LimitedRecord, under_names, classes_of, always_slack, best_in_each, slot_by_slot, IsFabricRun, IsKeptOf, unpacked_run, ideal_departures, PackedFabricRun, AreGiven, KeepsUp, IsCrossed, left_in_packets, Packing, each_packet_once}
+use Rattle.cq_run.proofs.Terms.{common_steps, rules, ◌≡◌, ◌<◌, ◌≤◌, ◌∙◌, ℕ, ◌+◌, List, [], ◌∷◌, ◌++◌, length, drop, get_or, refl, sym, append_assoc, arith, Result, Ok, drop_more, length-drop, Departure, TagFault, arrivals, Captured, AreTables, ports_of, PortRow, Tables, capture_out, captures_out, IsSwitched, sent_or_tag, Switched, ArePacked, HaveLeftOf, Arrival, t0_of, packets_of, IsRecorded, IsTraffic, LimitedRecord, under_names, classes_of, always_slack, best_in_each, slot_by_slot, IsFabricRun, IsKeptOf, unpacked_run, ideal_departures, PackedFabricRun, AreGiven, KeepsUp, IsCrossed, left_in_packets, Packing, each_packet_once}
 
 -- a run that has no tag fault
 pub sent_ok : (sent : List Departure) (x : Result (List Departure) TagFault) → sent_or_tag x ≡ Ok sent → x ≡ Ok sent
@@ -11,22 +11,13 @@ pub switched_whole : {t : Tables} {captures : List (List Captured)} {s : Switche
     length captures ≡ ports_of t.setup → IsSwitched t captures s → HaveLeftOf t captures s.sent.items s.t0
 switched_whole are many is = grind (arith, common_steps, left_in_packets)
 
--- one more capture under its name, and all of them
-module _ (rows : List PortRow) (k : ℕ) where
-  pub one_fewer : (left rest : List Packing) (place : Packing) → left ≡ place ∷ rest → length rows ≤ k + length left →
-      length rows ≤ k + 1 + length rest
-  one_fewer left rest place first enough = grind (arith, common_steps)
-
-  module _ (writes all : List (List ℕ × List ℕ)) where
-    pub one_under : (row d : PortRow) (more : List (List ℕ × List ℕ)) (left rest : List Packing) (place : Packing) →
-        k < length rows → row ≡ get_or rows k d → left ≡ place ∷ rest →
-        more ≡ writes ++ (row.write, place.bytes.items) ∷ [] → writes ++ under_names (drop k rows) left ≡ all →
-        more ++ under_names (drop (k + 1) rows) rest ≡ all
-    one_under row d more left rest place inside is first put made = search (arith, rules, append_assoc, drop_more)
-
-    pub all_under : (left : List Packing) → length rows ≤ k → writes ++ under_names (drop k rows) left ≡ all →
-        writes ≡ all
-    all_under left over made = cc (append-nil writes, drop_all k rows over)
+-- one more capture under its name
+pub one_under : (rows : List PortRow) (k : ℕ) (writes all : List (List ℕ × List ℕ)) (row d : PortRow)
+    (more : List (List ℕ × List ℕ)) (left rest : List Packing) (place : Packing) → k < length rows →
+    row ≡ get_or rows k d → left ≡ place ∷ rest → more ≡ writes ++ (row.write, place.bytes.items) ∷ [] →
+    writes ++ under_names (drop k rows) left ≡ all → more ++ under_names (drop (k + 1) rows) rest ≡ all
+one_under rows k writes all row d more left rest place inside is first put made =
+    search (arith, rules, append_assoc, drop_more)
 
 module _ (t : Tables) (captures : List (List Captured)) (sent : List Departure) where
   -- the captures that were built, from this output on
@@ -53,15 +44,6 @@ module _ (t : Tables) (captures : List (List Captured)) (sent : List Departure) 
   packed_under places packed [] k left is fit = refl
   packed_under places packed (row ∷ rows) k left is fit =
       grind (arith, common_steps, some_left, parts, file_is, packed_under places packed rows (k + 1))
-
-  -- those of all outputs
-  module _ (places : List Packing) (packed : ArePacked t captures sent places) (are : AreTables t)
-      (rows : List PortRow) (all : rows ≡ t.ports) where
-    pub rows_fit : length rows ≤ length places
-    rows_fit = grind (arith, common_steps, packed.outputs)
-
-    pub packed_all : under_names rows places ≡ captures_out t captures sent 0 t.ports
-    packed_all = search (arith, rules, packed_under, packed.outputs)
 
 -- ## What is kept of a run of the crossbar switch, and the plan that is made of it
 

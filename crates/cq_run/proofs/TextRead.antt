@@ -1,7 +1,7 @@
 -- What is told of a text, as the trace or the log of an audit or the state of a stopped run, from what was read under
 -- its name: its bytes, where they are not too many. The name that was asked for is the one that is to be read, or a
 -- copy of it.
-use Rattle.cq_run.proofs.Terms.{rules, ◌≡◌, ◌<◌, ◌≤◌, ◌⊎◌, ℕ, IsTrue, List, length, inl, inr, arith, codes, false, Option, Some, IfSome, Ok, Err, nat_le, le-ltb, lt-ltb, get, Contents, bytes_of, Refusal, Missing, Configuration, IsRefused, IsToRead, meaning_of, short_in, tables_in, first, read_or_refused, common_steps, ◌∙◌, sym, slice_index, Captured, PcapRefusal, IsFaulty, Spells, Space, Halts, AnyName, Pace, Uncounted, Reader, halt_for, capture_in, file_in, Lacks, spelt_or_faulty, fault_is_read, spelt_is_read}
+use Rattle.cq_run.proofs.Terms.{rules, ◌≡◌, ◌<◌, ◌≤◌, ◌⊎◌, ℕ, List, length, inl, inr, arith, codes, false, Option, Some, IfSome, Ok, Err, nat_le, le-ltb, get, Contents, bytes_of, Refusal, Configuration, IsRefused, IsToRead, short_in, tables_in, first, read_or_refused, common_steps, ◌∙◌, sym, slice_index, Captured, PcapRefusal, IsFaulty, Spells, Space, Halts, AnyName, Pace, Uncounted, Reader, halt_for, capture_in, file_in, spelt_or_faulty, fault_is_read, spelt_is_read}
 use Rattle.cq_run.proofs.Stays.{get-remove_same}
 use Rattle.cq_pcap.specs.Reading.{packets_of}
 
@@ -10,15 +10,6 @@ module _ (long : Refusal) (limit : ℕ) (name : List ℕ) where
       IfSome told (λ m. get m name ≡ Some bytes)
       → IfSome told (λ m. short_in long limit name m ≡ Ok bytes)
   text_is told bytes short at = grind (arith, common_steps, le-ltb)
-
-  pub text_long : (told : Option Contents) (asked : List ℕ) → IsTrue (meaning_of long).untold → asked ≡ name →
-      IfSome told (λ m. limit < length (bytes_of m asked))
-      → IsRefused (short_in long limit name) told long
-  text_long told asked untold a h = grind (arith, common_steps, lt-ltb)
-
-  pub text_missed : (told : Option Contents) (asked : List ℕ) → asked ≡ name → Lacks told asked →
-      IsRefused (short_in long limit name) told (Missing asked)
-  text_missed told asked a h = grind (arith, common_steps)
 
   pub text_is_to_read : (told : Option Contents) (asked : List ℕ) → asked ≡ name →
       IsToRead (short_in long limit name) told asked

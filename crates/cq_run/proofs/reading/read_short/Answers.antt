@@ -1,12 +1,12 @@
-use Rattle.cq_run.proofs.Terms.{rules, arith, ap, Err, ⊎_elim}
-use Rattle.cq_run.proofs.TextRead.{text_is, text_is_to_read, text_long, text_missed}
+use Rattle.cq_run.proofs.Terms.{rules, arith, ap, Err, ⊎_elim, common_steps, lt-ltb}
+use Rattle.cq_run.proofs.TextRead.{text_is, text_is_to_read}
 use Rattle.cq_run.proofs.reading.read_short.Goals as goal
 
 pub returns-in-Ok-clause-judges : goal.returns-in-Ok-clause-judges
 returns-in-Ok-clause-judges g c = search (arith, rules, g.F.Files.space, text_is, ⊎_elim)
 
 pub returns-in-Err-Missing-clause-judges : goal.returns-in-Err-Missing-clause-judges
-returns-in-Err-Missing-clause-judges g c = search (arith, rules, g.F.Files.space, text_missed, ⊎_elim)
+returns-in-Err-Missing-clause-judges g c = grind (arith, common_steps, g.F.Files.space)
 
 pub returns-in-Err-Fault-clause-judges : goal.returns-in-Err-Fault-clause-judges
 returns-in-Err-Fault-clause-judges g c =
@@ -14,4 +14,4 @@ returns-in-Err-Fault-clause-judges g c =
     search (arith, rules, g.F.Files.space, c.in-Err-Fault.ensures.whole.fault, why, text_is_to_read)
 
 pub returns-in-Err-Long-clause-judges : goal.returns-in-Err-Long-clause-judges
-returns-in-Err-Long-clause-judges g c = search (arith, rules, text_long, g.F.Files.space, ⊎_elim)
+returns-in-Err-Long-clause-judges g c = grind (arith, common_steps, lt-ltb, g.F.Files.space)

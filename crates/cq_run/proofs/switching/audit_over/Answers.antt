@@ -1,5 +1,5 @@
-use Rattle.cq_run.proofs.Terms.{arith, rules, recursion_from_All}
-use Rattle.cq_run.proofs.Audits.{both_passed, log_denied, ranks_fit, run_refused, trace_denied}
+use Rattle.cq_run.proofs.Terms.{arith, rules, recursion_from_All, common_steps, inl}
+use Rattle.cq_run.proofs.Audits.{both_passed, ranks_fit}
 use Rattle.cq_run.proofs.Told.{exit_is}
 use Rattle.cq_run.proofs.switching.audit_over.Goals as goal
 
@@ -11,15 +11,15 @@ audit_log-requires c = search (arith, rules, recursion_from_All, ranks_fit, c.in
 -- ## A run that is refused
 
 pub returns-in_err-text-clause-halted : goal.returns-in_err-text-clause-halted
-returns-in_err-text-clause-halted c = λ captures is. search (arith, rules, exit_is, run_refused)
+returns-in_err-text-clause-halted c = λ captures is. search (arith, rules, exit_is, inl)
 
 -- ## The log, and then the trace
 
 pub returns-in_err-audit_log-clause-halted : goal.returns-in_err-audit_log-clause-halted
-returns-in_err-audit_log-clause-halted c = λ captures is. search (arith, rules, exit_is, log_denied)
+returns-in_err-audit_log-clause-halted c = λ captures is. grind (arith, common_steps, exit_is)
 
 pub returns-clause-halted : goal.returns-clause-halted
-returns-clause-halted c = λ captures is. search (arith, rules, trace_denied)
+returns-clause-halted c = λ captures is. grind (arith, common_steps)
 
 pub returns-in-None-clause-passed : goal.returns-in-None-clause-passed
 returns-in-None-clause-passed c = λ captures is. search (arith, rules, both_passed)
