@@ -132,28 +132,26 @@ unfolding ideal_departures ran_ideal
 ranks_fit t came sent e = search (arith, rules)
 
 module _ (t : Tables) (captures : List (List Captured)) (came : List Arrival) (trace log : List ℕ)
-    (is : came ≡ arrivals t captures) where
-  module _ (sent : List Departure) (departs : ideal_departures t came ≡ Ok sent) where
-    module _ (yes : IsYes t.setup t.limits came log) where
-      log_stands : IsYes t.setup t.limits (arrivals t captures) log
-      log_stands = rw is at yes
+    (is : came ≡ arrivals t captures) (sent : List Departure) (departs : ideal_departures t came ≡ Ok sent)
+    (yes : IsYes t.setup t.limits came log) where
+  log_stands : IsYes t.setup t.limits (arrivals t captures) log
+  log_stands = rw is at yes
 
-      -- the run of the log sends what the ideal switch sends
-      departed : IsTraffic (ports_of t.setup) (classes_of t.setup) came →
-          sent ≡ departures_in_run log_stands.run.records
-      departed traffic = grind (arith, common_steps, stable_sends)
+  -- the run of the log sends what the ideal switch sends
+  departed : IsTraffic (ports_of t.setup) (classes_of t.setup) came →
+      sent ≡ departures_in_run log_stands.run.records
+  departed traffic = grind (arith, common_steps, stable_sends)
 
-      -- and a trace that is the same
-      pub both_passed : (text : List ℕ) → IsTraffic (ports_of t.setup) (classes_of t.setup) came →
-          text ≡ trace_of sent →
-          trace ≡ text → IsAuditPassed t captures trace log
-      both_passed text traffic same equal =
-          let run = log_stands.run in
-          record {
-            sent = sent;
-            ideally = cc;
-            meets = record { log_is = log_stands; trace_is = equal ∙ same };
-            departed = departed traffic;
-            stable = all_stable t (arrivals t captures) run.records run.end (rw is at traffic) run.runs;
-            slack = stable_slack t (arrivals t captures) run.records run.end (rw is at traffic) run.runs;
-          }
+  -- so a log that is accepted, and a trace that is the same, pass
+  pub both_passed : (text : List ℕ) → IsTraffic (ports_of t.setup) (classes_of t.setup) came →
+      text ≡ trace_of sent → trace ≡ text → IsAuditPassed t captures trace log
+  both_passed text traffic same equal =
+      let run = log_stands.run in
+      record {
+        sent = sent;
+        ideally = cc;
+        meets = record { log_is = log_stands; trace_is = equal ∙ same };
+        departed = departed traffic;
+        stable = all_stable t (arrivals t captures) run.records run.end (rw is at traffic) run.runs;
+        slack = stable_slack t (arrivals t captures) run.records run.end (rw is at traffic) run.runs;
+      }
