@@ -1,17 +1,16 @@
 -- The words of this crate's proofs that stand elsewhere, each passed on from its place.
-pub use Rattle.cq_base.proofs.Library.{AllByRecursion, AllPairs, Bool, Err, Global, IfErr, IfOk, IfSome, IsErr, IsErrAnd, IsErrOf, IsOk, IsOkAnd, IsTrue, List, MatchOption, None, Ok, Option, Result, Some, Vec, [], and_from, ap, append-nil, append_assoc, append_known, arith, bytes_eq-Decides, cases_eq, codes, common_steps, cond, cond-true, drop, drop_all, drop_more, eq-eqb, eq_by_cmp_equiv, exact_bytes, false, filter, filter-append, flat_map, get, get-insert, get-remove, get_or, inl, inr, is_some, le-ltb, leb-true, length, length-append, length-drop, length-take-le, list_any, lt-ltb, map, nat_le, nat_list_cmp_total, ne_eqb, nil_from_length, not, not_from_false, option_map, range_with_len, recursion_from_All, refl, replicate, rules, slice_index, string_bytes, subst, suc, sym, take, take-append-add, take-append-drop, take_all, take_at, take_more, tells_apart, true, vec_len, zero, ℕ, ⊎_elim, ◌&&◌, ◌*◌, ◌++◌, ◌+◌, ◌-◌, ◌<◌, ◌==◌, ◌^◌, ◌∙◌, ◌∷◌, ◌≡◌, ◌≢◌, ◌≤◌, ◌⊎◌}
+pub use Rattle.cq_base.proofs.Library.{AllByRecursion, Bool, Err, IfErr, IfOk, IfSome, IsErr, IsErrAnd, IsOk, IsOkAnd, IsTrue, List, MatchOption, None, Ok, Option, Result, Some, [], and_from, ap, append-nil, append_assoc, append_known, arith, bytes_eq-Decides, cases_eq, codes, common_steps, cond, cond-true, drop, drop_all, drop_more, eq-eqb, eq_by_cmp_equiv, exact_bytes, false, filter, filter-append, flat_map, get, get-insert, get-remove, get_or, inl, inr, is_some, le-ltb, leb-true, length, length-append, length-drop, length-take-le, list_any, lt-ltb, map, nat_le, nat_list_cmp_total, ne_eqb, nil_from_length, not_from_false, option_map, range_with_len, recursion_from_All, refl, replicate, rules, slice_index, string_bytes, subst, suc, sym, take, take-append-add, take-append-drop, take_all, take_at, take_more, tells_apart, true, vec_len, zero, ℕ, ⊎_elim, ◌&&◌, ◌*◌, ◌++◌, ◌+◌, ◌-◌, ◌<◌, ◌==◌, ◌^◌, ◌∙◌, ◌∷◌, ◌≡◌, ◌≢◌, ◌≤◌, ◌⊎◌}
 pub use Rattle.cq_base.specs.Arriving.{Arrival, arriving, arriving_at, end_of, traffic_of}
 unfoldable pub use Rattle.cq_base.specs.Arriving.{enough}
 pub use Rattle.cq_base.specs.{declared.cell.Departure.Departure, declared.cell.TagFault.TagFault, declared.cell.Transfer.Transfer}
 pub use Rattle.cq_space.specs.{Call.Call, Causes.Rose}
 pub use Rattle.cq_space.specs.Failing.{Fails, Lasts, Reads, Writes}
-pub use Rattle.cq_space.specs.Space.{Closed, Contents, Lacks, Mode, Space, bytes_of}
+pub use Rattle.cq_space.specs.Space.{Closed, Contents, Mode, Space, bytes_of}
 pub use Rattle.cq_pcap.specs.Captured.{Captured}
-pub use Rattle.cq_pcap.specs.{Faults.IsFaulty, Faults.fault_of, declared.read.PcapRefusal.PcapRefusal}
+pub use Rattle.cq_pcap.specs.{Faults.IsFaulty, declared.read.PcapRefusal.PcapRefusal}
 unfoldable pub use Rattle.cq_route.specs.Plain.{plain_tables}
 pub use Rattle.cq_route.specs.Tables.{AreTables, classes_of, ports_of}
 pub use Rattle.cq_route.specs.{declared.tables.PortRow.PortRow, declared.tables.Tables.Tables}
-pub use Rattle.cq_tables.specs.Check.{at, unless}
 unfoldable pub use Rattle.cq_tables.specs.Check.{first}
 pub use Rattle.cq_tables.specs.Document.{Named, apart_from, checks_in, clash, file_check, files_in, files_of, names_of, read_at, tables_of, top_of, written_at}
 unfoldable pub use Rattle.cq_tables.specs.Document.{read_or_refused}
@@ -33,54 +32,53 @@ pub use Rattle.cq_simulate.specs.FabricRuns.{IsFabricRun, IsKeptOf, departures_i
 unfoldable pub use Rattle.cq_simulate.specs.IdealRuns.{ideal_departures, ran_ideal}
 pub use Rattle.cq_simulate.specs.Packets.{ArePacked, HaveLeftOf, ends_packet_at, leaving}
 unfoldable pub use Rattle.cq_simulate.specs.Packets.{packets_out}
-pub use Rattle.cq_simulate.specs.{declared.fabric_run.PackedFabricRun.PackedFabricRun, declared.refusal.RunRefusal.RunRefusal}
+pub use Rattle.cq_simulate.specs.{declared.fabric_run.PackedFabricRun.PackedFabricRun}
 pub use Rattle.cq_words.specs.Words.{command_for, most_slots, with_three}
 pub use Rattle.cq_words.specs.declared.command.Command.{Command}
 pub use Rattle.cq_words.specs.declared.command.Command.TheVariants.{Audit, Check, Ideal, Part, Pass, Resume, Run, Soak}
 pub use Rattle.cq_run.specs.Aim.{Aim, Auditing, Crossing, Denies, Exactly, Meets, Parting, Reporting, Resuming}
 pub use Rattle.cq_run.specs.Asked.{command_asking}
 pub use Rattle.cq_run.specs.Given.{EndsGiven, Given, IsGiven, judged_of_given}
-pub use Rattle.cq_run.specs.Headline.{AreGiven, AreRead, Emulates, IsAudited, IsEmulation, IsPassage, KeepsUp}
+pub use Rattle.cq_run.specs.Headline.{AreGiven, AreRead, Emulates, IsAudited, IsPassage, KeepsUp}
 pub use Rattle.cq_run.specs.Judging.{Halts, IsHaltOf, IsRefused, IsToRead, Judges}
-pub use Rattle.cq_run.specs.Line.{Puts, TakesText}
+pub use Rattle.cq_run.specs.Line.{Puts}
 unfoldable pub use Rattle.cq_run.specs.Line.{line}
 pub use Rattle.cq_run.specs.Pace.{Ahead, AnyName, InTurn, Pace, Uncounted, pace_of}
-pub use Rattle.cq_run.specs.PartEnds.{IsPartHalt, IsResumeHalt, IsResumedBy, IsResuming, halt_for_state, halt_for_text, kept_by}
+pub use Rattle.cq_run.specs.PartEnds.{IsPartHalt, IsResumeHalt, IsResumedBy, IsResuming, halt_for_text}
 pub use Rattle.cq_run.specs.Parting.{IsPartText, IsResumedText}
 pub use Rattle.cq_run.specs.Passing.{all_leave, as_it_leaves, capture_of_all}
 pub use Rattle.cq_run.specs.Pieces.{joined, piece_text}
-pub use Rattle.cq_run.specs.Planning.{CommandHalts, Decides, IsDenial, IsWithinRange, known_by, known_to}
+pub use Rattle.cq_run.specs.Planning.{Decides, IsDenial, IsWithinRange, known_by, known_to}
 pub use Rattle.cq_run.specs.Plan.{audited, capture_out, checked, passed, file_alone}
 unfoldable pub use Rattle.cq_run.specs.Plan.{captures_out, crossed, reported, resumed, switched}
-pub use Rattle.cq_run.specs.Refusals.{is_fault, meaning_of}
-pub use Rattle.cq_run.specs.Switching.{IsCrossed, IsCrossing, IsIdeal, IsPassing, IsSwitched, halt_for, halt_of, under_names}
-pub use Rattle.cq_run.specs.Verdict.{MayRead, MayWrite, capture_in, captures_in, file_in, found_or_missing, ideally_sent, judged, judged_or_words, named, packets_at, read_or_faulty, read_or_refused_for, sent_or_tag, short_in, short_or, state_in, tables_in, text_in, ◌>>=◌}
+pub use Rattle.cq_run.specs.Refusals.{meaning_of}
+pub use Rattle.cq_run.specs.Switching.{IsCrossed, IsCrossing, IsIdeal, IsPassing, IsSwitched, halt_for, under_names}
+pub use Rattle.cq_run.specs.Verdict.{MayRead, MayWrite, capture_in, captures_in, file_in, found_or_missing, ideally_sent, judged, judged_or_words, named, packets_at, read_or_refused_for, sent_or_tag, short_in, short_or, state_in, tables_in, text_in, ◌>>=◌}
 unfoldable pub use Rattle.cq_run.specs.Verdict.{captures_from}
 pub use Rattle.cq_run.specs.World.{IsUntouched, Taken, World, taken_by}
-pub use Rattle.cq_run.specs.{declared.denial.Denial.Denial, declared.refusal.Refusal.Refusal, declared.stop.Halt.Halt, declared.switching.Crossed.Crossed, declared.switching.Switched.Switched}
-pub use Rattle.cq_run.specs.declared.refusal.Refusal.TheVariants.{Audit as Audited, Capture, Configuration, Missing, State, Words}
+pub use Rattle.cq_run.specs.{declared.denial.Denial.Denial, declared.refusal.Refusal.Refusal, declared.stop.Halt.Halt, declared.switching.Switched.Switched}
+pub use Rattle.cq_run.specs.declared.refusal.Refusal.TheVariants.{Audit as Audited, Configuration, Missing, State, Words}
 pub use Rattle.cq_run.specs.declared.stop.Halt.TheVariants.{NoMemory, Refused, Unread}
-pub use Rattle.cq_run.specs.Terms.{IsAuditHalted, IsAuditPassed, IsCut, IsCutAtFile, IsDone, IsJudged, Plan, Reader, SameReader, Spells, StatusCauses, all_replaced, log_of, report_with, soak_captures, soak_tables, taken, trace_of}
+pub use Rattle.cq_run.specs.Terms.{IsAuditHalted, IsAuditPassed, IsCut, IsCutAtFile, IsDone, IsJudged, Plan, Reader, SameReader, Spells, StatusCauses, all_replaced, log_of, soak_captures, soak_tables, taken, trace_of}
 pub use Rattle.cq_base.proofs.Each.{all_back, all_both, all_weaker}
 pub use Rattle.cq_base.specs.{declared.cell.Cell.Cell, declared.cell.Queued.Queued, declared.status.Status.Status}
 pub use Rattle.cq_space.proofs.Replaced.{get_same}
-pub use Rattle.cq_space.specs.declared.whole.ReadRefusal.{ReadRefusal}
 pub use Rattle.cq_pcap.specs.{Written.written, declared.write.OutPacket.OutPacket}
 pub use Rattle.cq_pcap.proofs.{ReadIsSpelt.spelt_or_faulty, SpeltIsRead.fault_is_read, SpeltIsRead.spelt_is_read}
 pub use Rattle.cq_stream.specs.declared.item.Item.TheVariants.{Row}
 pub use Rattle.cq_base.proofs.Having.{has_left, has_right, pair_of_has}
 pub use Rattle.cq_tables.proofs.Versions.{first_parts}
-pub use Rattle.cq_tables.specs.{declared.place.Array.TheVariants.Ports, declared.place.Place.TheVariants.Element, declared.place.Place.TheVariants.Top, declared.refusal.Wrong.TheVariants.DuplicateFile}
+pub use Rattle.cq_tables.specs.{declared.place.Array.TheVariants.Ports, declared.place.Place.TheVariants.Element, declared.place.Place.TheVariants.Top}
 pub use Rattle.cq_cells.specs.{Scheduled.Scheduled, Scheduled.schedule_of}
 pub use Rattle.cq_rank.specs.Machine.{Machine}
 pub use Rattle.cq_ideal.specs.{Admission.NoLimits, Ranking.after_input, Ranking.ranking}
 pub use Rattle.cq_ideal.proofs.{Ends.all_slots, FlowCount.before_end, FlowFound.arriving_is, Parted.first_slot, Resting.ranked_none}
 pub use Rattle.cq_audit.proofs.{AuditExact.audit_is_exact, Noted.stable_log, OneDifference.trace_is_exact}
-pub use Rattle.cq_audit.specs.{Audit.IsYes, Audit.opening_fabric, Audit.IsNo, Trace.DiffersFirst, declared.refusal.AuditRefusal.AuditRefusal}
+pub use Rattle.cq_audit.specs.{Audit.IsYes}
 pub use Rattle.cq_state.specs.{Refusals.IsTooLong, State.state_text, declared.write.StateLong.StateLong}
 pub use Rattle.cq_laws.specs.{Records.transfers_of_run, declared.frozen.Frozen.Frozen}
 pub use Rattle.cq_laws.proofs.WholeRuns.{empty_list}
-pub use Rattle.cq_resume.specs.{Reading.IsRead, Reading.IsRefusal, Reading.state_of, Resumed.IsResumed, Resumed.Kept, Switch.Switch, Switch.switch_of, declared.refusal.StateRefusal.StateRefusal}
+pub use Rattle.cq_resume.specs.{Reading.IsRead, Reading.state_of, Resumed.IsResumed, Resumed.Kept, Switch.Switch, Switch.switch_of}
 pub use Rattle.cq_simulate.proofs.{Chosen.parted_best, Chosen.parted_slack, Chosen.resumed_best, Chosen.resumed_slack, Departed.left_in_packets, Departed.small_cells, EachPacket.each_packet_once, ResumedCounts.resumed_counts, ResumedWhole.resumed_whole, StableRuns.all_stable, StableRuns.stable_sends, StableRuns.stable_slack, Tallies.one_is}
-pub use Rattle.cq_simulate.specs.{PartedRuns.CanBeTakenUp, PartedRuns.IsPartFault, PartedRuns.IsResumeFault, PartedRuns.kept_of, declared.packing.Packing.Packing}
+pub use Rattle.cq_simulate.specs.{PartedRuns.CanBeTakenUp, PartedRuns.kept_of, declared.packing.Packing.Packing}
 pub use Rattle.cq_words.specs.{Numbers.number_from, Streamed.as_run, Streamed.run_of, Streamed.streamed}
