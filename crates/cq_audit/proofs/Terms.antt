@@ -1,13 +1,13 @@
 -- The words of this crate's proofs that stand elsewhere, each passed on from its place.
-pub use Rattle.cq_base.proofs.Library.{AllByRecursion, Bool, Err, IfErr, IfSome, IsOk, IsTrue, List, None, Ok, OnOk, Option, Result, Some, [], and_from, and_left, and_parts, and_right, ap, append-nil, append_assoc, append_cancel_left, arith, cases_Bool, cases_eq, cases_lt, cases_order, common_steps, cond-false, cond_both, drop, drop_more, eq-eqb, eqb-true, err_from_is_err_and, ext_get_or, false, false_from_ne_true, filter, filter-append, filter_map, find-append, get_or, get_or-map, get_or-map-range_with_len, get_or-set_other, get_or-set_same, get_or-take, get_or_past, inl, inr, le-ltb, length, length-append, length-map, length-map-range_with_len, length-replicate, length-set, length-take-le, lit≤, lt-ltb, ltb-true, map, min, ne_eqb, not, option_map, position_or_len, range_with_len, refl, replicate, rules, slice_get, subst, suc, sym, take, take-append-drop, take-append-le, take-take, take_all, take_more, take_rest, true, zero, ℕ, ⊎_elim, ⊤, ◌*◌, ◌++◌, ◌+◌, ◌-◌, ◌<◌, ◌^◌, ◌↔◌, ◌∙◌, ◌∷◌, ◌≡◌, ◌≢◌, ◌≤◌, ◌⊎◌}
-pub use Rattle.cq_base.proofs.Lists.{all_at, all_insert, all_left, first_here, first_later}
+pub use Rattle.cq_base.proofs.Library.{AllByRecursion, Bool, Err, IfErr, IfSome, IsOk, List, None, Ok, OnOk, Option, Result, Some, [], and_from, and_left, and_parts, and_right, ap, append-nil, append_assoc, append_cancel_left, arith, cases_Bool, cases_eq, cases_lt, cases_order, common_steps, cond-false, cond_both, drop, drop_more, eq-eqb, eqb-true, err_from_is_err_and, ext_get_or, false, false_from_ne_true, filter, filter-append, filter_map, find-append, get_or, get_or-map, get_or-map-range_with_len, get_or-set_other, get_or-set_same, get_or-take, get_or_past, inl, inr, le-ltb, length, length-append, length-map, length-map-range_with_len, length-replicate, length-set, length-take-le, lit≤, lt-ltb, ltb-true, map, min, ne_eqb, not, option_map, position_or_len, range_with_len, refl, replicate, rules, slice_get, subst, suc, sym, take, take-append-drop, take-append-le, take-take, take_all, take_more, take_rest, true, zero, ℕ, ⊎_elim, ⊤, ◌*◌, ◌++◌, ◌+◌, ◌-◌, ◌<◌, ◌^◌, ◌∙◌, ◌∷◌, ◌≡◌, ◌≢◌, ◌≤◌, ◌⊎◌}
+pub use Rattle.cq_base.proofs.Lists.{first_here, first_later}
 pub use Rattle.cq_base.specs.Arrivals.{arrival_at, no_arrivals}
 pub use Rattle.cq_base.specs.Arriving.{Arrival, arriving, end_of, enough}
-pub use Rattle.cq_base.specs.Cells.{first_for, is_for}
+pub use Rattle.cq_base.specs.Cells.{first_for}
 pub use Rattle.cq_base.specs.Limits.{most_ports}
 pub use Rattle.cq_base.specs.{Room.RoomView, Texts.log_line, declared.cell.Queued.Queued, declared.cell.TagFault.TagFault}
 unfoldable pub use Rattle.cq_base.specs.Texts.{log_of}
-pub use Rattle.cq_cells.specs.Traffic.{IsInRange, IsShort, IsTraffic, is_from, is_to, number_of}
+pub use Rattle.cq_cells.specs.Traffic.{IsShort, IsTraffic, is_from, is_to, number_of}
 pub use Rattle.cq_rank.specs.Switch.{AreForOneSwitch, class_count}
 pub use Rattle.cq_scfq.specs.Disciplines.{machines_of, openings_of}
 pub use Rattle.cq_ideal.proofs.Admitted.{admitted_arrives, admitted_for_ports}
@@ -31,7 +31,7 @@ pub use Rattle.cq_prefs.proofs.{OutputOrder.is_output_order, Pairs.nobody, Place
 pub use Rattle.cq_prefs.specs.FirstCells.{HasCellFor, list_of, orders_of, output_order}
 pub use Rattle.cq_prefs.specs.Moves.{Moves, noted}
 unfoldable pub use Rattle.cq_prefs.specs.Moves.{transfers_of}
-pub use Rattle.cq_prefs.specs.Orders.{AreOffers, IsListed, IsOffered, Orders, outputs_of, place_in, place_of, ports, position_of}
+pub use Rattle.cq_prefs.specs.Orders.{AreOffers, IsListed, IsOffered, Orders, outputs_of, place_in, place_of, ports}
 pub use Rattle.cq_prefs.specs.Pairing.{HasBetterInput, HasBetterOutput, IsFreeOutput, IsMatching, IsStable, Partners, depth, partner_of, partner_place, with_pair}
 pub use Rattle.cq_laws.proofs.OneRun.{one_arrival, one_departure, one_transfer, outputs_at, same_record}
 pub use Rattle.cq_laws.proofs.Parted.{reach, run_length, run_of_whole}
@@ -53,11 +53,11 @@ pub use Rattle.cq_base.proofs.Each.{all_both, all_front, all_weaker, all_back, a
 pub use Rattle.cq_base.specs.declared.cell.CellId.{CellId}
 pub use Rattle.cq_scfq.specs.Discipline.{machine_from}
 pub use Rattle.cq_ideal.proofs.{FlowFound.all_found, LimitedParts.limited_parts, LimitedRuns.run_fault, Resting.length-idle, Sending.length-told, Slot.by_marks}
-pub use Rattle.cq_ideal.specs.{IdealRun.empty_ideal, IdealSlot.fronts, Limiter.ComeToPorts, Limiter.LimiterView, Parts.RanksView}
+pub use Rattle.cq_ideal.specs.{IdealSlot.fronts, Limiter.ComeToPorts, Limiter.LimiterView, Parts.RanksView}
 pub use Rattle.cq_lines.specs.{Lines.ending, Lines.BeginsWith}
 pub use Rattle.cq_lines.proofs.{Spelling.one_number, Walk.ending_ends, Walk.one_ending}
-pub use Rattle.cq_laws.proofs.{Came.came_from, Held.nothing_for, InputBest.stable_limited_too, Joined.all_go_on, KeptParts.transfers_one, LimitedSlots.same_limited_fault, LimitedWhole.begin, LimitedWhole.same_limited_run, Members.first_at, QuietSlots.quiet_transfers, Rises.sender}
-pub use Rattle.cq_laws.specs.{Agreement.SendsAlike, Agreement.Agrees, Holding.held_for, LimitedAgreement.LimitedAgrees, LimitedAgreement.LimitedRunsAlike, Quiet.idled}
+pub use Rattle.cq_laws.proofs.{Came.came_from, Held.nothing_for, InputBest.stable_limited_too, Joined.all_go_on, KeptParts.transfers_one, LimitedSlots.same_limited_fault, LimitedWhole.begin, LimitedWhole.same_limited_run, QuietSlots.quiet_transfers, Rises.sender}
+pub use Rattle.cq_laws.specs.{Agreement.SendsAlike, Holding.held_for, LimitedAgreement.LimitedAgrees, LimitedAgreement.LimitedRunsAlike, Quiet.idled}
 pub use Rattle.cq_fabric.specs.Held.{HoldsFabric}
 pub use Rattle.cq_fabric.proofs.{Kept.limited_lists_kept, Kept.limited_outputs_kept, Known.AreRanked, Known.BuffersHaveRoom, Known.HaveArrived, Known.HaveJudged, Known.HaveMoved, Known.HaveSent, Rested.rested_agrees, Rested.rested_limited_run, Rested.still_held}
 pub use Rattle.cq_traffic.specs.{Rooms.rooms_of, Stretch.IsQuietUntil}

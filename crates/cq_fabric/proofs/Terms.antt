@@ -1,5 +1,5 @@
 -- The words of this crate's proofs that stand elsewhere, each passed on from its place.
-pub use Rattle.cq_base.proofs.Library.{All, All-from_recursion, All-push, AllByRecursion, AllPass-from_list_all, Bool, FnReturnsAt, IfOk-weaker, IfSome, List, None, Ok, Option, Some, [], and_left, and_right, ap, append-nil, arith, cases_Bool, cases_eq, cases_lt, common_steps, cond, cond_both, drop, drop-drop, drop-set-lt, drop_all, enumerate_from, eq-eqb, eqb, eqb-true, ext_get_or, false, filter, get_or, get_or-enumerate_from, get_or-map, get_or-map-range_with_len, get_or-replicate, get_or-set_other, get_or-set_same, get_or_default, get_or_past, get_or_read, if◌then◌else◌, inl, inr, insert, is_some, length, length-drop, length-enumerate_from, length-insert, length-map, length-map-range_with_len, length-replicate, length-set, length-take-le, map, ne_eqb, not, position_or_len, refl, replicate, rules, same_Some, set, set-get_or, slice_get, slice_get-get_or, subst, suc, sym, take, take_all, take_more, take_more_set, true, zero, ℕ, ⊎_elim, ◌&&◌, ◌++◌, ◌+◌, ◌-◌, ◌<◌, ◌^◌, ◌∙◌, ◌∷◌, ◌≡◌, ◌≢◌, ◌≤◌, ◌⊎◌, reduce, slice_get_within, min, slice_get_cases, get_or_from_slice_get}
+pub use Rattle.cq_base.proofs.Library.{All, All-from_recursion, All-push, AllByRecursion, Bool, FnReturnsAt, IfOk-weaker, IfSome, List, None, Ok, Option, Some, [], ap, append-nil, arith, cases_eq, cases_lt, common_steps, cond, cond_both, drop, drop-drop, drop-set-lt, drop_all, enumerate_from, eq-eqb, eqb, eqb-true, ext_get_or, false, filter, get_or, get_or-enumerate_from, get_or-map, get_or-map-range_with_len, get_or-replicate, get_or-set_other, get_or-set_same, get_or_default, get_or_past, get_or_read, if◌then◌else◌, insert, is_some, length, length-drop, length-enumerate_from, length-insert, length-map, length-map-range_with_len, length-replicate, length-set, length-take-le, map, ne_eqb, not, position_or_len, refl, replicate, rules, same_Some, set, set-get_or, slice_get, slice_get-get_or, subst, suc, sym, take, take_all, take_more, take_more_set, true, zero, ℕ, ⊎_elim, ◌&&◌, ◌++◌, ◌+◌, ◌-◌, ◌<◌, ◌^◌, ◌∙◌, ◌∷◌, ◌≡◌, ◌≢◌, ◌≤◌, ◌⊎◌, reduce, slice_get_within, min, slice_get_cases, get_or_from_slice_get}
 unfoldable pub use Rattle.cq_base.proofs.Library.{IsDistinct}
 pub use Rattle.cq_base.proofs.Keys.{key_laws}
 pub use Rattle.cq_base.proofs.Lists.{ahead_of_end, all_at, first_here, first_later}
@@ -7,11 +7,11 @@ pub use Rattle.cq_base.specs.Arrivals.{arrival_at, no_arrivals}
 pub use Rattle.cq_base.specs.Cells.{ArrivedBefore, HasOtherKey, IsBefore, IsRising, KeepsOrder, MoreUrgentAhead, cushion, first_for, is_for, place_of_arrival, place_of_later, put, with_arrival, without_first}
 pub use Rattle.cq_base.specs.Items.{EachPair}
 pub use Rattle.cq_base.specs.Limits.{most_ports}
-pub use Rattle.cq_base.specs.{Key.is_before, declared.cell.Cell.Cell, declared.cell.Queued.Queued, declared.key.Key.Key}
+pub use Rattle.cq_base.specs.{Key.is_before, declared.cell.Cell.Cell, declared.cell.Queued.Queued}
 pub use Rattle.cq_rank.specs.Machine.{Machine}
 pub use Rattle.cq_ideal.proofs.Changed.{at_end, at_place, changed_to, item_inside, map_next, map_same, next_place, none_wait, seen_at, take_next}
 pub use Rattle.cq_ideal.proofs.Refusals.{each_once}
-pub use Rattle.cq_ideal.specs.Admission.{Admission, Marked, admitted, marked, marks_after}
+pub use Rattle.cq_ideal.specs.Admission.{Marked, admitted, marked, marks_after}
 unfoldable pub use Rattle.cq_ideal.specs.Admission.{admission}
 pub use Rattle.cq_ideal.specs.Ideal.{count_for}
 pub use Rattle.cq_ideal.specs.IdealSlot.{IdealState, all_told, filled, fronts, rests}

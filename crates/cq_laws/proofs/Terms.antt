@@ -16,9 +16,9 @@ pub use Rattle.cq_ideal.specs.Admission.{RefusesNone, marked, nothing_refused}
 unfoldable pub use Rattle.cq_ideal.specs.Admission.{admission}
 pub use Rattle.cq_ideal.specs.Ending.{IdealAfter, IdealEnds, IsEnd, arriving_from, first_slots, slots_of, slots_of_run}
 unfoldable pub use Rattle.cq_ideal.specs.Ending.{whole_ideal_run}
-pub use Rattle.cq_ideal.specs.IdealRun.{IsEmptyIdeal, Ran, empty_ideal, then_ran}
+pub use Rattle.cq_ideal.specs.IdealRun.{IsEmptyIdeal, empty_ideal}
 unfoldable pub use Rattle.cq_ideal.specs.IdealRun.{departures_of, ideal_run}
-pub use Rattle.cq_ideal.specs.IdealSlot.{Sent, departures_from, fronts, put_all, rests}
+pub use Rattle.cq_ideal.specs.IdealSlot.{departures_from, fronts, put_all, rests}
 unfoldable pub use Rattle.cq_ideal.specs.IdealSlot.{all_told, departures_in, filled, ideal_slot}
 pub use Rattle.cq_ideal.specs.LimitedIdeal.{empty_limited, ideal_admission}
 unfoldable pub use Rattle.cq_ideal.specs.LimitedIdeal.{admitted_traffic, limited_run, limited_slot}
@@ -44,7 +44,7 @@ unfoldable pub use Rattle.cq_laws.specs.Records.{transfers_in, transfers_of_run}
 pub use Rattle.cq_laws.specs.Slack.{ArrivesWithSlack, EachArrivesOrFalls, EachFalls, Falls}
 pub use Rattle.cq_laws.specs.SlotBySlot.{AfterBy, AreAlso, GoOn, HasParts, RunBy, StopBy, WholeBy}
 pub use Rattle.cq_laws.specs.Terms.{ActAlikeFromEmptyWithoutLimits, ActAlikeWithoutLimits, Agrees, AreForPorts, Arrival, Arrives, BeginsWhole, Cell, Departs, EachArrivesOr, EachIsWhole, EachRises, EndsAlike, Fabric, FabricRun, FabricSlot, FabricStops, Figures, FirstsCanCross, FitsList, HasMoreSlack, HasSlack, IdealState, IsAmong, IsEmptyFabric, IsFabric, IsFault, IsForSwitch, IsInputBest, IsLimitedFault, IsOneRun, IsRunOfRecorded, IsStable, IsWholeFabric, LimitedEndsAlike, LimitedFabricRun, LimitedFabricSlot, LimitedFabricStops, LimitedRecord, LimitedWholeRun, ListsKeepOrder, Machine, Marked, Partners, Queued, SlotRecord, TagFault, Transfers, WholeRun, admissions_in, buffer, came_to, cushion_of, empty_fabric, empty_limited_fabric, fabric_admission, first_come_all, for_output1, from_input2, ideal_held, idled_for, input, least_slack, list_arrived, no_arrivals, passed, place_of_arrival, quiet_slots, slots_in, three, three_empty, three_slots, worked_figures, worked_records, worked_transfers}
-pub use Rattle.cq_base.proofs.Putting.{all_put, length_put}
+pub use Rattle.cq_base.proofs.Putting.{length_put}
 pub use Rattle.cq_base.proofs.Each.{all_front}
 pub use Rattle.cq_base.specs.{declared.cell.Transfer.Transfer, declared.figures.OutputFigures.OutputFigures}
 pub use Rattle.cq_base.proofs.Having.{all_from_has, all_of_has, has_cases, has_kept, has_left, has_right, has_there, kept_has, none_had, stands_at}

@@ -1,7 +1,7 @@
 -- The words of this crate's proofs that stand elsewhere, each passed on from its place.
-pub use Rattle.cq_base.proofs.Library.{All, All-from_recursion, All-push, AllByRecursion, AllPairs, Bool, Err, IfErr-weaker, IfOk, IfOk-weaker, IfSome, IsTrue, List, None, Ok, Option, Result, Some, [], and_from, and_left, and_parts, and_right, ap, append-nil, append_assoc, arith, cases_Bool, cases_eq, cases_lt, common_steps, cond, cond-false, cond-true, cond_both, cons_option, drop, drop_more, enumerate_from, eq-eqb, eqb-true, err_from_is_err_and, false, filter, filter-append, filter_agree, filter_map, find, flat_map, flat_map-append, flat_map-map, fold, fold-append, get_or, get_or-map, get_or-map-range_with_len, get_or-replicate, get_or-set_other, get_or-set_same, get_or_default, get_or_from_slice_get, get_or_past, if◌then◌else◌, inl, inr, is_err, is_some, le-leb, le-ltb, leb-false, length, length-append, length-drop, length-filter, length-filter_both, length-insert, length-map, length-map-range_with_len, length-replicate, length-set, list_any, lt-leb, lt-ltb, ltb-true, map, map-append, map-range_with_len_more, max, min, mul-le-mul, nat_lt, ne_eqb, nil_from_length, not, option_map, range_with_len, recursion_from_All, refl, replicate, rules, set, slice_get_within, slice_index, slice_index_or, subst, suc, sum, sum-map, sum_by, sum_by-cons, sum_by-le, sym, take, take-append-drop, take-append-le, take_all, take_more, true, vec_len, zero, ℕ, ⊎_elim, ◌&&◌, ◌*◌, ◌++◌, ◌+◌, ◌-◌, ◌<◌, ◌==◌, ◌^◌, ◌↔◌, ◌∙◌, ◌∷◌, ◌≡◌, ◌≢◌, ◌≤◌, ◌⊎◌}
+pub use Rattle.cq_base.proofs.Library.{All, All-from_recursion, All-push, AllByRecursion, AllPairs, Bool, Err, IfErr-weaker, IfOk, IfOk-weaker, IfSome, IsTrue, List, None, Ok, Option, Result, Some, [], and_from, and_left, and_parts, and_right, ap, append-nil, append_assoc, arith, cases_eq, cases_lt, common_steps, cond, cond-false, cond-true, cond_both, cons_option, drop, drop_more, enumerate_from, eq-eqb, eqb-true, err_from_is_err_and, false, filter, filter-append, filter_agree, filter_map, flat_map, flat_map-append, fold, fold-append, get_or, get_or-map, get_or-map-range_with_len, get_or-replicate, get_or-set_other, get_or-set_same, get_or_default, get_or_from_slice_get, get_or_past, if◌then◌else◌, inl, is_err, is_some, le-leb, le-ltb, leb-false, length, length-append, length-drop, length-filter, length-filter_both, length-insert, length-map, length-map-range_with_len, length-replicate, length-set, list_any, lt-leb, lt-ltb, ltb-true, map, map-append, max, min, mul-le-mul, nat_lt, ne_eqb, nil_from_length, not, range_with_len, recursion_from_All, refl, replicate, rules, set, slice_get_within, slice_index, slice_index_or, subst, suc, sum, sum-map, sum_by, sum_by-cons, sum_by-le, sym, take, take-append-drop, take-append-le, take_all, take_more, true, vec_len, zero, ℕ, ⊎_elim, ◌&&◌, ◌*◌, ◌++◌, ◌+◌, ◌-◌, ◌<◌, ◌==◌, ◌^◌, ◌↔◌, ◌∙◌, ◌∷◌, ◌≡◌, ◌≢◌, ◌≤◌, ◌⊎◌}
 pub use Rattle.cq_base.specs.Arrivals.{arrival_at, no_arrivals}
-pub use Rattle.cq_base.specs.Arriving.{Arrival, arriving_at, end_of, is_at}
+pub use Rattle.cq_base.specs.Arriving.{Arrival, arriving_at, end_of}
 unfoldable pub use Rattle.cq_base.specs.Arriving.{arriving, enough, traffic_of}
 pub use Rattle.cq_base.specs.Cells.{IsBefore, is_for}
 pub use Rattle.cq_base.specs.Items.{EachPair, Has}
@@ -12,20 +12,19 @@ pub use Rattle.cq_route.specs.Route.{route}
 pub use Rattle.cq_cells.proofs.Packets.{came_more, few_by, length_packet, row_of, rows_are}
 pub use Rattle.cq_cells.proofs.Pieces.{cells_above, piece_begins}
 pub use Rattle.cq_cells.proofs.Rising.{at_input, traffic_is}
-pub use Rattle.cq_cells.specs.Schedule.{arrivals_of, packet_at, packet_in, packets_of, start}
-unfoldable pub use Rattle.cq_base.specs.Pieces.{cells_of}
+pub use Rattle.cq_cells.specs.Schedule.{arrivals_of, packet_at, packets_of, start}
 unfoldable pub use Rattle.cq_cells.specs.Schedule.{arrivals, arrivals_at, cell_of, cells}
 pub use Rattle.cq_cells.specs.Scheduled.{Scheduled, schedule_of}
 pub use Rattle.cq_cells.specs.Traffic.{IsLater, IsShort, IsTraffic, is_from, is_to, number_of}
 pub use Rattle.cq_rank.specs.Machine.{KeepsLaws, Machine, first_come, machine_at}
 pub use Rattle.cq_rank.specs.Switch.{class_count}
-pub use Rattle.cq_scfq.specs.Discipline.{fixed_of, machine_from, state_of}
+pub use Rattle.cq_scfq.specs.Discipline.{fixed_of, machine_from}
 pub use Rattle.cq_scfq.specs.Disciplines.{machine_of, machines_of, openings_of}
 pub use Rattle.cq_ideal.proofs.AtInput.{come_in_order, comes_at_input}
 pub use Rattle.cq_ideal.proofs.Counting.{all_counted_both, counts_fit, none_counted, zero_fits}
 pub use Rattle.cq_ideal.proofs.Ends.{all_slots, none_waits, nothing_left}
 pub use Rattle.cq_ideal.proofs.FlowCount.{come_count-first, come_count-traffic_of, none_after}
-pub use Rattle.cq_ideal.proofs.FlowFound.{all_found, all_present, arriving_is, cell_listed}
+pub use Rattle.cq_ideal.proofs.FlowFound.{all_found, all_present, arriving_is}
 unfoldable pub use Rattle.cq_ideal.proofs.FlowFound.{found}
 pub use Rattle.cq_ideal.proofs.FlowPut.{NoLater}
 pub use Rattle.cq_ideal.proofs.FlowRank.{AreOfClasses, present}
@@ -37,8 +36,8 @@ pub use Rattle.cq_ideal.proofs.LimitedEnds.{limited_found_end, limited_same_sent
 pub use Rattle.cq_ideal.proofs.LimitedRuns.{is_run_of, judged, run_fault, run_step}
 pub use Rattle.cq_ideal.proofs.Parted.{arriving_here, arriving_length, arriving_parts, departures_append}
 pub use Rattle.cq_ideal.proofs.Refusals.{counts_more, each_once, one_slot_more}
-pub use Rattle.cq_ideal.proofs.RestAtInput.{comes_from, is_from_on, line_at, rest_of}
-pub use Rattle.cq_ideal.proofs.Waiting.{counted, total_more, total_none, total_same}
+pub use Rattle.cq_ideal.proofs.RestAtInput.{comes_from, line_at, rest_of}
+pub use Rattle.cq_ideal.proofs.Waiting.{counted, total_none, total_same}
 unfoldable pub use Rattle.cq_ideal.proofs.Waiting.{total, waiting}
 pub use Rattle.cq_ideal.specs.Admission.{Admission, Marked, NoLimits, admitted, admitted_in, is_first, marked, nothing_refused, refused}
 unfoldable pub use Rattle.cq_ideal.specs.Admission.{admission}
@@ -52,13 +51,13 @@ pub use Rattle.cq_ideal.specs.IdealSlot.{IdealState, ideal_slot}
 unfoldable pub use Rattle.cq_ideal.specs.IdealSlot.{departures_in}
 pub use Rattle.cq_ideal.specs.LimitedEnding.{departures_limited, slots_of_limited_run}
 unfoldable pub use Rattle.cq_ideal.specs.LimitedEnding.{whole_limited_run}
-pub use Rattle.cq_ideal.specs.LimitedIdeal.{LimitedRan, LimitedSent, empty_limited, ideal_admission, ideal_held, nothing_came, then_limited, unlimited, with_admission}
+pub use Rattle.cq_ideal.specs.LimitedIdeal.{LimitedRan, LimitedSent, empty_limited, ideal_admission, with_admission}
 unfoldable pub use Rattle.cq_ideal.specs.LimitedIdeal.{limited_run, limited_slot}
 pub use Rattle.cq_ideal.specs.Ranking.{AreForPorts, ranking}
 pub use Rattle.cq_ideal.specs.Refused.{refused_counts, refused_in, with_refused}
 unfoldable pub use Rattle.cq_ideal.specs.Refused.{packets_refused}
 pub use Rattle.cq_ideal.specs.WholePackets.{AreJudged, AreOfPackets, came_at, cells_at}
-pub use Rattle.cq_reasm.specs.Joining.{IsOtherPair, JoinerView, open_after, open_at}
+pub use Rattle.cq_reasm.specs.Joining.{JoinerView, open_after, open_at}
 pub use Rattle.cq_state.specs.{State.IsInRange, declared.state.Sent.Sent, declared.state.State.State}
 pub use Rattle.cq_prefs.specs.FirstCells.{list_of, orders_of, output_order}
 pub use Rattle.cq_prefs.specs.Pairing.{IsInputBest, IsMatching, IsStable, Partners, partner_of, proposals, spent}
@@ -70,9 +69,9 @@ pub use Rattle.cq_laws.proofs.OneRun.{only_limited_run, outputs_at}
 pub use Rattle.cq_laws.proofs.OneSlot.{after_sent, arrived}
 pub use Rattle.cq_laws.proofs.QuietSlots.{quiet_figures, quiet_transfers}
 pub use Rattle.cq_laws.proofs.Sound.{orders_are}
-pub use Rattle.cq_laws.proofs.WholeRuns.{empty_agree, empty_list, empty_together}
+pub use Rattle.cq_laws.proofs.WholeRuns.{empty_list, empty_together}
 pub use Rattle.cq_laws.specs.{Agreement.Agrees, Frozen.ideal_of, Records.gone_in}
-pub use Rattle.cq_laws.specs.Fabric.{Fabric, IsAmong, IsEmptyFabric, IsFabric, buffer, empty_fabric, input}
+pub use Rattle.cq_laws.specs.Fabric.{Fabric, IsEmptyFabric, IsFabric, empty_fabric, input}
 pub use Rattle.cq_laws.specs.FabricSlot.{FabricSlot, SlotRecord}
 pub use Rattle.cq_laws.specs.Holding.{held_for}
 unfoldable pub use Rattle.cq_laws.specs.Holding.{fabric_held}
@@ -83,15 +82,15 @@ unfoldable pub use Rattle.cq_laws.specs.Measures.{figures_after, figures_of, out
 unfoldable pub use Rattle.cq_laws.specs.Records.{transfers_in, transfers_of_run}
 pub use Rattle.cq_resume.proofs.Cut.{filter_both}
 pub use Rattle.cq_resume.proofs.GoesOn.{GoesOn, buffer_is, came_before, comes, found_at, goes_on, in_buffer, in_list, in_order, is_cell_of, its_output, its_slot, list_is, of_traffic, ports_are, queued_differ, queued_named, some_cell}
-pub use Rattle.cq_resume.specs.Counted.{departure_of, firsts_at, is_refused, latest, marks_told, output_told, sent_told, taken_of}
+pub use Rattle.cq_resume.specs.Counted.{departure_of, firsts_at, is_refused, latest, marks_told, sent_told, taken_of}
 unfoldable pub use Rattle.cq_resume.specs.Counted.{figures_told, frozen_told}
-pub use Rattle.cq_resume.specs.Resumed.{IsResumed, Kept, RunsOn, Stops}
+pub use Rattle.cq_resume.specs.Resumed.{IsResumed, Kept, RunsOn}
 pub use Rattle.cq_resume.specs.Sound.{AllNamed, AreWholePackets, IsBelowFloor, IsSentBefore, IsSound, NoneNamed, OfOneFlow}
 pub use Rattle.cq_resume.specs.Switch.{HasLimit, HasShape, Switch, switch_of}
-pub use Rattle.cq_resume.specs.Told.{arriving_cell, class_in, class_of, is_ahead, is_named, key_of, list_told, named_in, output_of, packet_before, queued_in, queued_of}
+pub use Rattle.cq_resume.specs.Told.{arriving_cell, class_of, is_ahead, is_named, key_of, named_in, output_of, packet_before, queued_in, queued_of}
 unfoldable pub use Rattle.cq_resume.specs.Told.{fabric_told}
 pub use Rattle.cq_resume.specs.declared.taken.Taken.{Taken}
-pub use Rattle.cq_engine.specs.Engine.{CanBeMade, CanGoOn, EngineView, HaveBufferRoom, HaveListRoom, IsMadeAs, IsReadyFor, SlotDone, fresh_engine, frozen_of, thawed_engine, its_admission, marked_fabric}
+pub use Rattle.cq_engine.specs.Engine.{CanGoOn, EngineView, HaveBufferRoom, HaveListRoom, IsMadeAs, IsReadyFor, SlotDone, fresh_engine, frozen_of, thawed_engine, its_admission, marked_fabric}
 pub use Rattle.cq_traffic.proofs.ForPorts.{arrivals_for, slots_fit}
 pub use Rattle.cq_traffic.proofs.FromInputs.{arrives_found, bit, first_more, from_here, no_more_from, one_if, some_one}
 unfoldable pub use Rattle.cq_traffic.proofs.FromInputs.{come_from}
@@ -99,7 +98,7 @@ pub use Rattle.cq_traffic.proofs.Quiet.{arrives_before, before_both, none_up_to,
 pub use Rattle.cq_traffic.proofs.ToOutputs.{come_for-traffic_of, for_here, no_more_to}
 unfoldable pub use Rattle.cq_traffic.proofs.ToOutputs.{come_for}
 pub use Rattle.cq_simulate.specs.FabricRuns.{AlwaysHasSlack, AreChosen, AreInputBest, AreStable, IsFabricRun, IsKeptOf, SendsSlotBySlot, departures_in_run, refused_in_run, unpacked_run}
-pub use Rattle.cq_simulate.specs.GoingOn.{HasKept, HasPartedTo, HasRunOn, IsReadyOn, IsReadyPart, IsRefusalOn, RanTo, StopsWithin, WentOn, to_come}
+pub use Rattle.cq_simulate.specs.GoingOn.{HasKept, HasPartedTo, HasRunOn, IsReadyOn, IsRefusalOn, RanTo, StopsWithin, WentOn, to_come}
 unfoldable pub use Rattle.cq_simulate.specs.GoingOn.{fabric_listed}
 pub use Rattle.cq_simulate.specs.IdealRuns.{IsRefusalOf, counts_limited, slots_ran}
 unfoldable pub use Rattle.cq_simulate.specs.IdealRuns.{ideal_departures, ideal_refusals, ran_ideal}
@@ -109,7 +108,7 @@ pub use Rattle.cq_simulate.specs.Pieces.{CanBeJoined, Fits, IsCaptured, IsEmptie
 pub use Rattle.cq_simulate.specs.{declared.fabric_run.PackedFabricRun.PackedFabricRun, declared.ports.Ports.Ports, declared.refusal.RunRefusal.RunRefusal}
 pub use Rattle.cq_simulate.specs.Terms.{ArePortsFor, AreTables, CanBeTakenUp, Cell, FabricRun, GoesOnFrom, IsFreshFor, IsIdealFor, IsPartFault, IsQuiet, IsReady, IsResumeFault, IsScheduleFor, IsSetup, NoneCome, Tables, classes_of, kept_of, ports_of}
 pub use Rattle.cq_base.proofs.Each.{all_filter, all_weaker, all_flat, all_made, filter_all, filter_none}
-pub use Rattle.cq_base.specs.{declared.figures.OutputFigures.OutputFigures, declared.key.Key.Key, declared.packed.PackedDeparture.PackedDeparture, declared.setup.Kind.Kind, declared.setup.Kind.TheVariants.FirstCome}
+pub use Rattle.cq_base.specs.{declared.figures.OutputFigures.OutputFigures, declared.packed.PackedDeparture.PackedDeparture, declared.setup.Kind.Kind, declared.setup.Kind.TheVariants.FirstCome}
 pub use Rattle.cq_base.proofs.Keys.{key_laws}
 pub use Rattle.cq_pcap.proofs.Writing.{written_with}
 pub use Rattle.cq_pcap.specs.{declared.capture.PacketRow.PacketRow, declared.write.OutPacket.OutPacket}
@@ -120,8 +119,8 @@ pub use Rattle.cq_cells.proofs.Ranges.{range_more}
 pub use Rattle.cq_scfq.specs.declared.discipline.Discipline.{Discipline}
 pub use Rattle.cq_ideal.proofs.EnoughSlots.{waiting-empty}
 pub use Rattle.cq_ideal.proofs.{LimitedParts.no_departures, EachLeaves.each_leaves_or_is_refused, EachLeaves.refuses_none_elsewhere, FlowLaw.all_in_range, FlowLaw.class_in_slot, FlowLaw.none_came, FlowOn.flow_on, FlowOn.flows_leave_in_packets, FlowOn.whole_on, LastSlot.slots_within, LimitedLast.last_departs, LimitedLast.limited_slots, Standing.StandAt, Standing.stand_in}
-pub use Rattle.cq_ideal.specs.{EachOnce.KeepTheirOutput, EachOnce.LeaveOrAreRefused, Fresh.fresh_ideal, OneSlot.CanHaveSlot, OneSlot.HasHadSlot, OneSlot.IsSameSwitch}
-pub use Rattle.cq_reasm.specs.{Cutting.AreCutFrom, Open.Open, Open.bytes_taken, Open.with_piece, Piece.Piece}
+pub use Rattle.cq_ideal.specs.{EachOnce.KeepTheirOutput, EachOnce.LeaveOrAreRefused, OneSlot.CanHaveSlot, OneSlot.HasHadSlot, OneSlot.IsSameSwitch}
+pub use Rattle.cq_reasm.specs.{Cutting.AreCutFrom, Open.Open, Piece.Piece}
 pub use Rattle.cq_reasm.proofs.Pieces.{pieces_give_frame}
 pub use Rattle.cq_state.specs.declared.state.Named.{Named}
 pub use Rattle.cq_prefs.specs.Orders.{Orders}
@@ -130,4 +129,3 @@ pub use Rattle.cq_laws.specs.{Frozen.fabric_in, Frozen.marked_in, Frozen.IsSound
 pub use Rattle.cq_laws.proofs.{ActingAlike.best_act_alike_from_empty, ActingAlike.best_act_alike, AddingUp.figures_fold, Came.came_from, EndsTogether.slots_of_figures, Held.hold_as_many, Held.nothing_for, Joined.all_go_on, KeptParts.departures_one, KeptParts.transfers_both, KeptParts.transfers_one, KeptParts.departures_on, Members.first_at, Parted.run_of_whole}
 pub use Rattle.cq_resume.specs.Parts.{IsParted}
 pub use Rattle.cq_engine.proofs.{Kept.limited_lists_kept, Kept.limited_outputs_kept}
-pub use Rattle.cq_ideal.proofs.{EnoughSlots.no_more, LimitedEnds.state_ran, Parted.sends_long}

@@ -6,7 +6,7 @@ unfoldable pub use Rattle.cq_base.specs.Arriving.{arriving}
 pub use Rattle.cq_base.specs.Cells.{IsBefore, is_for, put}
 pub use Rattle.cq_base.specs.Items.{EachPair, Has}
 pub use Rattle.cq_base.specs.Limits.{level_count, longest_file, most_classes, most_ports}
-pub use Rattle.cq_route.specs.Tables.{AreTables, ports_of}
+pub use Rattle.cq_route.specs.Tables.{AreTables}
 pub use Rattle.cq_route.specs.declared.tables.Tables.{Tables}
 pub use Rattle.cq_cells.specs.Scheduled.{Scheduled}
 pub use Rattle.cq_cells.specs.Traffic.{IsRecorded, IsTraffic, is_from}
@@ -15,7 +15,7 @@ pub use Rattle.cq_scfq.specs.Disciplines.{machine_of, opening_of, openings_of}
 pub use Rattle.cq_ideal.proofs.Admitted.{admitted_arrives, admitted_at, marks_kept}
 pub use Rattle.cq_ideal.proofs.Came.{Came, came_from}
 pub use Rattle.cq_ideal.proofs.{EnoughSlots.fewer, FlowStands.HasWaited}
-pub use Rattle.cq_ideal.proofs.FlowRank.{AreOfClasses, after_input_ok, only_ok, present}
+pub use Rattle.cq_ideal.proofs.FlowRank.{after_input_ok, only_ok, present}
 pub use Rattle.cq_ideal.proofs.FlowSlot.{Served, listed, served}
 pub use Rattle.cq_ideal.specs.Admission.{Marked, held_after, mark_after, mark_at, marks_after, unless}
 unfoldable pub use Rattle.cq_ideal.specs.Admission.{admission}
@@ -46,7 +46,6 @@ pub use Rattle.cq_laws.specs.LimitedFabric.{LimitedFabricSlot, LimitedRecord, ad
 pub use Rattle.cq_laws.specs.Measures.{sent_by, wait_at}
 unfoldable pub use Rattle.cq_laws.specs.Measures.{figures_of, input_figures, output_figures, proposals_in, slacks}
 pub use Rattle.cq_laws.specs.Phases.{came_to}
-unfoldable pub use Rattle.cq_laws.specs.Records.{transfers_of_run}
 pub use Rattle.cq_resume.proofs.GoesOn.{Differ, cell_with, found_at}
 pub use Rattle.cq_resume.specs.Counted.{IsTally, input_told, output_told, sent_told, taken_of}
 unfoldable pub use Rattle.cq_resume.specs.Counted.{figures_told, frozen_told}
@@ -87,4 +86,4 @@ pub use Rattle.cq_resume.specs.declared.found.Name.{Name}
 pub use Rattle.cq_traffic.proofs.{ForPorts.arrivals_for, ForPorts.place_of}
 pub use Rattle.cq_simulate.proofs.{FabricSteps.all_wait, OnceASlot.AreNumbered}
 pub use Rattle.cq_simulate.proofs.{Departed.small_cells, EachPacket.all_arriving, EachPacket.all_judged, OnceASlot.limited_numbered, Runnable.keeps_laws, Runnable.kind, Runnable.machine_is, Runnable.right_classes, Runnable.right_size, Tallies.all_in_row, Tallies.sum_by_same, Tallies.tally, Tallies.tally_by_parts, Tallies.tally_turned}
-pub use Rattle.cq_simulate.specs.{FabricRuns.IsFabricRun, FabricRuns.refused_in_run}
+pub use Rattle.cq_simulate.specs.{FabricRuns.IsFabricRun}

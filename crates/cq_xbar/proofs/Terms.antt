@@ -1,5 +1,5 @@
 -- The words of this crate's proofs that stand elsewhere, each passed on from its place.
-pub use Rattle.cq_base.proofs.Library.{AllByRecursion, IsSome, List, None, Option, Some, [], ap, append-nil, append_assoc, arith, cases_Bool, cases_eq, cases_lt, common_steps, cond, cond_both, eqb-true, ext_get_or, false, filter_map, filter_map-append, get_or, get_or-set_other, get_or_default, get_or-set_same, get_or_past, inl, inr, is_some, length, length-append, length-map, length-range_with_len, length-set, map, nat_eq, option_to_list, range_with_len, refl, rules, same_Some, set, subst, suc, sym, zero, ℕ, ⊎_elim, ◌++◌, ◌+◌, ◌-◌, ◌<◌, ◌∙◌, ◌∷◌, ◌≡◌, ◌≢◌, ◌≤◌, ◌⊎◌}
+pub use Rattle.cq_base.proofs.Library.{AllByRecursion, List, None, Option, Some, [], append-nil, append_assoc, arith, cases_Bool, cases_lt, common_steps, cond, cond_both, eqb-true, ext_get_or, false, filter_map, filter_map-append, get_or, get_or-set_other, get_or_default, get_or-set_same, get_or_past, inl, inr, is_some, length, length-append, length-map, length-range_with_len, length-set, map, nat_eq, option_to_list, range_with_len, refl, rules, same_Some, set, subst, suc, sym, zero, ℕ, ⊎_elim, ◌++◌, ◌+◌, ◌-◌, ◌<◌, ◌∙◌, ◌∷◌, ◌≡◌, ◌≢◌, ◌≤◌, ◌⊎◌}
 unfoldable pub use Rattle.cq_base.proofs.Library.{IsDistinct}
 pub use Rattle.cq_base.specs.Cells.{HasOtherKey, first_for, put, without_first}
 pub use Rattle.cq_base.specs.{declared.cell.Queued.Queued, declared.cell.Transfer.Transfer}
