@@ -1,7 +1,7 @@
 -- What arrives in the slots of a run, slot by slot, is what was to arrive, in its order: the cells that come to an
 -- input, and those of a flow. At the place of the flow's input stand all its cells of a slot, so they are among the
 -- cells that come to the input.
-use Rattle.cq_ideal.proofs.Terms.{rules, common_steps, ◌≡◌, ℕ, zero, suc, ◌+◌, ◌<◌, List, [], ◌∷◌, Option, refl, sym, ap, ◌∙◌, ⊎_elim, arith, AllByRecursion, cases_lt, get_or_past, unwrap_or-slice_get, Cell, Arrival, enough, traffic_of, arrival_at, RiseByInput, came_in_flow, came_at, cells_at, most_ports, all_weaker}
+use Rattle.cq_ideal.proofs.Terms.{rules, common_steps, ◌≡◌, ℕ, zero, suc, ◌+◌, ◌<◌, List, [], ◌∷◌, Option, refl, sym, ap, ◌∙◌, ⊎_elim, arith, AllByRecursion, cases_lt, get_or_past, unwrap_or-slice_get, Cell, Arrival, enough, traffic_of, arrival_at, RiseByInput, came_in_flow, came_at, cells_at, most_ports, all_weaker, IsRunnable, IsForSwitch, Machine}
 use Rattle.cq_ideal.proofs.Ends.{all_slots}
 use Rattle.cq_ideal.proofs.FlowFound.{cell_listed, found, found_none, length-arriving, listed_same}
 use Rattle.cq_ideal.proofs.FlowRank.{present}
@@ -25,17 +25,6 @@ all_shown i came shown rise = ap (cells_at i) (sym (all_slots came))
 pub come_in_order : (i : ℕ) → i < most_ports → (came : List Arrival) → RiseByInput came →
     cells_at i (traffic_of came) ≡ came_at i came
 come_in_order i inside came rise = all_shown i came (is_shown i inside came) rise
-
--- and so it is of any number, since what is no input shows nothing
-pub all_in_order : (i : ℕ) (came : List Arrival) → AllByRecursion (λ a. a.cell.id.input < most_ports) came →
-    RiseByInput came → cells_at i (traffic_of came) ≡ came_at i came
-unfolding found
-all_in_order i came inputs rise = ⊎_elim (λ inside. come_in_order i inside came rise)
-    (λ past. all_shown i came (λ t.
-    let long = length-arriving came t most_ports refl in
-    let nobody = found_none came t i (all_weaker (λ a. a.cell.id.input < most_ports) _ (λ a l at is. omega arith) came
-    inputs) in
-    search (arith, rules, unwrap_or-slice_get, get_or_past, listed_same, nobody)) rise) (cases_lt i most_ports)
 
 -- ## A flow comes at its input
 
@@ -65,6 +54,19 @@ module _ (i c j : ℕ) where
   of_line [] = refl
   of_line (a ∷ came) = grind (arith, common_steps, of_line came)
 
-  pub came_in_order : (came : List Arrival) → AllByRecursion (λ a. a.cell.id.input < most_ports) came →
-      RiseByInput came → flow_came i c j (traffic_of came) ≡ came_in_flow i c j came
-  came_in_order came inputs rise = search (arith, rules, comes_at_input, all_stand, all_in_order, of_line)
+-- ## In a run
+
+module _ {ms : List Machine} {ports : ℕ} {openings : List (List ℕ)} {came : List Arrival}
+    (runs : IsRunnable ms ports openings came) where
+  -- so it is of any number, since what is no input shows nothing
+  pub all_in_order : (i : ℕ) → cells_at i (traffic_of came) ≡ came_at i came
+  unfolding found
+  all_in_order i = ⊎_elim (λ inside. come_in_order i inside came runs.rise)
+      (λ past. all_shown i came (λ t.
+      let long = length-arriving came t most_ports refl in
+      let nobody = found_none came t i (all_weaker (IsForSwitch ms ports) _ (λ a l at is. omega arith) came
+      runs.for_switch) in
+      search (arith, rules, unwrap_or-slice_get, get_or_past, listed_same, nobody)) runs.rise) (cases_lt i most_ports)
+
+  pub came_in_order : (i c j : ℕ) → flow_came i c j (traffic_of came) ≡ came_in_flow i c j came
+  came_in_order i c j = search (arith, rules, comes_at_input, all_stand, all_in_order, of_line)

@@ -16,15 +16,12 @@ use Rattle.cq_ideal.proofs.Standing.{of_input}
 module _ (limits : List (Option ℕ)) (ms : List Machine) (ports : ℕ) (openings : List (List ℕ)) (came : List Arrival)
     (ran : LimitedRan) (runs : IsRunnable ms ports openings came)
     (is : whole_limited_run limits ms came (empty_limited ports openings) ≡ Ok ran) where
-  inputs : AllByRecursion (λ a. a.cell.id.input < most_ports) came
-  inputs = search (arith, rules, all_weaker (IsForSwitch ms ports) (λ a. a.cell.id.input < most_ports))
-
   leave_at : (i : ℕ) → AreOfPackets 0 (came_at i came) →
       LeaveOrAreRefused came (departures_of 0 ran.gone) (refused_in ran.admissions) i
   unfolding whole_limited_run
   leave_at i packets =
       let same = limited_over_all limits ms ports openings came ran is in
-      let order = all_in_order i came inputs runs.rise in search (arith, rules, in_packets, run_all, of_input)
+      search (arith, rules, in_packets, run_all, of_input, all_in_order runs i)
 
 pub each_leaves_or_is_refused : EachLeavesOrIsRefused
 each_leaves_or_is_refused limits ms ports openings came ran runs is i inside packets =
@@ -48,41 +45,30 @@ one_output came keep i a b has_a has_b same =
     let q = image_has (λ (x : Arrival). x.cell) (line_at i came) b has_b in
     let Same = λ (x y : Arrival). x.cell.id.input ≡ y.cell.id.input → x.cell.id.packet ≡ y.cell.id.packet →
     x.cell.output ≡ y.cell.output in
-    let two = pair_of_has Same came p.0 q.0 (each_pair Same came keep) in
-    grind (arith, common_steps, eqb-true, two, kept_has (λ (x : Arrival). x.cell.id.input == i) came)
+    search (arith, rules, eqb-true, pair_of_has Same came p.0 q.0, kept_has, each_pair Same came keep)
 
 -- ## At an output without a limit
 
-refused_all : (P : Cell → Type 0) (marks : List Bool) (cells : List (Option Cell)) →
-    ((i : ℕ) (cell : Cell) → mark_at marks i ≡ true → arrival_at cells i ≡ Some cell → P cell) →
-    AllByRecursion P (refused marks cells)
-refused_all P (mark ∷ marks) (o ∷ cells) each =
-    grind (arith, common_steps, each zero, refused_all P marks cells (λ i cell up at. each (suc i) cell up at))
-refused_all P marks cells each = tt
-
 module _ (limits : List (Option ℕ)) (j : ℕ) (none : slice_index_or limits j None ≡ None) where
-  -- it is for another output
+  -- where it is a first cell it is for another output
   abbrev Elsewhere : Cell → Type 0
-  Elsewhere cell = cell.output ≡ j → ⊥
+  Elsewhere cell = is_first cell ≡ true → cell.output ≡ j → ⊥
 
   -- where a first cell puts a mark up its output is full
-  first_elsewhere : (held : List ℕ) (marks : List Bool) (cells : List (Option Cell)) (i : ℕ) (cell : Cell) →
-      arrival_at cells i ≡ Some cell → is_first cell ≡ true → mark_at (marks_after limits held marks cells) i ≡ true →
-      Elsewhere cell
-  first_elsewhere held (mark ∷ marks) (x ∷ cells) zero cell at first up = search (arith, rules, cond-true)
-  first_elsewhere held (mark ∷ marks) (x ∷ cells) (suc i) cell at first up =
-      first_elsewhere (held_after (mark_after limits held mark x) held x) marks cells i cell at first up
-  first_elsewhere held marks cells i cell at first up = absurd (let P : ⊥ = cc in P)
+  first_elsewhere : (held : List ℕ) (marks : List Bool) (cells : List (Option Cell)) →
+      AllByRecursion Elsewhere (refused (marks_after limits held marks cells) cells)
+  first_elsewhere held (mark ∷ marks) (x ∷ cells) =
+      let after = held_after (mark_after limits held mark x) held x in
+      grind (arith, common_steps, first_elsewhere after marks cells, cond-true)
+  first_elsewhere held marks cells = tt
 
   firsts_elsewhere : (marks : List Bool) (traffic : List (List (Option Cell))) (admissions : List Admission) →
       AreJudged limits marks traffic admissions →
-      AllByRecursion (λ cell. is_first cell ≡ true → Elsewhere cell) (refused_in admissions)
+      AllByRecursion Elsewhere (refused_in admissions)
   unfolding admission
   firsts_elsewhere marks [] [] judged = tt
   firsts_elsewhere marks (cells ∷ traffic) (a ∷ admissions) judged =
-      let after = marks_after limits judged.0.0 marks cells in
-      let here = refused_all (λ cell. is_first cell ≡ true → Elsewhere cell) after cells (λ i cell up at first.
-      first_elsewhere judged.0.0 marks cells i cell at first up) in
+      let here = first_elsewhere judged.0.0 marks cells in
       grind (arith, common_steps, all_both, firsts_elsewhere a.marks traffic admissions judged.1)
   firsts_elsewhere marks traffic admissions judged = absurd judged
 

@@ -52,20 +52,14 @@ left_as_came ms ports openings came runs i c j traffic ran is are over all comes
     let nil : List Queued = [] in
     let many = length-replicate ports nil in
     let opened = runs.ports_are in
-    let start = empty_ideal ports openings in
     ⊎_elim (λ inside.
-    let empty = get_or-replicate ports j nil nil inside in
-    let p = passed ms j (runs.machines j inside) i c traffic 0 start ran is in
-    search (arith, rules, p, runs.sizes j, append-nil, empty_at ran.after.lists j, empty))
-    (λ past. search (arith, rules, no_port ms i c j traffic 0 start ran is)) (cases_lt j ports)
+    let p = passed ms j (runs.machines j inside) i c traffic 0 (empty_ideal ports openings) ran is in
+    search (arith, rules, p, runs.sizes j, append-nil, empty_at ran.after.lists j, get_or-replicate))
+    (λ past. search (arith, rules, no_port ms i c j traffic 0)) (cases_lt j ports)
 
 -- ## The law
 
--- the arrivals of a run are at inputs, and rise
-pub all_came : (ms : List Machine) (ports : ℕ) (openings : List (List ℕ)) (came : List Arrival) →
-    IsRunnable ms ports openings came → (i c j : ℕ) → flow_came i c j (traffic_of came) ≡ came_in_flow i c j came
-all_came ms ports openings came runs i c j = came_in_order i c j came (search (arith, rules, all_weaker)) runs.rise
-
 pub flows_leave : FlowsLeaveAsTheyCame
 flows_leave ms ports openings came ran runs is i c j =
-    search (arith, rules, left_as_came, classes ms ports j came runs.for_switch, all_came, none_came, empty_at_end ms)
+    let each = classes ms ports j came runs.for_switch in
+    search (arith, rules, left_as_came, each, came_in_order, none_came, empty_at_end ms)

@@ -4,8 +4,8 @@
 -- whole packets are admitted; those of the packet that goes on are admitted where the mark of its input is down. So
 -- what leaves of a flow is what came of it, but for the packets that were refused, with all their cells.
 use Rattle.cq_ideal.proofs.Terms.{arith, rules, ◌≡◌, ◌∙◌, ℕ, ◌<◌, Bool, List, [], ◌∷◌, ◌++◌, length, filter, Option, Ok, refl, ap, common_steps, slice_index_or, AllByRecursion, append-nil, Cell, KeepsLaws, Machine, machine_at, Admission, Marked, admission, admitted, admitted_in, mark_at, left_in_flow, departures_of, IdealState, IsEmptyIdeal, LimitedRan, limited_run, AreJudged, AreOfPackets, cells_at, not, Arrival, traffic_of, IsRunnable, came_in_flow, empty_limited, refused_in}
-use Rattle.cq_ideal.proofs.FlowLaw.{empty_at, all_came, classes, left_as_came, none_came}
-use Rattle.cq_ideal.proofs.AtInput.{comes_at_input}
+use Rattle.cq_ideal.proofs.FlowLaw.{empty_at, classes, left_as_came, none_came}
+use Rattle.cq_ideal.proofs.AtInput.{came_in_order, comes_at_input}
 use Rattle.cq_ideal.proofs.FlowRank.{AreOfClasses, present}
 use Rattle.cq_ideal.proofs.FlowRun.{flow_came, passed}
 use Rattle.cq_ideal.proofs.FlowStands.{Stands, of_flow, shown}
@@ -99,7 +99,7 @@ in_packets limits ms ports openings came ran runs is i packets =
             (record { gone = ran.gone; after = ran.after.state }) (is_run_of limits ms 0 traffic start ran is)
             (of_classes limits ms 0 traffic start ran is stand over j (classes ms ports j came runs.for_switch)) over
             (takes (came_in_flow i c j came)) (admitted_of_flow limits ms 0 traffic start ran is stand over i 0 packets
-            c j ∙ ap takes (all_came ms ports openings came runs i c j)) (search (arith, rules, none_came));
+            c j ∙ ap takes (came_in_order runs i c j)) (search (arith, rules, none_came));
       },
       refused_are i limits start.marks traffic ran.admissions (judged limits ms 0 traffic start ran is) stand
           ∙ whole.others,
