@@ -4,7 +4,7 @@
 -- the slot that follows. Where cells are ranked one after another, what came so far stands in front of the ranking of
 -- the others. The definition puts them all into the lists; the code puts one after another: putting the first cell,
 -- and then the others, is putting them all, and where a list has room for all of them it has for each in turn.
-use Rattle.cq_ideal.proofs.Terms.{rules, ◌≡◌, ℕ, zero, suc, ◌+◌, List, [], ◌∷◌, length, get_or, Option, Some, None, Result, Ok, ap, arith, length-set, common_steps, same_Some, Cell, Queued, TagFault, arrival_at, Machine, CameToPorts, Ranking, ranking, after_input, AreForPorts, ◌≤◌, cond, replicate, refl, ◌<◌, AllByRecursion, cond_both, cases_lt, put, is_for, other_key_newest, filled, put_all, rests, AllArrivedBefore, HaveOwnKeys, list_at, all_put, get_or_past, ◌++◌, map, set, take, drop, Err, get_or-set_other, ext_get_or, get_or-drop, length-drop, length-replicate, take-append-drop, take_more_set, unwrap_or-slice_get, RanksView, after_inputs, get_or-set_same, IfSome, cases_Bool, eqb-true, eq-eqb, length-map, drop_more, CanPut, QueuesView, FitTogether, HaveRoomFor, with_came, with_cell, length_put, all_weaker, most_ports}
+use Rattle.cq_ideal.proofs.Terms.{rules, ◌≡◌, ℕ, zero, suc, ◌+◌, List, [], ◌∷◌, length, get_or, Option, Some, None, Result, Ok, ap, arith, length-set, common_steps, same_Some, Cell, Queued, TagFault, arrival_at, Machine, CameToPorts, Ranking, ranking, after_input, AreForPorts, ◌≤◌, cond, replicate, refl, ◌<◌, AllByRecursion, append_assoc, cond_both, cases_lt, put, is_for, other_key_newest, filled, put_all, rests, AllArrivedBefore, HaveOwnKeys, list_at, all_put, get_or-map, get_or_past, ◌++◌, map, set, take, drop, Err, get_or-set_other, ext_get_or, get_or-drop, length-drop, length-replicate, take-append-drop, take_more_set, unwrap_or-slice_get, RanksView, after_inputs, get_or-set_same, IfSome, cases_Bool, eqb-true, eq-eqb, length-map, drop_more, CanPut, QueuesView, FitTogether, HaveRoomFor, with_came, with_cell, length_put, all_weaker, most_ports}
 use Rattle.cq_ideal.proofs.FlowRank.{after_input_ok, fits_ok}
 use Rattle.cq_ideal.proofs.Waiting.{filled_at, length-filled, filled_none}
 use Rattle.cq_ideal.proofs.Changed.{same_at}
@@ -67,32 +67,22 @@ module _ (ms : List Machine) (slot : ℕ) (cells : List (Option Cell)) (ranks : 
       search (arith, rules, cases_lt j (length lists), filled_at, all_put_all, each, length-filled, get_or_past)
 
   pub arrived_next : AllArrivedBefore (slot + 1) (rests (filled r.came lists))
-  arrived_next = left (filled r.came lists) arrived_filled
-    where
-      left : (before : List (List Queued)) → AllArrivedBefore (slot + 1) before →
-          AllArrivedBefore (slot + 1) (rests before)
-      left [] all j = tt
-      left (xs ∷ before) all zero = let here = all zero in grind (arith, common_steps)
-      left (xs ∷ before) all (suc j) = left before (λ k. all (suc k)) j
+  arrived_next j =
+      let here = arrived_filled j in
+      grind (arith, common_steps, get_or-map, get_or_past, length-map, cases_lt j (length (filled r.came lists)))
 
 -- ## Cells that are ranked one after another
+
+-- they stand in front of what came to the others, and nothing changes a fault
+in_front : (came : List (Option Queued)) (x : Result Ranking TagFault) → after_inputs came x
+    ≡ elim x [ Ok r ↦ Ok (record { came = came ++ r.came; ranks = r.ranks }) | Err fault ↦ Err fault ]
+in_front [] x = grind (arith, common_steps)
+in_front (c ∷ came) x = grind (arith, common_steps, in_front came)
 
 -- a cell at the end of those that came
 after_inputs-snoc : (came : List (Option Queued)) (q : Option Queued) (x : Result Ranking TagFault) →
     after_inputs (came ++ q ∷ []) x ≡ after_inputs came (after_input q x)
-after_inputs-snoc [] q x = refl
-after_inputs-snoc (c ∷ came) q x = ap (after_input c) (after_inputs-snoc came q x)
-
--- they stand in front of what came to the others
-after_inputs-ok : (came : List (Option Queued)) (r : Ranking) →
-    after_inputs came (Ok r) ≡ Ok (record { came = came ++ r.came; ranks = r.ranks })
-after_inputs-ok [] r = refl
-after_inputs-ok (c ∷ came) r = ap (after_input c) (after_inputs-ok came r)
-
--- and nothing changes a fault
-after_inputs-fault : (came : List (Option Queued)) (fault : TagFault) → after_inputs came (Err fault) ≡ Err fault
-after_inputs-fault [] fault = refl
-after_inputs-fault (c ∷ came) fault = ap (after_input c) (after_inputs-fault came fault)
+after_inputs-snoc came q x = grind (arith, common_steps, in_front, append_assoc)
 
 -- where no cell arrives any more nobody comes
 none_ranked : (ms : List Machine) (slot input : ℕ) (cells : List (Option Cell)) (states : List (List ℕ)) →
@@ -144,7 +134,7 @@ module _ {M : List ℕ → Machine} {slot : ℕ} {cells : List (Option Cell)} {f
       cell ≡ arrival_at cells input →
       ((rest : List (Option Cell)) → ranking (map M ranks.fixed) slot input (cell ∷ rest) ranks.states ≡ Err fault) →
       ranking (map M first.fixed) slot 0 cells first.states ≡ Err fault
-  in_turn_fault cell fault places inside is one = search (rules, after_inputs-fault, from_input cells input cell)
+  in_turn_fault cell fault places inside is one = search (rules, in_front, from_input cells input cell)
 
   -- no port is left
   pub in_turn_last : (class_count : ℕ) → AreForPorts (length first.fixed) class_count cells →
@@ -156,7 +146,7 @@ module _ {M : List ℕ → Machine} {slot : ℕ} {cells : List (Option Cell)} {f
       let behind = ext_get_or none (drop input came) (replicate left none)
       (grind (arith, common_steps, length-drop, length-replicate)) (search (arith, rules, get_or-drop, same_at)) in
       let beyond = none_beyond (length first.fixed) input cells for.inputs past in
-      search (arith, rules, none_ranked, beyond, after_inputs-ok, take-append-drop)
+      search (arith, rules, none_ranked, beyond, in_front, take-append-drop)
 
 -- ## Putting cells into the lists
 
@@ -190,9 +180,6 @@ own_keys_rest o came lists own inside =
     let later = λ (k n : ℕ). own.others (suc k) (suc n) in
     let apart = λ (k : ℕ). own.others zero (suc k) in
     search (arith, rules, waits, later, apart, one_put, cond_both, all_put, inside)
-
-pub if_some : (o : Option Queued) (P : Queued → Type 0) → ((q : Queued) → o ≡ Some q → P q) → IfSome o P
-if_some q P f = grind (arith, common_steps)
 
 -- ## The walk over the inputs
 
