@@ -18,18 +18,9 @@ nothing_left (xs ∷ lists) none k d inside = grind (arith, common_steps, nil_fr
 -- ## The test
 
 -- what the test says of a run
-pub record Over (came : List Arrival) (n : ℕ) (x : Result Ran TagFault) : Type 0 where
-  pub ran : Ran
-  pub is : x ≡ Ok ran
-  pub all_came : end_of came ≤ n
-  pub empty : IsEmptyIdeal ran.after
-
-pub over_from_test : (came : List Arrival) (n : ℕ) (x : Result Ran TagFault) → is_over came n x ≡ true → Over came n x
-over_from_test came n fault e = grind (arith, common_steps, and_parts, leb-true, nil_from_length, eqb-true)
-
-pub test_after : (came : List Arrival) (n : ℕ) (x : Result Ran TagFault) (s : IdealState) →
-    IsOkAnd x (λ ran. ran.after ≡ s) → end_of came ≤ n → IsEmptyIdeal s → is_over came n x ≡ true
-test_after came n fault s e le empty = grind (arith, common_steps, and_from, le-leb, list_all-from_AllPass, eq-eqb)
+pub over_from_test : (came : List Arrival) (n : ℕ) (ran : Ran) → is_over came n (Ok ran) ≡ true →
+    (end_of came ≤ n) × IsEmptyIdeal ran.after
+over_from_test came n ran e = grind (arith, common_steps, and_parts, leb-true, nil_from_length, eqb-true)
 
 -- ## As many slots as are enough
 

@@ -84,7 +84,6 @@ pub limited_empty_at_end : (limits : List (Option ℕ)) (ms : List Machine) (por
     (came : List Arrival) →
     IfOk (limited_run limits ms 0 (traffic_of came) (empty_limited ports ranks)) (λ ran. IsEmptyIdeal ran.after.state)
 limited_empty_at_end limits ms ports ranks came =
-    let start = empty_limited ports ranks in
     if_ok (λ ran. IsEmptyIdeal ran.after.state) _ (λ ran is.
     emptied ms ports ranks came (admitted_in ran.admissions) (record { gone = ran.gone; after = ran.after.state })
-    (is_run_of limits ms 0 (traffic_of came) start ran is) (search (arith, rules, no_more, judged)))
+    (search (arith, rules, is_run_of)) (search (arith, rules, no_more, judged)))

@@ -15,16 +15,12 @@ pub slots_in : (slot j : ℕ) (gone : List (Option Queued)) → let sent = depar
 slots_in slot j [] = (omega arith, λ some. absurd (omega arith))
 slots_in slot j (o ∷ gone) = grind (arith, common_steps, slots_in slot (j + 1) gone)
 
-pub slots_of-departures : (slot : ℕ) (gone : List (Option Queued)) → slots_of (departures_in slot gone) ≤ slot + 1
-unfolding departures_in
-slots_of-departures slot gone = (slots_in slot 0 gone).0
-
 -- no departure is behind the slots of a run
 pub slots_within : (slot : ℕ) (gone : List (List (Option Queued))) →
     slots_of (departures_of slot gone) ≤ slot + length gone
-unfolding departures_of
+unfolding departures_of departures_in
 slots_within slot [] = omega arith
-slots_within slot (g ∷ gone) = search (rules, slots_of-departures, slots_of-append, slots_within (slot + 1) gone)
+slots_within slot (g ∷ gone) = search (rules, slots_in, slots_of-append, slots_within (slot + 1) gone)
 
 -- ## A cell that comes in the last slot
 
@@ -50,5 +46,4 @@ counted_at (o ∷ cells) i cell at = grind (arith, common_steps, eq-eqb, counted
 pub counted_in : (ports : ℕ) (came : List Arrival) (slot : ℕ) (c : Comes ports came slot) →
     1 ≤ count_for c.cell.output (arriving came slot)
 unfolding found
-counted_in ports came slot c = counted_at (arriving came slot) c.input c.cell
-    (search (arith, rules, is_shown, listed_same))
+counted_in ports came slot c = search (arith, rules, counted_at, is_shown c.input, listed_same)

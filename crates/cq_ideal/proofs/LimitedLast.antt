@@ -77,8 +77,8 @@ module _ (ms : List Machine) (ports : ℕ) (came : List Arrival) (all : AllByRec
       let run = ap (λ l. ideal_run ms slot l s) (sym (arriving_here came slot n)) ∙ is in
       let p = first_slot ms slot (arriving came slot) (arriving_from came (slot + 1) n) s ran run in
       let count = counted ms slot (arriving came slot) s p.sent p.ran_slot in
-      let both = slots_of-append (departures_in slot p.sent.gone) (departures_of (slot + 1) p.second.gone) in
-      ⊎_elim (λ (later : 0 < k). search (arith, rules, departs_at_end n (k - 1) (slot + 1) p.sent.after p.second))
+      let later = departs_at_end n (k - 1) (slot + 1) p.sent.after p.second in
+      ⊎_elim (λ (some : 0 < k). search (arith, rules, later, slots_of-append))
       (λ (now : k ≤ 0).
       let c = comes ms ports came slot all (omega arith) in
       let one = counted_in ports came slot c in

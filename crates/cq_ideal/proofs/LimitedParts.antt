@@ -14,9 +14,6 @@ behind admissions gone (Ok ran) =
     Ok (record { admissions = admissions ++ ran.admissions; gone = gone ++ ran.gone; after = ran.after })
 behind admissions gone (Err fault) = Err fault
 
-behind-none : (x : Result LimitedRan TagFault) → x ≡ behind [] [] x
-behind-none fault = grind (arith, common_steps)
-
 pub no_departures : (n slot j : ℕ) → departures_from slot j (replicate n None) ≡ []
 no_departures zero slot j = refl
 no_departures (suc n) slot j = no_departures n slot (j + 1)
@@ -41,7 +38,7 @@ module _ (limits : List (Option ℕ)) (ms : List Machine) where
       n ≡ slot + length before →
       limited_run limits ms slot (before ++ after) s ≡ limited_going_on n after (limited_run limits ms slot before s)
   unfolding limited_run goes_on
-  limited_parts slot n [] after s e = grind (arith, common_steps, behind-none)
+  limited_parts slot n [] after s e = grind (arith, common_steps)
   limited_parts slot n (cells ∷ before) after s e =
       grind (arith, common_steps, limited_parts (slot + 1) n before after)
 

@@ -22,18 +22,16 @@ pub arriving_parts : (came : List Arrival) (a b n m k : ℕ) → b ≡ a + n →
     arriving_from came a n ++ arriving_from came b m ≡ arriving_from came a k
 unfolding arriving_from
 arriving_parts came a b zero m k e f = grind (arith, common_steps)
-arriving_parts came a b (suc n) m zero e f = absurd (omega arith)
-arriving_parts came a b (suc n) m (suc k) e f = cc ((arriving_parts came (a + 1) b n m k (omega arith) (omega arith)))
+arriving_parts came a b (suc n) m k e f =
+    let long : k ≡ suc (n + m) = omega arith in rw long (cc ((arriving_parts came (a + 1) b n m _ (omega arith) refl)))
 
-nobody : (cells : List (Option Cell)) (n : ℕ) → length cells ≡ n → length (present cells) ≡ 0 →
-    cells ≡ replicate n None
-nobody cells zero long none = grind (arith, common_steps)
-nobody [] (suc n) long none = absurd (omega arith)
-nobody (o ∷ cells) (suc n) long none = grind (arith, common_steps, nobody cells n)
+nobody : (cells : List (Option Cell)) → length (present cells) ≡ 0 → cells ≡ replicate (length cells) None
+nobody [] none = refl
+nobody (o ∷ cells) none = grind (arith, common_steps, nobody cells)
 
 pub none_arrive : (came : List Arrival) (t inputs : ℕ) → inputs ≡ most_ports → end_of came ≤ t →
     arriving came t ≡ replicate inputs None
-none_arrive came t inputs are le = search (rules, nobody, length-arriving, none_after)
+none_arrive came t inputs are le = search (rules, nobody (arriving came t), length-arriving, none_after)
 
 -- from the end of the arrivals on none comes
 pub quiet_from : (came : List Arrival) (n slot : ℕ) → end_of came ≤ slot →
