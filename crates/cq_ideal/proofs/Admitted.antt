@@ -60,5 +60,4 @@ pub no_arrivals_refuse_none : (limits : List (Option ℕ)) (marks : List Bool) �
 unfolding admission
 no_arrivals_refuse_none limits marks held =
     let none = same_at {X = Option Cell} None most_ports in
-    let all = all_pass limits held marks no_arrivals (λ i cell at. absurd (let no = sym (none i) ∙ at in cc)) in
-    grind (arith, common_steps)
+    search (arith, rules, all_pass limits held marks no_arrivals (λ i cell at. grind (arith, common_steps, none i)))

@@ -1,7 +1,7 @@
 -- Lists that are made item by item, what is seen of one item, and lists that are new up to a place, and old from it on.
 -- So the list and the machine of one output among those of all: what stands at its place is read through the lists of
 -- all, and a call that changes it changes these at its place alone.
-use Rattle.cq_ideal.proofs.Terms.{common_steps, ◌≡◌, ℕ, zero, suc, refl, ◌+◌, ◌<◌, ◌≤◌, List, [], ◌∷◌, ◌++◌, length, map, get_or, replicate, set, take, drop, sym, ap, ◌∙◌, arith, append-nil, drop_all, drop_more, get_or_at, get_or-map, length-map, length-take-le, map-set, map_push, replicate_more, set_at, take_all, take_more, map-set_same, Option, None, subst, length-set, length-replicate, Queued, ◌^◌, eqb, Bool, All, IsTrue, ◌↔◌, list_all, All-push, list_all-map, list_all-from_AllPass, IsWithin, QueueView, QueuesView, list_at, Machine, machine_at, first_come, RanksView, most_ports}
+use Rattle.cq_ideal.proofs.Terms.{common_steps, ◌≡◌, ℕ, zero, suc, refl, ◌+◌, ◌<◌, ◌≤◌, List, [], ◌∷◌, ◌++◌, length, map, get_or, replicate, set, take, drop, sym, ap, ◌∙◌, arith, append-nil, drop_all, drop_more, get_or_at, get_or-map, length-map, length-take-le, map-set, map_push, replicate_more, set_at, take_all, take_more, map-set_same, Option, None, subst, length-set, length-replicate, Queued, ◌^◌, eqb, Bool, All, IsTrue, ◌↔◌, list_all, All-push, list_all-map, list_all-from_AllPass, IsWithin, QueueView, QueuesView, list_at, Machine, machine_at, first_come, RanksView, most_ports, cases_lt, get_or_past}
 use Rattle.cq_ideal.specs.Newcomers.{AreUsed}
 
 -- ## One item more
@@ -120,14 +120,11 @@ empty_within items n e few k d inside =
 pub within_rooms : (items : List QueueView) (v : QueuesView) → All IsWithin items →
     record { lists = map cells_in items; rooms = map room_in items } ≡ v → (j : ℕ) →
     (length (list_at v.lists j) ≤ get_or v.rooms j 0) × (get_or v.rooms j 0 < 2 ^ 64)
-within_rooms items v held view_is j = rw (← view_is) (go items held j)
-  where
-    go : (items : List QueueView) → All IsWithin items → (j : ℕ) →
-        (length (list_at (map cells_in items) j) ≤ get_or (map room_in items) j 0)
-        × (get_or (map room_in items) j 0 < 2 ^ 64)
-    go [] held j = (omega arith, omega arith)
-    go (q ∷ items) held zero = held zero q (omega arith)
-    go (q ∷ items) held (suc j) = go items (λ k d inside. held (suc k) d (omega arith)) j
+within_rooms items v held view_is j =
+    let none : QueueView = record { cells = []; room = 0 } in
+    let lists = get_or-map cells_in items j none [] in
+    let rooms = get_or-map room_in items j none 0 in
+    grind (arith, common_steps, cases_lt j (length items), lists, rooms, held j none, get_or_past, length-map)
 
 -- a list without items has length 0
 abbrev none_in : List Queued → Bool

@@ -5,7 +5,7 @@
 
 use Rattle.cq_ideal.proofs.Terms.{rules, ◌≡◌, ◌≢◌, ℕ, zero, suc, ◌+◌, ◌-◌, ◌<◌, ◌≤◌, ◌^◌, eqb, Bool, true, false, cond, List, [], ◌∷◌, ◌++◌, length, drop, get_or, set, Option, Some, None, refl, ap, ◌∙◌, arith, common_steps, All-from_recursion, drop_all, drop_more, get_or-map, length-map, Cell, arrival_at, Refused, is_first, mark_at, refused, CanCount, HasPorts, LimiterView, where_up, cells_refused, packets_refused, refused_counts, with_cells, with_refused, take, get_or-set_same, get_or-set_other, cases_Bool, eqb-true, eq-eqb, ne_eqb, drop-set-lt, length-set, set-get_or, take_all, append-nil, admitted, mark_after, held_after, marks_after, count_for, ComeToPorts, all_weaker, most_ports, few_kept}
 use Rattle.cq_ideal.specs.Taking.{HasJudged}
-use Rattle.cq_ideal.proofs.Refusals.{all_zero, count_both}
+use Rattle.cq_ideal.proofs.Refusals.{count_both, zero_from}
 use Rattle.cq_ideal.proofs.Changed.{at_place, changed_to, next_place}
 use Rattle.cq_ideal.proofs.FlowFound.{cell_listed}
 use Rattle.cq_ideal.proofs.Came.{from_input, none_beyond}
@@ -78,7 +78,8 @@ none_counted (r ∷ counts) = grind (arith, common_steps, none_counted counts)
 
 -- where nothing was refused yet there is room for many
 pub zero_fits : (n : ℕ) (limits : List (Option ℕ)) → n < 2 ^ 64 → CanCount n (refused_counts limits [])
-zero_fits n limits few = search (arith, rules, All-from_recursion, all_weaker, all_zero limits)
+unfolding refused_counts
+zero_fits n limits few = search (arith, rules, All-from_recursion, all_weaker, zero_from 0 limits)
 
 -- ## The walk over the inputs
 
@@ -109,10 +110,8 @@ module _ {cells : List (Option Cell)} {first : LimiterView} {input : ℕ} {now :
         after.refused ≡ with_refused (cell ∷ []) now.refused → after.marks ≡ now.marks → after.held ≡ now.held →
         after.limits ≡ now.limits → Counting cells first (input + 1) after
     counting_some cell after is counted marks held limits =
-        let rest = refused (drop (input + 1) first.marks) (drop (input + 1) cells) in
-        let all = all_counted_both (cell ∷ []) rest now.refused in
-        let here = split (Some cell) is in
-        let left = counts_left (length first.limits - (input + 1)) cell now.refused in search (arith, rules, all, left)
+        let left = counts_left (length first.limits - (input + 1)) in
+        search (arith, rules, split (Some cell) is, all_counted_both (cell ∷ []), left)
 
 -- ## Arrivals that are judged
 
@@ -177,5 +176,4 @@ module _ {cells : List (Option Cell)} {first : LimiterView} {input : ℕ} {now :
   pub judged_last : HasPorts first → ComeToPorts (length first.limits) cells → length first.limits ≤ input →
       HasJudged cells first now
   judged_last has come past =
-      let beyond = none_beyond _ input cells come.inputs past in
-      search (arith, rules, drop_all, take_all, append-nil, none_to_count, beyond, so_far.held)
+      search (arith, rules, drop_all, take_all, append-nil, none_to_count, none_beyond _ input cells come.inputs past)

@@ -12,22 +12,15 @@ holds_none limiter ports lists limits held empty = search (arith, rules, map-rep
 
 module _ (lists : List (List Queued)) (limiter : LimiterView) (output : ℕ) (inside : output < length lists)
     (holds : HoldsLists lists limiter) where
-  here : get_or limiter.held output 0 ≡ length (list_at lists output)
-  here = ap (λ (l : List ℕ). get_or l output 0) holds.held ∙ get_or-map length lists output [] 0 inside
-
   pub holds_some : (left : Option Queued) → left ≡ slice_get (list_at lists output) 0 →
       IfSome left (λ _. 0 < get_or limiter.held output 0)
-  holds_some left is = grind (arith, common_steps, here)
-
-  without : (cells : List Queued) → list_at lists output ≡ cells →
-      held_without (slice_get cells 0) output (map length lists) ≡ map length (set lists output (drop 1 cells))
-  without cells e = grind (arith, common_steps, set-get_or, get_or-map, map-set)
+  holds_some left is = grind (arith, common_steps, get_or-map)
 
   pub holds_without : (left : Option Queued) (lists' : List (List Queued)) (after : LimiterView) →
       left ≡ slice_get (list_at lists output) 0 → lists' ≡ set lists output (drop 1 (list_at lists output)) →
       after.held ≡ held_without left output limiter.held → after.limits ≡ limiter.limits → HoldsLists lists' after
   holds_without left lists' after is taken held limits =
-      grind (arith, common_steps, without (list_at lists output) refl)
+      grind (arith, common_steps, set-get_or, get_or-map, map-set)
 
 -- ## Cells that come
 

@@ -87,11 +87,10 @@ module _ (limits : List (Option ℕ)) (i : ℕ) where
       record { is_taken = λ _. not (mark_at marks i); before = λ packet e. refl; are = refl; others = refl }
   taken_or_refused next marks (cells ∷ traffic) (a ∷ admissions) judged are =
       let by = its_marks limits marks cells a judged.0 in
-      rw (ap (λ (l : List (Option Cell)). arrival_at l i) by.1 ∙ admitted_at a.marks cells i) (step next
-      (mark_at marks i) (mark_at a.marks i) (arrival_at cells i) (cells_at i traffic)
-      (cells_at i (admitted_in admissions)) (refused_here traffic admissions)
-      (λ on. ap (λ (l : List Bool). mark_at l i) by.0 ∙ mark_stays limits judged.0.0 marks cells i on) are
-      (λ n rest. taken_or_refused n a.marks traffic admissions judged.1 rest))
+      let rest = λ (n : ℕ). taken_or_refused n a.marks traffic admissions judged.1 in
+      let one = step next (mark_at marks i) (mark_at a.marks i) (arrival_at cells i) (cells_at i traffic) in
+      rw (ap (λ (l : List (Option Cell)). arrival_at l i) by.1 ∙ admitted_at a.marks cells i)
+      (search (arith, rules, one, mark_stays, rest))
   taken_or_refused next marks traffic admissions judged are = absurd judged
 
   pub whole_packets : (marks : List Bool) (traffic : List (List (Option Cell))) (admissions : List Admission) →

@@ -24,14 +24,10 @@ pub counts_more : (limits : List (Option ℕ)) (before now : List Cell) →
 unfolding refused_counts
 counts_more limits before now = more_from 0 limits before now
 
-zero_from : (j : ℕ) (limits : List (Option ℕ)) → AreAllZero (counts_from j limits [])
+pub zero_from : (j : ℕ) (limits : List (Option ℕ)) → AreAllZero (counts_from j limits [])
 unfolding cells_refused packets_refused
 zero_from j [] = tt
 zero_from j (o ∷ limits) = grind (arith, common_steps, zero_from (j + 1) limits)
-
-pub all_zero : (limits : List (Option ℕ)) → AreAllZero (refused_counts limits [])
-unfolding refused_counts
-all_zero limits = zero_from 0 limits
 
 pub one_slot_more : (admissions : List Admission) (a : Admission) →
     refused_in (admissions ++ a ∷ []) ≡ refused_in admissions ++ a.refused

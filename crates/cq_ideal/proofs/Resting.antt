@@ -99,12 +99,9 @@ module _ {M : List ℕ → Machine} {first_fixed first_states : List (List ℕ)}
       idled (map M first_fixed) (length first_fixed) states ≡ states
   resting_again end laws =
       let ms = map M first_fixed in
-      let ports = length first_fixed in
-      let idle = idled ms ports first_states in
       let is = resting_last end in
-      let twice = ext_get_or [] (idled ms ports idle) idle (length-idle ms ports idle) (λ j within.
-      search (arith, rules, length-idle, get_or-map M first_fixed j [] (first_come []), idle_at ms ports)) in
-      cc
+      ext_get_or [] _ states (length-idle ms _ states) (λ j within.
+      search (arith, rules, length-idle, get_or-map M first_fixed j [] (first_come []), idle_at ms))
 
 -- ## The switch
 
@@ -117,6 +114,4 @@ pub rested : (M : List ℕ → Machine) (ranks new : RanksView) (queues : Queues
     ideal_run (map M switch.fixed) switch.next (replicate (to - switch.next) no_arrivals) switch.state
     ≡ Ok (nothing_sent (to - switch.next) (length switch.fixed) (state_of new queues))
 rested M ranks new queues switch to fixed state fit empty later states again =
-    let ms = map M switch.fixed in
-    let ports = length switch.fixed in
-    grind (arith, common_steps, all_empty switch.state ports empty, rested_run ms)
+    grind (arith, common_steps, all_empty switch.state (length switch.fixed), rested_run (map M switch.fixed))

@@ -76,9 +76,6 @@ module _ {M : List ℕ → Machine} {slot : ℕ} {cells : List (Option Cell)} {v
   lists_are : queues.lists ≡ v.state.lists
   lists_are = ap (λ (s : IdealState). s.lists) known.state
 
-  holds : HoldsLists queues.lists old
-  holds = known.parts.holds refl
-
   comes : AreForPorts (length (map M ranks.fixed)) (class_count (map M ranks.fixed)) cells
   comes = grind (arith, common_steps)
 
@@ -139,8 +136,8 @@ module _ {M : List ℕ → Machine} {slot : ℕ} {cells : List (Option Cell)} {v
           ≡ Ok (sent_from (map M ranks_new.fixed) (state_of ranks_new queues_new)) = cc (ideal_is, taken.ranked) in
           record {
             fit = grind (arith, common_steps, fit_same, length-filled);
-            holds = holds_filled came (admitted judged.marks cells) queues.lists queues_new.lists old judged holds
-                lists judges.limits (omega arith) judges.held
+            holds = holds_filled came (admitted judged.marks cells) queues.lists queues_new.lists old judged
+                (known.parts.holds refl) lists judges.limits (omega arith) judges.held
                 (came_for (map M ranks.fixed) slot (admitted judged.marks cells) ranks.states r taken.ranked);
             arrived = rw lists (arrived_next (map M ranks.fixed) slot (admitted judged.marks cells) ranks.states r
                 taken.ranked queues.lists known.parts.arrived);

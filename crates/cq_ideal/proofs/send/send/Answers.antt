@@ -22,11 +22,9 @@ outputs-preserved g c =
       | in-None w ↦ rw (w.sent-is, w.in-None.is) (search (arith, rules, append-nil))
     ] in
     let holds = holds_without c.outputs.queues.lists c.outputs.limiter c.outputs.output (omega arith) inv.holds gone
-    c.pop-gone.new.self.lists c.sent.new.self c.pop-gone.ensures.first c.pop-gone.ensures.lists
-    c.sent.ensures.held c.sent.ensures.judges.limits in
-    sending_next inv gone c.told.new.self c.pop-gone.new.self c.sent.new.self c.match-gone.sent (omega arith)
-    (omega arith) c.pop-gone.ensures.first c.pop-gone.ensures.lists c.pop-gone.ensures.rooms c.told.ensures.fixed
-    c.told.ensures.states holds c.sent.ensures.judges put
+    c.pop-gone.new.self.lists c.sent.new.self c.pop-gone.ensures.first c.pop-gone.ensures.lists in
+    let next = sending_next inv gone c.told.new.self c.pop-gone.new.self c.sent.new.self c.match-gone.sent in
+    search (arith, rules, next, holds)
 
 pub returns : goal.returns
 returns g c =

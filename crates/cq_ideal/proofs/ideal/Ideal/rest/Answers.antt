@@ -1,4 +1,4 @@
-use Rattle.cq_ideal.proofs.Terms.{rules, length-map, arith, ap, IdealSwitch}
+use Rattle.cq_ideal.proofs.Terms.{rules, length-map, arith}
 use Rattle.cq_ideal.proofs.Came.{arrived_later, fit_same}
 use Rattle.cq_ideal.proofs.LimitedRuns.{rest_refuses_none}
 use Rattle.cq_ideal.proofs.Resting.{length-idle, rested}
@@ -6,10 +6,7 @@ use Rattle.cq_ideal.proofs.ideal.Ideal.rest.Goals as goal
 
 pub invariant_of-self : goal.invariant_of-self
 invariant_of-self g c =
-    let at = ap (λ (v : IdealSwitch). v.next) c.self.view_is in
-    let later = c.requires.later in
-    let arrived = arrived_later c.self.inside.next c.args.to c.self.inside.queues.lists (omega arith)
-    c.self.invariant.arrived in
+    let arrived = arrived_later c.self.inside.next c.args.to c.self.inside.queues.lists in
     search (arith, rules, fit_same, length-idle, arrived, length-map)
 
 pub returns : goal.returns

@@ -23,23 +23,16 @@ arrive-requires g c =
 
 pub send-requires : goal.send-requires
 send-requires g c =
-    let p = placed (known g (goal.at.send-requires g c).After-self) c.take_in.ensures.judged
-    c.in_default.ensures.taken c.arrive.new.self c.arrive.ensures.lists c.arrive.ensures.rooms c.take_in.ensures.fixed
-    c.take_in.ensures.many in
-    search (arith, rules, p)
+    let begins = known g (goal.at.send-requires g c).After-self in
+    search (arith, rules, placed begins c.take_in.ensures.judged c.in_default.ensures.taken c.arrive.new.self)
 
 pub invariant_of-self-2 : goal.invariant_of-self-2
 invariant_of-self-2 g c =
-    let p = placed (known g (goal.at.invariant_of-self-2 g c).After-self) c.take_in.ensures.judged
-    c.in_default.ensures.taken c.arrive.new.self c.arrive.ensures.lists c.arrive.ensures.rooms c.take_in.ensures.fixed
-    c.take_in.ensures.many in
-    search (arith, rules, p, c.send.ensures.gone.lists)
+    let begins = known g (goal.at.invariant_of-self-2 g c).After-self in
+    search (arith, rules, placed begins c.take_in.ensures.judged c.in_default.ensures.taken c.arrive.new.self)
 
 pub returns-in-Err : goal.returns-in-Err
-returns-in-Err g c =
-    let begins = known g (goal.at.returns-in-Err g c).After-self in
-    let none = limited_fault begins c.take_in.ensures.judged c.in-Err.ensures.fault in
-    search (arith, rules, begins)
+returns-in-Err g c = search (arith, rules, limited_fault (known g (goal.at.returns-in-Err g c).After-self))
 
 pub returns : goal.returns
 returns g c =

@@ -13,14 +13,11 @@ turn-requires-clause-few c =
 
 pub inputs-preserved : goal.inputs-preserved
 inputs-preserved c =
-    let input = c.inputs.input in
-    let cells = c.args.arrivals.now in
-    let inv = c.inputs.invariant in
-    let here = from_input cells input c.at.result c.at.ensures.arrivals.places (omega arith) c.at.ensures.answer in
-    let out = c.requires.arrivals.outputs input in
+    let next = judged_next c.inputs.invariant in
+    let out = c.requires.arrivals.outputs c.inputs.input in
     elim c.match-at.branch [
-      | in-Some w ↦ rw w.self-is (search (arith, rules, judged_next inv w.turn.new.self (Some w.in-Some.cell), out))
-      | in-None w ↦ rw w.self-is (search (arith, rules, judged_none inv, here))
+      | in-Some w ↦ rw w.self-is (search (arith, rules, next w.turn.new.self (Some w.in-Some.cell), out, from_input))
+      | in-None w ↦ rw w.self-is (search (arith, rules, judged_none c.inputs.invariant, from_input))
     ]
 
 pub returns : goal.returns
