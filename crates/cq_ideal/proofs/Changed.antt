@@ -1,7 +1,7 @@
 -- Lists that are made item by item, what is seen of one item, and lists that are new up to a place, and old from it on.
 -- So the list and the machine of one output among those of all: what stands at its place is read through the lists of
 -- all, and a call that changes it changes these at its place alone.
-use Rattle.cq_ideal.proofs.Terms.{common_steps, ◌≡◌, ℕ, zero, suc, refl, ◌+◌, ◌<◌, ◌≤◌, List, [], ◌∷◌, ◌++◌, length, map, get_or, replicate, set, take, drop, sym, ap, ◌∙◌, arith, append-nil, drop_all, drop_more, get_or_at, get_or-map, length-map, length-take-le, map-set, map_push, replicate_more, set_at, take_all, take_more, map-set_same, Option, None, subst, length-set, length-replicate, Queued, ◌^◌, eqb, Bool, All, IsTrue, ◌↔◌, list_all, All-push, list_all-map, list_all-from_AllPass, IsWithin, QueueView, QueuesView, list_at, Machine, machine_at, first_come, RanksView, most_ports, cases_lt, get_or_past}
+use Rattle.cq_ideal.proofs.Terms.{common_steps, ◌≡◌, ℕ, zero, suc, refl, ◌+◌, ◌<◌, ◌≤◌, List, [], ◌∷◌, ◌++◌, length, map, get_or, replicate, set, take, drop, sym, ap, ◌∙◌, arith, append-nil, drop_all, drop_more, get_or_at, get_or-map, length-map, length-take-le, map_push, replicate_more, set_at, take_all, take_more, Option, None, length-replicate, Queued, ◌^◌, eqb, Bool, All, IsTrue, ◌↔◌, list_all, All-push, list_all-map, list_all-from_AllPass, IsWithin, QueueView, QueuesView, list_at, Machine, machine_at, first_come, RanksView, most_ports, cases_lt, get_or_past}
 use Rattle.cq_ideal.specs.Newcomers.{AreUsed}
 
 -- ## One item more
@@ -76,28 +76,6 @@ cells_in q = q.cells
 abbrev room_in : QueueView → ℕ
 room_in q = q.room
 
-module _ (items : List QueueView) (o : ℕ) {q : QueueView} {v : QueuesView} (inside : o < length v.lists)
-    (is : q ≡ get_or items o q) (view_is : record { lists = map cells_in items; rooms = map room_in items } ≡ v) where
-  here : o < length items
-  here = item_inside cells_in items (ap (λ (w : QueuesView). w.lists) view_is) o inside
-
-  pub cells_seen : q.cells ≡ list_at v.lists o
-  cells_seen = cc (get_or-map cells_in items o q [] here)
-
-  pub room_seen : q.room ≡ get_or v.rooms o 0
-  room_seen = cc (get_or-map room_in items o q 0 here)
-
-  -- the queue is within its room, which is a number of 64 bits
-  pub is_within : All IsWithin items → IsWithin q
-  is_within held = subst IsWithin (sym is) (held o q here)
-
-  -- another queue in its place
-  pub lists_after : (s : QueueView) {y : List Queued} → s.cells ≡ y → map cells_in (set items o s) ≡ set v.lists o y
-  lists_after s e = cc (map-set cells_in items o s, ap (λ (w : QueuesView). w.lists) view_is)
-
-  pub rooms_after : (s : QueueView) → s.room ≡ q.room → map room_in (set items o s) ≡ v.rooms
-  rooms_after s e = cc (map-set_same room_in items o s q (e ∙ ap room_in is))
-
 -- the lists that were made so far are empty, and have the rooms of the first outputs
 pub record Made (rooms : List ℕ) (n : ℕ) (items : List QueueView) : Type 0 where
   pub lists : map (λ q. q.cells) items ≡ replicate n []
@@ -138,28 +116,10 @@ none_wait cells_of items lists b e l =
 
 -- ## Their machines
 
-module _ {R : Type 0} (F S : R → List ℕ) (items : List R) (o : ℕ) {r : R} {v : RanksView}
-    (inside : o < length v.fixed) (is : r ≡ get_or items o r)
-    (view_is : record { fixed = map F items; states = map S items } ≡ v) where
-  place : o < length items
-  place = item_inside F items (ap (λ (w : RanksView). w.fixed) view_is) o inside
-
-  -- the machine at its place, and its state
-  pub machine_seen : (M : List ℕ → Machine) → M (F r) ≡ machine_at (map M v.fixed) o
-  machine_seen M = cc (get_or-map F items o r (F r) place, get_or-map M v.fixed o (F r) (first_come []) inside)
-
-  pub state_seen : S r ≡ get_or v.states o []
-  state_seen = cc (get_or-map S items o r [] place)
-
-  -- another machine in its place
-  pub fixed_after : (s : R) → F s ≡ F r → map F (set items o s) ≡ v.fixed
-  fixed_after s e = cc (map-set_same F items o s r (e ∙ ap F is))
-
-  pub states_after : (s : R) {y : List ℕ} → S s ≡ y → map S (set items o s) ≡ set v.states o y
-  states_after s e = cc (map-set S items o s)
-
-  pub states_same : (s : R) → S s ≡ S r → map S (set items o s) ≡ v.states
-  states_same s e = cc (map-set_same S items o s r (e ∙ ap S is))
-
-  pub many_after : (s : R) → length (map S (set items o s)) ≡ length v.states
-  many_after s = cc (length-map (set items o s) S, length-set items o s, length-map items S)
+-- the machine of an output, from the numbers that give it
+pub machine_seen : {R : Type 0} (F S : R → List ℕ) (items : List R) (o : ℕ) {r : R} {v : RanksView} →
+    o < length v.fixed → r ≡ get_or items o r → record { fixed = map F items; states = map S items } ≡ v →
+    (M : List ℕ → Machine) → M (F r) ≡ machine_at (map M v.fixed) o
+machine_seen F S items o {r} {v} inside is view_is M =
+    let place = item_inside F items (ap (λ (w : RanksView). w.fixed) view_is) o inside in
+    cc (get_or-map F items o r (F r) place, get_or-map M v.fixed o (F r) (first_come []) inside)

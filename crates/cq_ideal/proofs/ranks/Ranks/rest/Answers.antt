@@ -6,10 +6,7 @@ pub outputs-init : goal.outputs-init
 outputs-init g c = search (arith, rules)
 
 pub outputs-preserved : goal.outputs-preserved
-outputs-preserved g c =
-    let ports = c.len-ports.ensures.value in
-    let inside = c.outputs-test.true in
-    search (arith, rules, resting_next c.outputs.invariant c.requires.states)
+outputs-preserved g c = search (arith, rules, resting_next c.outputs.invariant)
 
 pub returns-clause-states : goal.returns-clause-states
 returns-clause-states g c = cc (resting_last c.outputs.invariant c.requires.states (omega arith))

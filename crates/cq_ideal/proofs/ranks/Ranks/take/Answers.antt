@@ -1,4 +1,4 @@
-use Rattle.cq_ideal.proofs.Terms.{rules, None, Some, sym, ◌∙◌, arith, err_from_is_err_and}
+use Rattle.cq_ideal.proofs.Terms.{rules, None, Some, arith, err_from_is_err_and}
 use Rattle.cq_ideal.proofs.Admitted.{admitted_for_ports}
 use Rattle.cq_ideal.proofs.Came.{in_turn_next, in_turn_fault, in_turn_last}
 use Rattle.cq_ideal.proofs.ranks.Ranks.take.Goals as goal
@@ -9,26 +9,17 @@ inputs-init g c = search (arith, rules, c.begin.ensures.beyond)
 
 pub inputs-preserved : goal.inputs-preserved
 inputs-preserved g c =
-    let few = c.requires.few in
-    let ports = c.len-ports.ensures.value in
-    let inside = c.inputs-test.true in
-    let inv = c.inputs.invariant in
-    let places = c.admitted.ensures.places in
+    let next = in_turn_next c.inputs.invariant in
     elim c.match-admitted.branch [
-      | in-None w ↦ rw (w.self-is, w.came-is, w.put.ensures)
-          (search (arith, rules, in_turn_next inv c.inputs.self None None))
+      | in-None w ↦ rw (w.self-is, w.came-is, w.put.ensures) (search (arith, rules, next c.inputs.self None None))
       | in-Some+in_ok-queued-in-Some w ↦ rw (w.self-is, w.came-is, w.put-in-Some.ensures)
-          (search (arith, rules, in_turn_next inv w.keyed.new.self (Some w.in-Some.cell)))
+          (search (arith, rules, next w.keyed.new.self (Some w.in-Some.cell)))
     ]
 
 pub returns-in_err-queued-in-Some-clause-fault : goal.returns-in_err-queued-in-Some-clause-fault
 returns-in_err-queued-in-Some-clause-fault g c =
     let p = err_from_is_err_and c.from_residual.result c.from_residual.ensures.1 in
-    let few = c.requires.few in
-    let ports = c.len-ports.ensures.value in
-    let inside = c.inputs-test.true in
-    rw (p.1, p.2) (in_turn_fault c.inputs.invariant (Some c.in-Some.cell) _ c.admitted.ensures.places (omega arith)
-    (sym c.in-Some.is ∙ c.admitted.ensures.answer) c.in_err-queued-in-Some.ensures.fault)
+    rw (p.1, p.2) (search (arith, rules, in_turn_fault c.inputs.invariant (Some c.in-Some.cell)))
 
 pub returns-clause-came : goal.returns-clause-came
 returns-clause-came g c =
