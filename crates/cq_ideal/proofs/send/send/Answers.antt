@@ -27,6 +27,4 @@ outputs-preserved g c =
     search (arith, rules, next, holds)
 
 pub returns : goal.returns
-returns g c =
-    let last = sending_last c.outputs.invariant c.requires.fit (omega arith) in
-    search (arith, rules, last, fit_same, length-told)
+returns g c = search (arith, rules, sending_last c.outputs.invariant, fit_same, length-told)
