@@ -2,7 +2,7 @@
 -- are enough the cells that come to an input are its arrivals, and of these the packets that are taken leave flow by
 -- flow, while all cells of the others are refused. The whole run sends and refuses the same. So with a cell the first
 -- one of its packet is refused. That found its output full, which an output without a limit never is.
-use Rattle.cq_ideal.proofs.Terms.{rules, ◌≡◌, ℕ, zero, suc, ◌+◌, ◌<◌, Bool, not, true, List, [], ◌∷◌, Option, Some, None, Ok, ap, ⊎_elim, arith, common_steps, ◌==◌, slice_index_or, AllByRecursion, cases_lt, cond-true, eq-eqb, eqb-true, ne_eqb, Cell, Arrival, arrival_at, Admission, admission, held_after, is_first, mark_after, mark_at, marks_after, marks_down, refused, departures_of, IsForSwitch, IsRunnable, LimitedRan, whole_limited_run, empty_limited, cells_refused, refused_in, AreJudged, AreOfPackets, came_at, all_weaker, filter_none, all_both, Has, all_from_has, all_of_has, has_kept, kept_has, image_has, pair_of_has, each_pair, most_ports, Machine, ◌⊎◌, inl, inr, length}
+use Rattle.cq_ideal.proofs.Terms.{rules, ◌≡◌, ℕ, ◌+◌, Bool, not, true, List, [], ◌∷◌, Option, None, Ok, ap, ⊎_elim, arith, common_steps, ◌==◌, slice_index_or, AllByRecursion, cases_lt, cond-true, eq-eqb, eqb-true, ne_eqb, Cell, Arrival, Admission, admission, held_after, is_first, mark_after, marks_after, marks_down, refused, departures_of, IsRunnable, LimitedRan, whole_limited_run, empty_limited, cells_refused, refused_in, AreJudged, AreOfPackets, came_at, all_weaker, filter_none, all_both, Has, all_from_has, all_of_has, has_kept, kept_has, image_has, pair_of_has, each_pair, most_ports, Machine, ◌⊎◌, inl, inr, length}
 use Rattle.cq_ideal.specs.EachOnce.{EachLeavesOrIsRefused, KeepTheirOutput, LeaveOrAreRefused, RefusesNoneElsewhere}
 use Rattle.cq_ideal.proofs.AtInput.{all_in_order}
 use Rattle.cq_ideal.proofs.FlowOn.{in_packets}

@@ -1,5 +1,5 @@
 -- When a run of the ideal switch is over: no cell is to come, and none waits.
-use Rattle.cq_ideal.proofs.Terms.{◌≡◌, ℕ, zero, suc, ◌≤◌, true, List, [], ◌∷◌, Result, Ok, refl, arith, common_steps, All, IsOkAnd, and_from, and_parts, eq-eqb, eqb-true, le-leb, leb-true, nil_from_length, list_all-from_AllPass, Arrival, end_of, enough, traffic_of, Queued, TagFault, arriving_from, first_slots, is_over, IsEmptyIdeal, Ran, IdealState}
+use Rattle.cq_ideal.proofs.Terms.{◌≡◌, ℕ, zero, suc, ◌≤◌, true, List, [], ◌∷◌, Ok, refl, arith, common_steps, All, and_parts, eqb-true, leb-true, nil_from_length, Arrival, end_of, enough, traffic_of, Queued, arriving_from, first_slots, is_over, IsEmptyIdeal, Ran}
 use Rattle.cq_ideal.proofs.Waiting.{waiting}
 
 -- ## Nothing waits

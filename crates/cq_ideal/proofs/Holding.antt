@@ -1,6 +1,6 @@
 -- How many cells the outputs hold. The number of each is the length of its list, and stays that as cells are put into
 -- the lists and taken out of them.
-use Rattle.cq_ideal.proofs.Terms.{common_steps, ◌≡◌, ℕ, ◌+◌, ◌<◌, List, [], length, map, get_or, set, drop, replicate, Option, refl, ap, ◌∙◌, arith, IfSome, slice_get, ext_get_or, get_or-map, length-replicate, map-set, set-get_or, length-map, Cell, Queued, count_for, filled, HoldsLists, LimiterView, held_without, count_to, list_at, rules}
+use Rattle.cq_ideal.proofs.Terms.{common_steps, ◌≡◌, ℕ, ◌+◌, ◌<◌, List, [], length, map, get_or, set, drop, replicate, Option, arith, IfSome, slice_get, ext_get_or, get_or-map, length-replicate, map-set, set-get_or, length-map, Cell, Queued, count_for, filled, HoldsLists, LimiterView, held_without, count_to, list_at, rules}
 use Rattle.cq_ideal.proofs.Changed.{map-replicate}
 use Rattle.cq_ideal.proofs.Waiting.{filled_long, length-filled}
 
