@@ -1,13 +1,13 @@
 -- What arrives in the slots of a run, slot by slot, is what was to arrive, in its order: the cells that come to an
 -- input, and those of a flow. At the place of the flow's input stand all its cells of a slot, so they are among the
 -- cells that come to the input.
-use Rattle.cq_ideal.proofs.Terms.{rules, common_steps, ◌≡◌, ℕ, zero, suc, ◌+◌, ◌<◌, List, [], ◌∷◌, Option, refl, sym, ap, ◌∙◌, ⊎_elim, arith, AllByRecursion, cases_lt, get_or_past, unwrap_or-slice_get, Cell, Arrival, enough, traffic_of, arrival_at, RiseByInput, came_in_flow, came_at, cells_at, most_ports, all_weaker, IsRunnable, IsForSwitch, Machine}
+use Rattle.cq_ideal.proofs.Terms.{rules, common_steps, ◌≡◌, ℕ, zero, suc, ◌+◌, ◌<◌, List, [], ◌∷◌, Option, refl, ⊎_elim, arith, AllByRecursion, cases_lt, get_or_past, unwrap_or-slice_get, Cell, Arrival, enough, traffic_of, arrival_at, RiseByInput, came_in_flow, came_at, cells_at, most_ports, all_weaker, IsRunnable, IsForSwitch, Machine}
 use Rattle.cq_ideal.proofs.Ends.{all_slots}
 use Rattle.cq_ideal.proofs.FlowFound.{cell_listed, found, found_none, length-arriving, listed_same}
 use Rattle.cq_ideal.proofs.FlowRank.{present}
 use Rattle.cq_ideal.proofs.FlowRun.{flow_came}
 use Rattle.cq_ideal.proofs.FlowStands.{is_of_flow, of_flow}
-use Rattle.cq_ideal.proofs.RestAtInput.{IsShown, cells_of, comes_shown, is_shown, line_at, rest_of}
+use Rattle.cq_ideal.proofs.RestAtInput.{IsShown, comes_shown, is_shown, rest_of}
 use Rattle.cq_ideal.proofs.Standing.{StandAt, all_stand}
 
 -- ## The cells that come to an input
@@ -19,8 +19,7 @@ from_first (a ∷ line) = grind (arith, common_steps, from_first line)
 all_shown : (i : ℕ) (came : List Arrival) → IsShown came i → RiseByInput came →
     cells_at i (traffic_of came) ≡ came_at i came
 unfolding enough
-all_shown i came shown rise = ap (cells_at i) (sym (all_slots came))
-    ∙ comes_shown i came shown 0 (enough came) rise (omega arith) ∙ ap cells_of (from_first (line_at i came))
+all_shown i came shown rise = search (arith, rules, all_slots came, comes_shown i came shown 0, from_first)
 
 pub come_in_order : (i : ℕ) → i < most_ports → (came : List Arrival) → RiseByInput came →
     cells_at i (traffic_of came) ≡ came_at i came
@@ -64,8 +63,7 @@ module _ {ms : List Machine} {ports : ℕ} {openings : List (List ℕ)} {came : 
   all_in_order i = ⊎_elim (λ inside. come_in_order i inside came runs.rise)
       (λ past. all_shown i came (λ t.
       let long = length-arriving came t most_ports refl in
-      let nobody = found_none came t i (all_weaker (IsForSwitch ms ports) _ (λ a l at is. omega arith) came
-      runs.for_switch) in
+      let nobody = found_none came t i (search (arith, rules, all_weaker (IsForSwitch ms ports))) in
       search (arith, rules, unwrap_or-slice_get, get_or_past, listed_same, nobody)) runs.rise) (cases_lt i most_ports)
 
   pub came_in_order : (i c j : ℕ) → flow_came i c j (traffic_of came) ≡ came_in_flow i c j came

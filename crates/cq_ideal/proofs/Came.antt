@@ -63,8 +63,7 @@ module _ (ms : List Machine) (slot : ℕ) (cells : List (Option Cell)) (ranks : 
   arrived_filled : AllArrivedBefore (slot + 1) (filled r.came lists)
   arrived_filled j =
       let each = came_from ms slot 0 cells ranks r ok in
-      let later = arrived_later slot (slot + 1) lists (omega arith) arrived j in
-      search (arith, rules, cases_lt j (length lists), filled_at, all_put_all, each, length-filled, get_or_past)
+      search (arith, rules, cases_lt j (length lists), filled_at, all_put_all, each, length-filled, get_or_past, all_weaker)
 
   pub arrived_next : AllArrivedBefore (slot + 1) (rests (filled r.came lists))
   arrived_next j =
@@ -145,8 +144,7 @@ module _ {M : List ℕ → Machine} {slot : ℕ} {cells : List (Option Cell)} {f
       let left = length (drop input cells) in
       let behind = ext_get_or none (drop input came) (replicate left none)
       (grind (arith, common_steps, length-drop, length-replicate)) (search (arith, rules, get_or-drop, same_at)) in
-      let beyond = none_beyond (length first.fixed) input cells for.inputs past in
-      search (arith, rules, none_ranked, beyond, in_front, take-append-drop)
+      search (arith, rules, none_ranked, none_beyond _ input cells for.inputs past, in_front, take-append-drop)
 
 -- ## Putting cells into the lists
 

@@ -2,7 +2,7 @@
 -- are enough the cells that come to an input are its arrivals, and of these the packets that are taken leave flow by
 -- flow, while all cells of the others are refused. The whole run sends and refuses the same. So with a cell the first
 -- one of its packet is refused. That found its output full, which an output without a limit never is.
-use Rattle.cq_ideal.proofs.Terms.{rules, ◌≡◌, ℕ, ◌+◌, Bool, not, true, List, [], ◌∷◌, Option, None, Ok, ap, ⊎_elim, arith, common_steps, ◌==◌, slice_index_or, AllByRecursion, cases_lt, cond-true, eq-eqb, eqb-true, ne_eqb, Cell, Arrival, Admission, admission, held_after, is_first, mark_after, marks_after, marks_down, refused, departures_of, IsRunnable, LimitedRan, whole_limited_run, empty_limited, cells_refused, refused_in, AreJudged, AreOfPackets, came_at, all_weaker, filter_none, all_both, Has, all_from_has, all_of_has, has_kept, kept_has, image_has, pair_of_has, each_pair, most_ports, Machine, ◌⊎◌, inl, inr, length}
+use Rattle.cq_ideal.proofs.Terms.{rules, ◌≡◌, ℕ, ◌+◌, Bool, not, true, List, [], ◌∷◌, Option, None, Ok, ap, ⊎_elim, arith, common_steps, ◌==◌, slice_index_or, AllByRecursion, cases_lt, cond-true, eq-eqb, eqb-true, ne_eqb, Cell, Arrival, Admission, admission, held_after, is_first, mark_after, marks_after, marks_down, refused, departures_of, IsRunnable, LimitedRan, whole_limited_run, empty_limited, cells_refused, refused_in, AreJudged, AreOfPackets, came_at, all_weaker, filter_none, all_both, Has, all_from_has, all_of_has, has_kept, kept_has, image_has, pair_of_has, each_pair, most_ports, Machine, ◌⊎◌, length}
 use Rattle.cq_ideal.specs.EachOnce.{EachLeavesOrIsRefused, KeepTheirOutput, LeaveOrAreRefused, RefusesNoneElsewhere}
 use Rattle.cq_ideal.proofs.AtInput.{all_in_order}
 use Rattle.cq_ideal.proofs.FlowOn.{in_packets}
@@ -24,8 +24,7 @@ module _ (limits : List (Option ℕ)) (ms : List Machine) (ports : ℕ) (opening
       search (arith, rules, in_packets, run_all, of_input, all_in_order runs i)
 
 pub each_leaves_or_is_refused : EachLeavesOrIsRefused
-each_leaves_or_is_refused limits ms ports openings came ran runs is i inside packets =
-    leave_at limits ms ports openings came ran runs is i packets
+each_leaves_or_is_refused limits ms ports openings came ran runs is i inside packets = search (arith, rules, leave_at)
 
 -- ## The cells of one packet
 
@@ -41,11 +40,10 @@ first_of next (c ∷ cells) cell are has =
 one_output : (came : List Arrival) → KeepTheirOutput came → (i : ℕ) (a b : Cell) → Has (came_at i came) a →
     Has (came_at i came) b → a.id.packet ≡ b.id.packet → a.output ≡ b.output
 one_output came keep i a b has_a has_b same =
-    let p = image_has (λ (x : Arrival). x.cell) (line_at i came) a has_a in
-    let q = image_has (λ (x : Arrival). x.cell) (line_at i came) b has_b in
+    let of = image_has (λ (x : Arrival). x.cell) (line_at i came) in
     let Same = λ (x y : Arrival). x.cell.id.input ≡ y.cell.id.input → x.cell.id.packet ≡ y.cell.id.packet →
     x.cell.output ≡ y.cell.output in
-    search (arith, rules, eqb-true, pair_of_has Same came p.0 q.0, kept_has, each_pair Same came keep)
+    search (arith, rules, eqb-true, of a has_a, of b has_b, pair_of_has Same came, kept_has, each_pair Same came keep)
 
 -- ## At an output without a limit
 
@@ -86,7 +84,5 @@ refuses_none_elsewhere limits ms ports openings came ran j runs keep packets is 
     let whole = leave_at limits ms ports openings came ran runs is i of_packets in
     let others : Cell → Bool = λ c. not (whole.is_taken c.id.packet) in
     let its = kept_has others (came_at i came) cell (search (arith, rules, has_kept, eq-eqb)) in
-    elim (first_of 0 (came_at i came) cell of_packets its.0) [
-      | inl e ↦ absurd (omega arith)
-      | inr f ↦ search (arith, rules, has_kept others (came_at i came) f.0, kept_has, all_of_has, one_output)
-    ]))))
+    let first = first_of 0 (came_at i came) cell of_packets its.0 in
+    search (arith, rules, has_kept others (came_at i came), kept_has, all_of_has, one_output)))))

@@ -22,12 +22,10 @@ unfolding ideal_run come_count
 empties ms [] slot e s ran is quiet enough = grind (arith, common_steps, waiting, only_ok)
 empties ms (cells ∷ traffic) slot zero s ran is quiet enough =
     let p = first_slot ms slot cells traffic s ran is in
-    let fewer = (counted ms slot cells s p.sent p.ran_slot).fewer in
-    search (arith, rules, empties ms traffic (slot + 1) zero p.sent.after p.second p.ran_second)
+    search (arith, rules, (counted ms slot cells s p.sent p.ran_slot).fewer, empties ms traffic (slot + 1) zero)
 empties ms (cells ∷ traffic) slot (suc e) s ran is quiet enough =
     let p = first_slot ms slot cells traffic s ran is in
-    let fewer = (counted ms slot cells s p.sent p.ran_slot).fewer in
-    let rest = empties ms traffic (slot + 1) e p.sent.after p.second p.ran_second quiet (omega arith) in cc p.both
+    search (arith, rules, (counted ms slot cells s p.sent p.ran_slot).fewer, empties ms traffic (slot + 1) e)
 
 -- ## What is admitted
 

@@ -25,8 +25,7 @@ class_in_slot ms ports j came inputs e all t =
 pub classes : (ms : List Machine) (ports j : ℕ) (came : List Arrival) → AllByRecursion (IsForSwitch ms ports) came →
     AllByRecursion (λ cells. AreOfClasses (machine_at ms j) j (present cells)) (traffic_of came)
 unfolding traffic_of
-classes ms ports j came all = all_in_range (λ cells. AreOfClasses (machine_at ms j) j (present cells)) came 0
-    (enough came) (class_in_slot ms ports j came most_ports refl all)
+classes ms ports j came all = all_in_range _ came 0 (enough came) (class_in_slot ms ports j came most_ports refl all)
 
 -- nothing comes for what is no port
 pub none_came : (ms : List Machine) (ports i c j : ℕ) (came : List Arrival) →
@@ -51,7 +50,6 @@ pub left_as_came : (ms : List Machine) (ports : ℕ) (openings : List (List ℕ)
 left_as_came ms ports openings came runs i c j traffic ran is are over all comes none =
     let nil : List Queued = [] in
     let many = length-replicate ports nil in
-    let opened = runs.ports_are in
     ⊎_elim (λ inside.
     let p = passed ms j (runs.machines j inside) i c traffic 0 (empty_ideal ports openings) ran is in
     search (arith, rules, p, runs.sizes j, append-nil, empty_at ran.after.lists j, get_or-replicate))

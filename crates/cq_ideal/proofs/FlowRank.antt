@@ -51,10 +51,8 @@ module _ (ms : List Machine) (j slot : ℕ) (laws : KeepsLaws (machine_at ms j))
       (cond (is_for j (with_key ranks input cell)) (put (with_key ranks input cell) xs) xs)
   unfolding of_flow
   one_filled cell input ranks xs inside stands are =
-      let m = machine_at ms j in
       let q = with_key ranks input cell in
-      let state : List ℕ = slice_index_or ranks j [] in
-      ⊎_elim (search (arith, rules, stands_put m laws state slot input xs stands q, shown-put))
+      ⊎_elim (search (arith, rules, stands_put _ laws _ slot input xs stands q, shown-put))
       (search (arith, rules, cond-false, ne_eqb, get_or-set_other, stands_on, and_left, append-nil))
       (cases_eq cell.output j)
 

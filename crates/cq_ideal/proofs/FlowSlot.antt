@@ -2,7 +2,7 @@
 -- floor; where it sends nothing its list is empty. So what is known of the list stays known. And what the list showed
 -- of a flow, and then what arrived of it, is what the output sent of it, and then what the list shows afterwards.
 use Rattle.cq_ideal.proofs.Terms.{rules, ◌≡◌, ℕ, ◌+◌, ◌<◌, List, [], ◌∷◌, ◌++◌, length, Option, Some, None, Ok, arith, common_steps, slice_index_or, get_or-map, length-map, Cell, Queued, Machine, KeepsLaws, machine_at, Ranking, ranking, IdealState, Sent, put_all, ideal_slot, all_weaker}
-use Rattle.cq_ideal.proofs.FlowStands.{Stands, is_kind, shown, of_flow}
+use Rattle.cq_ideal.proofs.FlowStands.{Stands, shown, of_flow}
 use Rattle.cq_ideal.proofs.FlowRank.{present, AreOfClasses, Filled, filled_from}
 use Rattle.cq_ideal.proofs.Sending.{length-told, told_at}
 use Rattle.cq_ideal.proofs.Waiting.{sent_by, filled_at, length-filled, sends_ok}
@@ -28,9 +28,8 @@ module _ (ms : List Machine) (j slot : ℕ) (laws : KeepsLaws (machine_at ms j))
       Filled ms j slot laws i c come (slice_index_or old.lists j [])
       (put_all j r.came (slice_index_or old.lists j [])) old.ranks r.ranks → Served come old (sent_by ms old r)
   served_from come old r in_lists in_ranks f =
-      let many = length-filled r.came old.lists in
       let here = filled_at r.came old.lists j in_lists in
-      search (arith, rules, get_or-map, told_at, Stands, all_weaker, length-told, length-map, is_kind, shown)
+      search (arith, rules, get_or-map, told_at, all_weaker, length-told, length-map, length-filled)
 
   pub served : (cells : List (Option Cell)) (old : IdealState) (sent : Sent) →
       ideal_slot ms slot cells old ≡ Ok sent → j < length old.lists → j < length old.ranks →

@@ -3,7 +3,7 @@
 -- cell of a class gets a rank no less than the floor, which becomes the floor, and no other class's floor falls. So
 -- the new cell is not more urgent than any waiting cell of its class, and it is put behind all of them: of each flow
 -- the list shows what it showed before, and then the new cell, if it is of the flow.
-use Rattle.cq_ideal.proofs.Terms.{common_steps, rules, ◌≡◌, ℕ, ◌+◌, ◌<◌, ◌≤◌, Bool, List, [], ◌∷◌, ◌++◌, length, map, sym, ap, ◌∙◌, arith, true, ⊎_elim, ◌&&◌, ◌==◌, AllByRecursion, filter, cond_both, ltb-true, eqb-true, cond-true, cond-false, cases_Bool, eq-eqb, and_parts, and_from, and_right, Cell, Queued, is_before, EachPair, put, Machine, KeepsLaws, all_put, append-nil, map-append, all_weaker}
+use Rattle.cq_ideal.proofs.Terms.{common_steps, rules, ◌≡◌, ℕ, ◌+◌, ◌<◌, ◌≤◌, Bool, List, [], ◌∷◌, ◌++◌, length, map, arith, true, ⊎_elim, ◌&&◌, ◌==◌, AllByRecursion, filter, cond_both, ltb-true, eqb-true, cond-true, cond-false, cases_Bool, eq-eqb, and_parts, and_from, and_right, Cell, Queued, is_before, EachPair, put, Machine, KeepsLaws, all_put, append-nil, map-append, all_weaker}
 use Rattle.cq_rank.proofs.Floors.{given_floor}
 use Rattle.cq_ideal.proofs.FlowPut.{NoLater, in_order_put, filter-put, filter-put_other}
 
@@ -68,8 +68,7 @@ module _ (m : Machine) (laws : KeepsLaws m) (state : List ℕ) (slot input : ℕ
 
     -- no waiting cell of its class is less urgent
     class_no_later : (x : Queued) → x.cell.class ≡ n.cell.class → HasWaited m state slot input x → NoLater x n
-    class_no_later x same w =
-        grind (arith, common_steps, (no_later_from x n (w.level ∙ ap m.level same ∙ sym level_is)), w.before)
+    class_no_later x same w = search (arith, rules, no_later_from, w.before)
 
     -- each flow's cells are those from before, and then the new one if it is of the flow
     pub shown-put : (i c j : ℕ) → n.cell.output ≡ j → shown i c (put n xs) ≡ shown i c xs ++ of_flow i c j (n.cell ∷ [])

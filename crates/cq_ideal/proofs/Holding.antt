@@ -31,5 +31,5 @@ pub holds_filled : (came : List (Option Queued)) (cells : List (Option Cell)) (l
     ((j : ℕ) → j < length first.limits → get_or now.held j 0 ≡ get_or first.held j 0 + count_for j cells) →
     ((j : ℕ) → count_to j came ≡ count_for j cells) → HoldsLists lists' now
 holds_filled came cells lists lists' first now holds full limits long more same =
-    let filled_ports = length-filled came lists in
-    search (arith, rules, length-map, ext_get_or 0 now.held (map length lists'), get_or-map, filled_long came lists)
+    let same_at = ext_get_or 0 now.held (map length lists') in
+    search (arith, rules, length-map, same_at, get_or-map, filled_long came lists, length-filled)

@@ -131,8 +131,7 @@ module _ (limits : List (Option ℕ)) (ms : List Machine) (ports : ℕ) (ranks :
   -- a fault in some slots is one of the whole run
   faulty : (n : ℕ) (fault : TagFault) → run_to n ≡ Err fault → (x : Result LimitedRan TagFault) → run_to last ≡ x →
       last ≤ n → run_to last ≡ Err fault
-  faulty n fault is (Ok ran) e le =
-      search (arith, rules, limited_over_at_end ran e, more last (n - last) n ran)
+  faulty n fault is (Ok ran) e le = search (arith, rules, limited_over_at_end ran, more last (n - last) n ran)
   faulty n fault is (Err other) e le = let kept = fault_kept last n other le e in cc
 
   pub limited_whole_fault : (n : ℕ) (fault : TagFault) →

@@ -81,8 +81,7 @@ module _ (ms : List Machine) (ports : ℕ) (came : List Arrival) (all : AllByRec
       ⊎_elim (λ (some : 0 < k). search (arith, rules, later, slots_of-append))
       (λ (now : k ≤ 0).
       let c = comes ms ports came slot all (omega arith) in
-      let one = counted_in ports came slot c in
-      search (arith, rules, one_departs ms slot c.cell.output (arriving came slot) _ s ran run)) (cases_lt 0 k)
+      search (arith, rules, one_departs ms slot c.cell.output, counted_in ports came slot c)) (cases_lt 0 k)
 
 pub last_departs : (ms : List Machine) (ports : ℕ) (ranks : List (List ℕ)) (came : List Arrival) →
     AllByRecursion (IsForSwitch ms ports) came → (ran : Ran) →

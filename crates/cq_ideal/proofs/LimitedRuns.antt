@@ -112,8 +112,7 @@ module _ (limits : List (Option ℕ)) (ms : List Machine) where
 pub none_in : (limits : List (Option ℕ)) (marks : List Bool) (slots : ℕ) →
     AllByRecursion (RefusesNone limits marks) (replicate slots no_arrivals)
 none_in limits marks slots =
-    let all = All-replicate (RefusesNone limits marks) slots no_arrivals (no_arrivals_refuse_none limits marks) in
-    recursion_from_All _ _ all
+    recursion_from_All _ _ (All-replicate (RefusesNone limits marks) slots _ (no_arrivals_refuse_none limits marks))
 
 -- many slots in which nothing comes refuse nothing
 pub rest_refuses_none : (limits : List (Option ℕ)) (ms : List Machine) (slots slot ports : ℕ) (marks : List Bool)
@@ -121,5 +120,4 @@ pub rest_refuses_none : (limits : List (Option ℕ)) (ms : List Machine) (slots 
     limited_run limits ms slot (replicate slots no_arrivals) (marked marks s)
     ≡ Ok (nothing_came slots ports (marked marks after))
 rest_refuses_none limits ms slots slot ports marks s after ran =
-    let run = run_of_none limits ms marks slot (replicate slots no_arrivals) s (none_in limits marks slots) in
-    cc (run, ran, map-replicate (nothing_refused marks) slots no_arrivals)
+    search (rules, run_of_none limits ms marks slot _ s (none_in limits marks slots), map-replicate)

@@ -1,7 +1,7 @@
 -- The cells that arrive at an input from a slot on, slot by slot, are its arrivals of these slots in their order. In a
 -- slot the input's place shows what is found there; and the arrivals at one input rise in their slots, so where the
 -- first is taken off the list every later slot shows the same.
-use Rattle.cq_ideal.proofs.Terms.{◌≡◌, ℕ, zero, suc, ◌+◌, ◌<◌, ◌≤◌, not, List, [], ◌∷◌, ◌++◌, Bool, None, map, refl, ◌∙◌, arith, common_steps, ◌==◌, nat_lt, AllByRecursion, filter, cond_both, cases_eq, cases_lt, eq-eqb, le-ltb, lt-ltb, get_or-map-range_with_len, unwrap_or-slice_get, Cell, Arrival, arriving, arriving_at, end_of, arrival_at, all_by, arriving_from, RiseByInput, cells_at, all_weaker, most_ports, rules}
+use Rattle.cq_ideal.proofs.Terms.{◌≡◌, ℕ, zero, suc, ◌+◌, ◌<◌, ◌≤◌, not, List, [], ◌∷◌, ◌++◌, Bool, None, map, refl, arith, common_steps, ◌==◌, nat_lt, AllByRecursion, filter, cond_both, cases_eq, cases_lt, eq-eqb, le-ltb, lt-ltb, get_or-map-range_with_len, unwrap_or-slice_get, Cell, Arrival, arriving, arriving_at, end_of, arrival_at, all_by, arriving_from, RiseByInput, cells_at, all_weaker, most_ports, rules}
 use Rattle.cq_ideal.proofs.FlowCount.{before_end}
 use Rattle.cq_ideal.proofs.FlowFound.{cell_listed, found, found_here, found_none, listed, other_input, other_slot}
 
@@ -51,9 +51,8 @@ IsShown came i = (t : ℕ) → arrival_at (arriving came t) i ≡ arriving_at ca
 pub is_shown : (i : ℕ) → i < most_ports → (came : List Arrival) → IsShown came i
 unfolding arriving
 is_shown i inside came t =
-    let none = None in
-    unwrap_or-slice_get (arriving came t) i none
-    ∙ get_or-map-range_with_len (arriving_at came t) 0 most_ports i i none inside (omega arith)
+    let at = get_or-map-range_with_len (arriving_at came t) 0 most_ports i i None inside (omega arith) in
+    search (rules, unwrap_or-slice_get, at)
 
 pub comes_shown : (i : ℕ) (came : List Arrival) → IsShown came i → (from slots : ℕ) → RiseByInput came →
     end_of came ≤ from + slots → cells_at i (arriving_from came from slots) ≡ cells_of (rest_of from (line_at i came))

@@ -22,9 +22,8 @@ pub told_next : (ms : List Machine) (gone : List (Option Queued)) (old states ne
     new ≡ set states j (told (machine_at ms j) (get_or states j []) q) →
     new ≡ changed_to (all_told ms gone old) old (j + 1)
 told_next ms gone old states new j q inside so_far is now =
-    let many = length-told ms gone old in
-    let here = at_place (all_told ms gone old) old j [] many inside in
-    put_next (all_told ms gone old) old states new j _ [] so_far now (cc (told_at ms gone old j inside)) many inside
+    let here = at_place (all_told ms gone old) old j [] (length-told ms gone old) inside in
+    put_next _ old states new j _ [] so_far now (cc (told_at ms gone old j inside)) (length-told ms gone old) inside
 
 -- ## The walk
 
