@@ -63,7 +63,7 @@ module _ (ms : List Machine) (slot : ℕ) (cells : List (Option Cell)) (ranks : 
   arrived_filled : AllArrivedBefore (slot + 1) (filled r.came lists)
   arrived_filled j =
       let each = came_from ms slot 0 cells ranks r ok in
-      search (arith, rules, cases_lt j (length lists), filled_at, all_put_all, each, length-filled, get_or_past, all_weaker)
+      search (arith, rules, cases_lt j, filled_at, all_put_all, each, length-filled, get_or_past, all_weaker)
 
   pub arrived_next : AllArrivedBefore (slot + 1) (rests (filled r.came lists))
   arrived_next j =

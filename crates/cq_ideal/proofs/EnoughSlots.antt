@@ -48,8 +48,7 @@ no_more limits marks (cells ∷ traffic) (a ∷ admissions) judged =
     let here = fewer a.marks cells in
     let are = ap (λ (l : List (Option Cell)). length (present l)) (its_marks limits marks cells a judged.0).1 in
     let rest = no_more limits a.marks traffic admissions judged.1 in
-    let later = rest.count zero in
-    record { count = elim [ zero ↦ omega arith | suc e ↦ rest.count e ]; slots = ap suc rest.slots }
+    record { count = elim [ zero ↦ omega (arith, rest.count zero) | suc e ↦ rest.count e ]; slots = ap suc rest.slots }
 no_more limits marks traffic admissions judged = absurd judged
 
 -- ## As many slots as are enough

@@ -48,12 +48,10 @@ pub left_as_came : (ms : List Machine) (ports : ℕ) (openings : List (List ℕ)
     IsEmptyIdeal ran.after → (all : List Cell) → flow_came i c j traffic ≡ all →
     (ports ≤ j → all ≡ []) → left_in_flow i c j (departures_of 0 ran.gone) ≡ all
 left_as_came ms ports openings came runs i c j traffic ran is are over all comes none =
-    let nil : List Queued = [] in
-    let many = length-replicate ports nil in
     ⊎_elim (λ inside.
     let p = passed ms j (runs.machines j inside) i c traffic 0 (empty_ideal ports openings) ran is in
-    search (arith, rules, p, runs.sizes j, append-nil, empty_at ran.after.lists j, get_or-replicate))
-    (λ past. search (arith, rules, no_port ms i c j traffic 0)) (cases_lt j ports)
+    search (arith, rules, p, runs.sizes j, append-nil, empty_at ran.after.lists, get_or-replicate, length-replicate))
+    (λ past. search (arith, rules, no_port ms i c j traffic 0, length-replicate)) (cases_lt j ports)
 
 -- ## The law
 

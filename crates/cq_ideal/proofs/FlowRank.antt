@@ -1,7 +1,7 @@
 -- The arrivals of a slot at one output, ranked and put into its list from input to input. A cell for the output is
 -- put behind all that wait of its flow, and a cell for another output changes neither the list nor the machine's
 -- state here. So of each flow the list shows what it showed before, and then what arrives of it.
-use Rattle.cq_ideal.proofs.Terms.{common_steps, rules, ◌≡◌, ℕ, ◌+◌, ◌<◌, Bool, cond, List, [], ◌∷◌, ◌++◌, length, Option, Some, None, Result, Ok, Err, ⊎_elim, arith, slice_index_or, AllByRecursion, cases_eq, ne_eqb, and_left, cond-false, append-nil, get_or-set_other, length-set, append_assoc, Cell, Queued, TagFault, put, is_for, Machine, KeepsLaws, machine_at, Ranking, ranking, after_input, keyed, put_all, given_at, level_at, rank_at}
+use Rattle.cq_ideal.proofs.Terms.{common_steps, rules, ◌≡◌, ℕ, ◌+◌, ◌<◌, Bool, cond, List, [], ◌∷◌, ◌++◌, length, Option, Some, None, Result, Ok, Err, ⊎_elim, arith, slice_index_or, AllByRecursion, cases_eq, ne_eqb, and_left, cond-false, append-nil, get_or-set_other, append_assoc, Cell, Queued, TagFault, put, is_for, Machine, KeepsLaws, machine_at, Ranking, ranking, after_input, keyed, put_all, given_at, level_at, rank_at}
 use Rattle.cq_ideal.proofs.FlowStands.{Stands, shown, of_flow, stands_on, stands_next, stands_put, shown-put}
 
 -- the cells that arrive in a slot
@@ -68,7 +68,6 @@ module _ (ms : List Machine) (j slot : ℕ) (laws : KeepsLaws (machine_at ms j))
   filled_from (Some cell ∷ cells) input ranks xs r h inside stands are =
       let one = one_filled cell input ranks xs inside stands are.0 in
       let next = given_at ms ranks cell.output cell.class in
-      let long : length next ≡ length ranks = length-set ranks cell.output _ in
       let w = after_input_ok _ _ r (fits_ok _ (after_input (Some (with_key ranks input cell)) _) _ r h) in
-      let f = filled_from cells (input + 1) next _ w.0 w.1 (omega arith) one.stands are.1 in
+      let f = filled_from cells (input + 1) next _ w.0 w.1 (search (arith, rules)) one.stands are.1 in
       search (arith, rules, append_assoc, shown, of_flow)

@@ -237,8 +237,7 @@ module _ (ms : List Machine) (ports : ℕ) (ranks : List (List ℕ)) (came : Lis
   -- what a run of more slots says of one of fewer
   pub fewer_slots : (m n : ℕ) (ran : Ran) → m ≤ n → plain_run n ≡ Ok ran → (first : Ran) × (plain_run m ≡ Ok first)
   fewer_slots m n ran le is =
-      let whole = as_limited (marks_down ports) (first_slots came n) ran in
-      let f = cut_at [] ms ports ranks came m n whole le (refusing_none n (Ok ran) is) in
+      let f = cut_at [] ms ports ranks came m n _ le (refusing_none n (Ok ran) is) in
       (state_ran f.first, sym (its_runs m) ∙ ap unlimited f.ran_first)
 
   pub whole_fault : (n : ℕ) (fault : TagFault) → plain_run n ≡ Err fault →

@@ -1,7 +1,7 @@
 -- Slots in which nothing waits and nothing comes. Such a slot sends nothing, and only tells each machine that its
 -- output was idle. A machine that keeps the laws is not changed by a second idle slot, so that many such slots do
 -- what one does.
-use Rattle.cq_ideal.proofs.Terms.{rules, ◌≡◌, ℕ, zero, suc, ◌+◌, ◌-◌, ◌<◌, ◌≤◌, List, [], length, map, get_or, set, drop, slice_get, replicate, Option, None, Ok, refl, sym, ap, ◌∙◌, arith, common_steps, ext_get_or, get_or-map, length-replicate, no_arrivals, Queued, KeepsLaws, Machine, first_come, machine_at, told, IdealSwitch, IsEmptyIdeal, empty_ideal, ideal_run, nothing_sent, IdealState, fronts, ideal_slot, rests, FitTogether, QueuesView, RanksView, idled, state_of, after_input, ranking, most_ports}
+use Rattle.cq_ideal.proofs.Terms.{rules, ◌≡◌, ℕ, zero, suc, ◌+◌, ◌-◌, ◌<◌, ◌≤◌, List, [], length, map, get_or, set, drop, slice_get, replicate, Option, None, Ok, refl, sym, ap, arith, common_steps, ext_get_or, get_or-map, length-replicate, no_arrivals, Queued, KeepsLaws, Machine, first_come, machine_at, told, IdealSwitch, IsEmptyIdeal, empty_ideal, ideal_run, nothing_sent, IdealState, fronts, ideal_slot, rests, FitTogether, QueuesView, RanksView, idled, state_of, after_input, ranking, most_ports}
 use Rattle.cq_ideal.proofs.Parted.{next_slot}
 use Rattle.cq_ideal.proofs.Changed.{map-replicate, same_at, at_end, at_place, changed_to, next_place}
 use Rattle.cq_ideal.proofs.Sending.{length-told, told_at}
@@ -37,8 +37,7 @@ module _ (ms : List Machine) (n : ℕ) where
       ≡ Ok (record { gone = replicate n None; after = empty_ideal n (idled ms n ranks) })
   unfolding ideal_slot idled
   quiet_slot slot ranks =
-      let none = nobody_left (replicate most_ports None) (replicate n [])
-      (λ k q at. let no = sym (none_at most_ports k) ∙ at in cc) in
+      let none = nobody_left (replicate most_ports None) (replicate n []) (λ k q at. cc (none_at most_ports k, at)) in
       cc (ranked_none ms slot 0 most_ports ranks, none, nobody_sends n, nothing_left n)
 
   pub idle_run : (count slot : ℕ) (ranks : List (List ℕ)) → (rested : List (List ℕ))

@@ -114,9 +114,8 @@ module _ {M : List ℕ → Machine} {slot : ℕ} {cells : List (Option Cell)} {v
       -- the cells come to the ports, the lists have room for them, and each has its own key
       pub come_to_ports : CameToPorts (length queues.lists) came
       come_to_ports =
-          let classes = class_count (map M ranks.fixed) in
-          came_to_ports (map M ranks.fixed) slot _ classes (admitted judged.marks cells) ranks.states r taken.ranked
-          (admitted_for_ports _ classes judged.marks cells (rw known.parts.fit.lists comes)) taken.long
+          came_to_ports (map M ranks.fixed) slot _ (class_count (map M ranks.fixed)) (admitted judged.marks cells) _ r
+          taken.ranked (admitted_for_ports _ _ judged.marks cells (rw known.parts.fit.lists comes)) taken.long
 
       pub have_room : HaveRoomFor came queues
       have_room j inside =
@@ -124,8 +123,7 @@ module _ {M : List ℕ → Machine} {slot : ℕ} {cells : List (Option Cell)} {v
           search (arith, rules, admitted_room, lists_are)
 
       pub have_keys : HaveOwnKeys came queues.lists
-      have_keys = own_keys (map M ranks.fixed) slot (admitted judged.marks cells) ranks.states r taken.ranked
-          queues.lists known.parts.arrived
+      have_keys = search (arith, rules, own_keys (map M ranks.fixed) slot (admitted judged.marks cells) ranks.states r)
 
       pub placed : (queues_new : QueuesView) → queues_new.lists ≡ filled came queues.lists →
           queues_new.rooms ≡ queues.rooms → ranks_new.fixed ≡ ranks.fixed →
