@@ -121,5 +121,4 @@ pub machine_seen : {R : Type 0} (F S : R → List ℕ) (items : List R) (o : ℕ
     o < length v.fixed → r ≡ get_or items o r → record { fixed = map F items; states = map S items } ≡ v →
     (M : List ℕ → Machine) → M (F r) ≡ machine_at (map M v.fixed) o
 machine_seen F S items o {r} {v} inside is view_is M =
-    let place = item_inside F items (ap (λ (w : RanksView). w.fixed) view_is) o inside in
-    cc (get_or-map F items o r (F r) place, get_or-map M v.fixed o (F r) (first_come []) inside)
+    grind (arith, common_steps, get_or-map F items o r (F r), get_or-map M v.fixed o (F r) (first_come []), item_inside)

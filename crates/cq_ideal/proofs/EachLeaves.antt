@@ -2,7 +2,7 @@
 -- are enough the cells that come to an input are its arrivals, and of these the packets that are taken leave flow by
 -- flow, while all cells of the others are refused. The whole run sends and refuses the same. So with a cell the first
 -- one of its packet is refused. That found its output full, which an output without a limit never is.
-use Rattle.cq_ideal.proofs.Terms.{rules, ◌≡◌, ℕ, ◌+◌, Bool, not, true, List, [], ◌∷◌, Option, None, Ok, ap, ⊎_elim, arith, common_steps, ◌==◌, slice_index_or, AllByRecursion, cases_lt, cond-true, eq-eqb, eqb-true, ne_eqb, Cell, Arrival, Admission, admission, held_after, is_first, mark_after, marks_after, marks_down, refused, departures_of, IsRunnable, LimitedRan, whole_limited_run, empty_limited, cells_refused, refused_in, AreJudged, AreOfPackets, came_at, all_weaker, filter_none, all_both, Has, all_from_has, all_of_has, has_kept, kept_has, image_has, pair_of_has, each_pair, most_ports, Machine, ◌⊎◌, length}
+use Rattle.cq_ideal.proofs.Terms.{rules, ◌≡◌, ℕ, ◌+◌, Bool, not, true, List, [], ◌∷◌, Option, None, Ok, ap, ⊎_elim, arith, common_steps, ◌==◌, slice_index_or, AllByRecursion, cases_lt, eq-eqb, eqb-true, ne_eqb, Cell, Arrival, Admission, admission, held_after, is_first, mark_after, marks_after, refused, departures_of, IsRunnable, LimitedRan, whole_limited_run, empty_limited, cells_refused, refused_in, AreJudged, AreOfPackets, came_at, all_weaker, filter_none, all_both, Has, all_from_has, all_of_has, has_kept, kept_has, image_has, pair_of_has, each_pair, Machine, ◌⊎◌, length}
 use Rattle.cq_ideal.specs.EachOnce.{EachLeavesOrIsRefused, KeepTheirOutput, LeaveOrAreRefused, RefusesNoneElsewhere}
 use Rattle.cq_ideal.proofs.AtInput.{all_in_order}
 use Rattle.cq_ideal.proofs.FlowOn.{in_packets}
@@ -56,31 +56,26 @@ module _ (limits : List (Option ℕ)) (j : ℕ) (none : slice_index_or limits j 
   first_elsewhere : (held : List ℕ) (marks : List Bool) (cells : List (Option Cell)) →
       AllByRecursion Elsewhere (refused (marks_after limits held marks cells) cells)
   first_elsewhere held (mark ∷ marks) (x ∷ cells) =
-      let after = held_after (mark_after limits held mark x) held x in
-      grind (arith, common_steps, first_elsewhere after marks cells, cond-true)
+      grind (arith, common_steps, first_elsewhere (held_after (mark_after limits held mark x) held x) marks cells)
   first_elsewhere held marks cells = tt
 
   firsts_elsewhere : (marks : List Bool) (traffic : List (List (Option Cell))) (admissions : List Admission) →
-      AreJudged limits marks traffic admissions →
-      AllByRecursion Elsewhere (refused_in admissions)
+      AreJudged limits marks traffic admissions → AllByRecursion Elsewhere (refused_in admissions)
   unfolding admission
   firsts_elsewhere marks [] [] judged = tt
   firsts_elsewhere marks (cells ∷ traffic) (a ∷ admissions) judged =
-      let here = first_elsewhere judged.0.0 marks cells in
-      grind (arith, common_steps, all_both, firsts_elsewhere a.marks traffic admissions judged.1)
+      grind (arith, common_steps, all_both, first_elsewhere judged.0.0 marks cells, firsts_elsewhere a.marks traffic)
   firsts_elsewhere marks traffic admissions judged = absurd judged
 
 pub refuses_none_elsewhere : RefusesNoneElsewhere
 unfolding whole_limited_run cells_refused
 refuses_none_elsewhere limits ms ports openings came ran j runs keep packets is none =
     let gone = refused_in ran.admissions in
-    let each_judged = judged limits ms 0 _ (empty_limited ports openings) ran is in
-    let firsts = firsts_elsewhere limits j none (marks_down ports) _ ran.admissions each_judged in
+    let firsts = firsts_elsewhere limits j none _ _ _ (judged limits ms 0 _ (empty_limited ports openings) ran is) in
     ap length (filter_none (λ (cell : Cell). cell.output == j) gone (all_from_has _ gone (λ cell has.
     ne_eqb cell.output j (λ to.
     let i = cell.id.input in
-    let of_packets = ⊎_elim (packets i) (search (arith, rules, filter_none, all_weaker, ne_eqb))
-    (cases_lt i most_ports) in
+    let of_packets = ⊎_elim (packets i) (search (arith, rules, filter_none, all_weaker, ne_eqb)) (cases_lt i _) in
     let whole = leave_at limits ms ports openings came ran runs is i of_packets in
     let others : Cell → Bool = λ c. not (whole.is_taken c.id.packet) in
     let its = kept_has others (came_at i came) cell (search (arith, rules, has_kept, eq-eqb)) in

@@ -70,8 +70,7 @@ emptied ms ports ranks came traffic ran is less =
 
 pub empty_at_end : (ms : List Machine) (ports : ℕ) (ranks : List (List ℕ)) (came : List Arrival) →
     IfOk (ideal_run ms 0 (traffic_of came) (empty_ideal ports ranks)) (λ ran. IsEmptyIdeal ran.after)
-empty_at_end ms ports ranks came = if_ok (λ ran. IsEmptyIdeal ran.after) _ (λ ran is.
-    emptied ms ports ranks came (traffic_of came) ran is (record { count = λ e. omega arith; slots = refl }))
+empty_at_end ms ports ranks came = search (arith, rules, emptied ms ports ranks came)
 
 pub none_after_end : (came : List Arrival) (t : ℕ) → enough came ≤ t → arriving came t ≡ no_arrivals
 unfolding enough
@@ -82,5 +81,4 @@ pub limited_empty_at_end : (limits : List (Option ℕ)) (ms : List Machine) (por
     IfOk (limited_run limits ms 0 (traffic_of came) (empty_limited ports ranks)) (λ ran. IsEmptyIdeal ran.after.state)
 limited_empty_at_end limits ms ports ranks came =
     if_ok (λ ran. IsEmptyIdeal ran.after.state) _ (λ ran is.
-    emptied ms ports ranks came (admitted_in ran.admissions) (record { gone = ran.gone; after = ran.after.state })
-    (search (arith, rules, is_run_of)) (search (arith, rules, no_more, judged)))
+    emptied ms ports ranks came _ _ (is_run_of limits ms 0 _ _ ran is) (search (arith, rules, no_more, judged)))

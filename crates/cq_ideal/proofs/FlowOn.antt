@@ -95,8 +95,7 @@ in_packets limits ms ports openings came ran runs is i packets =
       record {
         is_taken = whole.is_taken;
         admitted = whole.are;
-        left = λ c j. left_as_came ms ports openings came runs i c j (admitted_in ran.admissions)
-            (record { gone = ran.gone; after = ran.after.state }) (is_run_of limits ms 0 traffic start ran is)
+        left = λ c j. left_as_came ms ports openings came runs i c j _ _ (is_run_of limits ms 0 traffic start ran is)
             (of_classes limits ms 0 traffic start ran is stand over j (classes ms ports j came runs.for_switch)) over
             (takes (came_in_flow i c j came)) (admitted_of_flow limits ms 0 traffic start ran is stand over i 0 packets
             c j ∙ ap takes (came_in_order runs i c j)) (search (arith, rules, none_came));

@@ -20,8 +20,7 @@ one_departs : (ms : List Machine) (slot j : ℕ) (cells : List (Option Cell)) (t
 unfolding departures_of departures_in
 one_departs ms slot j cells traffic s ran is inside some =
     let p = first_slot ms slot cells traffic s ran is in
-    let here = (slots_in slot 0 p.sent.gone).1 ((counted ms slot cells s p.sent p.ran_slot).departs j inside some) in
-    search (arith, rules, slots_of-append)
+    search (arith, rules, slots_of-append, slots_in slot 0, (counted ms slot cells s p.sent p.ran_slot).departs j)
 
 one_of_waiting : (ms : List Machine) (slot : ℕ) (traffic : List (List (Option Cell))) (s : IdealState) (ran : Ran) →
     0 < length ran.gone → 0 < waiting s.lists → ideal_run ms slot traffic s ≡ Ok ran →

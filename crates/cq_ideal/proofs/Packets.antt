@@ -58,9 +58,8 @@ step next mark up (Some cell) came taken refused same are rest =
     let none : cons_option (where_up up (Some cell)) refused
     ≡ filter (λ c. not (f c.id.packet)) (cell ∷ came) = search (arith, rules, common_steps) in
     ⊎_elim (λ on. search (arith, rules)) (λ new. let g : ℕ → Bool = λ n. cond (nat_lt n next) (not mark) (f n) in
-    let later = beyond (not mark) f next (cell.id.packet + 1) came (omega arith) are.1 in
     let alike : AllByRecursion (λ c. f c.id.packet ≡ g c.id.packet) (cell ∷ came) =
-    (past (not mark) f next cell new.0, later) in
+    (past (not mark) f next cell new.0, beyond (not mark) f next (cell.id.packet + 1) came (omega arith) are.1) in
     record {
       is_taken = g;
       before = λ packet e. ap (λ (b : Bool). cond b (not mark) (f packet)) (lt-ltb packet next (omega arith));
