@@ -1,6 +1,6 @@
 -- Lists that are made item by item, what is seen of one item, and lists that are new up to a place, and old from it on.
 -- So the list and the machine of one output among those of all: what stands at its place is read through the lists of
--- all, and a call that changes it changes these at its place alone.
+-- all.
 use Rattle.cq_ideal.proofs.Terms.{common_steps, ◌≡◌, ℕ, zero, suc, refl, ◌+◌, ◌<◌, ◌≤◌, List, [], ◌∷◌, ◌++◌, length, map, get_or, replicate, set, take, drop, sym, ap, ◌∙◌, arith, append-nil, drop_all, drop_more, get_or_at, get_or-map, length-map, length-take-le, map_push, replicate_more, set_at, take_all, take_more, Option, None, length-replicate, Queued, ◌^◌, eqb, Bool, All, IsTrue, ◌↔◌, list_all, All-push, list_all-map, list_all-from_AllPass, IsWithin, QueueView, QueuesView, list_at, Machine, machine_at, first_come, RanksView, most_ports, cases_lt, get_or_past}
 use Rattle.cq_ideal.specs.Newcomers.{AreUsed}
 
@@ -116,7 +116,7 @@ none_wait cells_of items lists b e l =
 
 -- ## Their machines
 
--- the machine of an output, from the numbers that give it
+-- the numbers that stand at an output's place give its machine
 pub machine_seen : {R : Type 0} (F S : R → List ℕ) (items : List R) (o : ℕ) {r : R} {v : RanksView} →
     o < length v.fixed → r ≡ get_or items o r → record { fixed = map F items; states = map S items } ≡ v →
     (M : List ℕ → Machine) → M (F r) ≡ machine_at (map M v.fixed) o

@@ -48,11 +48,11 @@ one_output came keep i a b has_a has_b same =
 -- ## At an output without a limit
 
 module _ (limits : List (Option ℕ)) (j : ℕ) (none : slice_index_or limits j None ≡ None) where
-  -- where it is a first cell it is for another output
+  -- it is no first cell, or it is for another output
   abbrev Elsewhere : Cell → Type 0
   Elsewhere cell = is_first cell ≡ true → cell.output ≡ j → ⊥
 
-  -- where a first cell puts a mark up its output is full
+  -- in a slot: where a first cell puts a mark up its output is full
   first_elsewhere : (held : List ℕ) (marks : List Bool) (cells : List (Option Cell)) →
       AllByRecursion Elsewhere (refused (marks_after limits held marks cells) cells)
   first_elsewhere held (mark ∷ marks) (x ∷ cells) =
