@@ -2,7 +2,7 @@
 -- and states that agree are empty together. So the least number of slots after which the one is over is that of the
 -- other. In the last slot a cell departs, as it does in the ideal switch, so the figures tell the number of slots.
 -- And what goes on behind the end is quiet slots.
-use Rattle.cq_laws.proofs.Terms.{cases_lt, ⊎_elim, common_steps, rules, ◌≡◌, ℕ, ◌+◌, ◌-◌, ◌≤◌, cond, List, [], ◌∷◌, length, take, drop, map, Option, Err, refl, sym, subst, arith, replicate, filter, fold, is_some, max, AllByRecursion, list_any, cases_Bool, cond_both, length-take-le, take-append-drop, take_all, append-nil, Cell, Queued, TagFault, Machine, IsForSwitch, AreForPorts, IsInputBest, IsStable, Partners, EndsAlike, RunsAlike, Fabric, IsEmptyFabric, empty_fabric, BeginsWhole, FabricRun, FabricStops, WholeRun, FabricSlot, SlotRecord, idled_for, quiet_slots, no_arrivals, IdealAfter, IdealEnds, arriving_from, first_slots, slots_of, slots_of_run, whole_ideal_run, IsEmptyIdeal, departures_of, empty_ideal, departures_from, departures_in, ends, fewer_slots, found_end, not_more, whole_fault, arriving_length, quiet_from, Orders, figures_of, sends, AfterBy, fold-append, all_slots, slots_of-append, last_departs, gone_in, IdealState, ◌++◌, ap, ◌∙◌}
+use Rattle.cq_laws.proofs.Terms.{cases_lt, ⊎_elim, common_steps, rules, ◌≡◌, ℕ, ◌+◌, ◌-◌, ◌≤◌, cond, List, [], ◌∷◌, length, take, drop, map, Option, Err, refl, sym, arith, filter, fold, is_some, max, AllByRecursion, list_any, cases_Bool, cond_both, length-take-le, take-append-drop, take_all, append-nil, Cell, Queued, TagFault, Machine, IsForSwitch, AreForPorts, IsInputBest, IsStable, Partners, EndsAlike, RunsAlike, Fabric, IsEmptyFabric, empty_fabric, BeginsWhole, FabricRun, FabricStops, WholeRun, FabricSlot, SlotRecord, idled_for, quiet_slots, IdealAfter, IdealEnds, arriving_from, first_slots, slots_of, slots_of_run, whole_ideal_run, IsEmptyIdeal, departures_of, empty_ideal, departures_from, departures_in, ends, fewer_slots, found_end, not_more, whole_fault, arriving_length, quiet_from, Orders, figures_of, sends, fold-append, all_slots, slots_of-append, last_departs, gone_in, IdealState, ◌++◌, ap, ◌∙◌}
 use Rattle.cq_base.specs.Arriving.{Arrival, enough, traffic_of}
 use Rattle.cq_laws.proofs.AddingUp.{figures_fold, fold-max}
 use Rattle.cq_laws.proofs.InputBest.{stable_too}
@@ -27,23 +27,18 @@ module _ (ms : List Machine) (ports class_count : ℕ) (ranks : List (List ℕ))
       FabricRun IsStable ms 0 (first_slots came n) (empty_fabric ports ranks) rs f → Beside n rs f
   beside n rs f fit run = search (rules, same_run ms class_count, empty_agree, traffic_for_empty)
 
-  -- the fabric is over after m slots where the ideal switch is
-  over_too : (m : ℕ) (rs : List SlotRecord) (f : Fabric) (s : IdealState) → Beside m rs f →
-      IdealAfter ms came (empty_ideal ports ranks) m s → IsEmptyIdeal s → IsEmptyFabric f
-  over_too m rs f s b after empty = grind (arith, common_steps, empty_together _ f b.after b.agrees)
-
   module _ (rs : List SlotRecord) (g : Fabric) (fit : Fit (length rs)) (w : WholeRun IsStable ms came
       (empty_fabric ports ranks) rs g) where
     pub end_alike : EndsAlike ms came (empty_ideal ports ranks) rs g
     unfolding whole_ideal_run
     end_alike =
         let start = empty_fabric ports ranks in
-        let run = run_of_whole (FabricSlot IsStable ms) came start rs IsEmptyFabric g w in
-        let b = beside (length rs) rs g fit run in
+        let b = beside (length rs) rs g fit (run_of_whole (FabricSlot IsStable ms) came start rs IsEmptyFabric g w) in
         let ends = ends_with (FabricSlot IsStable ms) came start rs IsEmptyFabric
         (IdealAfter ms came (empty_ideal ports ranks)) IsEmptyIdeal g b.after w (rw b.ran)
-        ((empty_together _ g b.after b.agrees).0 w.empty) (λ m u v lt late.
-        search (arith, rules, over_too, beside, fewer_fit (AreForPorts ports class_count) came m (length rs))) in
+        ((empty_together _ g b.after b.agrees).0 w.empty) (λ m u v lt late x at over.
+        let c = beside m _ v (fewer_fit (AreForPorts ports class_count) came m (length rs) (omega arith) fit) x in
+        grind (arith, common_steps, empty_together _ v c.after c.agrees)) in
         let long = arriving_length came 0 (length rs) in search (arith, rules, found_end, ends)
 
   pub stop_alike : (n : ℕ) (rs : List SlotRecord) (fault : TagFault) → Fit n →
@@ -121,16 +116,15 @@ module _ (ms : List Machine) (ports class_count : ℕ) (ranks : List (List ℕ))
   cut = grind (arith, not_more, run_length, best_run, arriving_length, length-take-le)
 
   empty_end : IsEmptyFabric at_end.state
-  empty_end = search (rules, over_too, fewer, not_more, at_end, done)
+  empty_end =
+      let b = fewer n at_end.state (take n rs) (not_more ms ports ranks came) at_end.after in
+      grind (arith, common_steps, empty_together _ at_end.state b.after b.agrees, done)
 
   is_whole : WholeRun IsInputBest ms came (empty_fabric ports ranks) (take n rs) at_end.state
   is_whole =
       let few = not_more ms ports ranks came in
-      let start = empty_fabric ports ranks in
-      let after : AfterBy (FabricSlot IsInputBest ms) came start (take n rs) (length (take n rs)) at_end.state =
-      search (arith, rules, cut, take_all) in
       record {
-        after = after;
+        after = search (arith, rules, cut, take_all);
         all_came = rw cut done.1.all_came;
         empty = empty_end;
         first = λ m u at late over. rw cut (⊎_elim (λ lt.
@@ -150,9 +144,7 @@ module _ (ms : List Machine) (ports class_count : ℕ) (ranks : List (List ℕ))
       let is : f ≡ empty_fabric (length f.inputs) f.ranks = empty_is f empty_end b.agrees.fabric.square in
       let end = empty_fabric (length f.inputs) (idled_for ms (enough came - n) (length f.inputs) f.ranks) in
       let run : FabricRun IsInputBest ms n (arriving_from came n (enough came - n)) f idle end =
-      rw (quiet_from came (enough came - n) n done.1.all_came) (subst (λ (h : Fabric).
-      FabricRun IsInputBest ms n (replicate (enough came - n) no_arrivals) h idle end) (sym is)
-      (quiet_run ms (enough came - n) n (length f.inputs) f.ranks)) in
+      search (arith, rules, quiet_from came, done, is, quiet_run ms (enough came - n) n (length f.inputs) f.ranks) in
       ((only_run ms).run n (arriving_from came n (enough came - n)) f g end (drop n rs) idle at_end.rest run).0
 
   pub begins_whole : BeginsWhole IsInputBest ms came (empty_fabric ports ranks) rs

@@ -1,6 +1,6 @@
 -- Where runs with limits end. Beside the fabric the ideal switch runs, and after each slot both are empty together; so
 -- both end after the same slot.
-use Rattle.cq_laws.proofs.Terms.{rules, ◌≡◌, ℕ, List, length, Option, arith, AllByRecursion, Arrival, Machine, Marked, IdealState, AreForPorts, IsInputBest, IsStable, LimitedEndsAlike, LimitedRunsAlike, LimitedFabricRun, LimitedFabricSlot, LimitedRecord, LimitedWholeRun, empty_limited_fabric, Fabric, IsEmptyFabric, empty_limited, arriving_length, LimitedIdealAfter, first_slots, IsEmptyIdeal}
+use Rattle.cq_laws.proofs.Terms.{rules, ◌≡◌, ℕ, List, length, Option, arith, AllByRecursion, Arrival, Machine, Marked, AreForPorts, IsInputBest, IsStable, LimitedEndsAlike, LimitedRunsAlike, LimitedFabricRun, LimitedFabricSlot, LimitedRecord, LimitedWholeRun, empty_limited_fabric, Fabric, IsEmptyFabric, empty_limited, arriving_length, LimitedIdealAfter, first_slots, IsEmptyIdeal}
 use Rattle.cq_laws.proofs.LimitedWhole.{same_limited_run, begin}
 use Rattle.cq_laws.proofs.OneRun.{only_limited_run}
 use Rattle.cq_laws.proofs.Parted.{ends_with, fewer_fit, one_whole, run_of_whole}
@@ -13,29 +13,22 @@ module _ (limits : List (Option ℕ)) (ms : List Machine) (ports class_count : �
   Fit n = AllByRecursion (AreForPorts ports class_count) (first_slots came n)
 
   -- beside a run over n slots the ideal switch runs
-  abbrev Beside : ℕ → List LimitedRecord → Marked Fabric → Type 0
-  Beside n rs f = LimitedRunsAlike limits ms 0 (first_slots came n) (empty_limited ports ranks) rs f
-
   beside : (n : ℕ) (rs : List LimitedRecord) (f : Marked Fabric) → Fit n →
-      LimitedFabricRun IsStable limits ms 0 (first_slots came n) (empty_limited_fabric ports ranks) rs f → Beside n rs f
+      LimitedFabricRun IsStable limits ms 0 (first_slots came n) (empty_limited_fabric ports ranks) rs f →
+      LimitedRunsAlike limits ms 0 (first_slots came n) (empty_limited ports ranks) rs f
   beside n rs f fit run = search (arith, rules, same_limited_run limits ms class_count, begin limits ms class_count)
-
-  -- the fabric is over after m slots where the ideal switch is
-  over_too : (m : ℕ) (rs : List LimitedRecord) (f : Marked Fabric) (s : Marked IdealState) → Beside m rs f →
-      LimitedIdealAfter limits ms came (empty_limited ports ranks) m s → IsEmptyIdeal s.state → IsEmptyFabric f.state
-  over_too m rs f s b after empty = search (arith, rules, empty_together _ f.state b.after.state b.agrees.states)
 
   pub limited_ends : (rs : List LimitedRecord) (g : Marked Fabric) → Fit (length rs) →
       LimitedWholeRun IsStable limits ms came (empty_limited_fabric ports ranks) rs g →
       LimitedEndsAlike limits ms came (empty_limited ports ranks) rs g
   limited_ends rs g fit w =
       let start = empty_limited_fabric ports ranks in
-      let run = run_of_whole (LimitedFabricSlot IsStable limits ms) came start rs (λ f. IsEmptyFabric f.state) g w in
-      let b = beside (length rs) rs g fit run in
+      let b = beside (length rs) rs g fit (run_of_whole _ came start rs (λ f. IsEmptyFabric f.state) g w) in
       let ends = ends_with (LimitedFabricSlot IsStable limits ms) came start rs (λ f. IsEmptyFabric f.state)
       (LimitedIdealAfter limits ms came (empty_limited ports ranks)) (λ s. IsEmptyIdeal s.state) g b.after w (rw b.ran)
-      ((empty_together _ g.state b.after.state b.agrees.states).0 w.empty) (λ m u v lt late.
-      search (arith, rules, over_too, beside, fewer_fit (AreForPorts ports class_count) came m (length rs))) in
+      ((empty_together _ g.state b.after.state b.agrees.states).0 w.empty) (λ m u v lt late x at over.
+      let c = beside m _ v (fewer_fit (AreForPorts ports class_count) came m (length rs) (omega arith) fit) x in
+      search (arith, rules, empty_together _ v.state c.after.state c.agrees.states)) in
       let long = arriving_length came 0 (length rs) in search (arith, rules, ends)
 
 -- and there is one whole run, if there is one
