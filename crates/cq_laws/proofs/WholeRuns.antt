@@ -40,13 +40,10 @@ module _ (ms : List Machine) (class_count : ℕ) where
 
 -- ## States that agree are empty together
 
-none_among : (xs : List Queued) (c : Queued) → xs ≡ [] → IsAmong c xs → ⊥
-none_among xs c e h = rw e at h
-
 -- in lists that are all empty there is no cell, and lists without one are all empty
 none_in : (lists : List (List Queued)) → All (λ cells. cells ≡ []) lists → (i : ℕ) (c : Queued) →
     IsAmong c (list_of lists i) → ⊥
-none_in lists empty i c h = grind (arith, get_or_past, cases_lt, none_among)
+none_in lists empty i c h = grind (arith, common_steps, get_or_past, cases_lt)
 
 all_empty : (lists : List (List Queued)) → ((i : ℕ) (c : Queued) → IsAmong c (list_of lists i) → ⊥) →
     All (λ cells. cells ≡ []) lists
@@ -75,7 +72,7 @@ module _ (ports : ℕ) (ranks : List (List ℕ)) where
 
   -- without cells they agree, whatever the slot
   pub empty_agree_at : (slot : ℕ) → Agrees slot (empty_fabric ports ranks) (empty_ideal ports ranks)
-  empty_agree_at slot = search (arith, rules, empty_list, no_place, none_among)
+  empty_agree_at slot = search (arith, rules, empty_list, no_place)
 
   pub empty_agree : Agrees 0 (empty_fabric ports ranks) (empty_ideal ports ranks)
   empty_agree = empty_agree_at 0
