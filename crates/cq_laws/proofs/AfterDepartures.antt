@@ -1,5 +1,5 @@
 -- What departures keep: they take the first cell out of each buffer, and nothing else changes.
-use Rattle.cq_laws.proofs.Terms.{rules, ◌≡◌, ℕ, ◌+◌, List, [], ◌∷◌, length, Option, ap, ◌∙◌, subst, arith, drop, common_steps, length-map, Queued, Machine, Fabric, input, buffer, IsAmong, IsFabric, Departs, HasSlack, IsRising, rests, list_of, take, take-append-drop, has_right}
+use Rattle.cq_laws.proofs.Terms.{rules, ◌≡◌, ℕ, ◌+◌, List, [], ◌∷◌, length, Option, ap, ◌∙◌, subst, arith, drop, common_steps, length-map, Queued, Machine, Fabric, input, buffer, IsAmong, IsFabric, Departs, HasSlack, IsRising, rests, list_of, take-append-drop, has_right}
 use Rattle.cq_laws.proofs.Falls.{departures_fall, rest_of}
 use Rattle.cq_laws.proofs.Sound.{Sound}
 
@@ -16,8 +16,7 @@ module _ (ms : List Machine) (gone : List (Option Queued)) (slot : ℕ) (old new
   sent_buffer j = ap (λ b. list_of b j) depart.buffers ∙ rest_of old.buffers j
 
   was_crossed : (j : ℕ) (c : Queued) → IsAmong c (buffer new j) → IsAmong c (buffer old j)
-  was_crossed j c h = rw (← take-append-drop 1 (buffer old j))
-      (has_right (take 1 (buffer old j)) _ c (rw (sent_buffer j) at h))
+  was_crossed j c h = grind (arith, common_steps, sent_buffer j, has_right, take-append-drop 1 (buffer old j))
 
   same_input : (i : ℕ) (c : Queued) → IsAmong c (input new i) → IsAmong c (input old i)
   same_input i c h = subst (λ l. IsAmong c (list_of l i)) depart.inputs h

@@ -29,12 +29,10 @@ module _ (j : ℕ) where
   at_waits : (lists : List (List Queued)) (i : ℕ) (c : Queued) → IsAmong c (list_of lists i) → c.cell.output ≡ j →
       IsAmong c (waits lists)
   at_waits [] i c h e = absurd h
-  at_waits (cells ∷ lists) zero c h e = grind (arith, common_steps, has_left, has_kept, eq-eqb)
-  at_waits (cells ∷ lists) (suc i) c h e = grind (arith, common_steps, has_right, at_waits lists i c h e)
+  at_waits (cells ∷ lists) i c h e = grind (arith, common_steps, has_left, has_kept, eq-eqb, has_right, at_waits lists)
 
   filter_rises : (xs : List Queued) → KeepsOrder xs → IsRising (filter (is_for j) xs)
-  filter_rises xs order = pairs_kept_with _ IsBefore (is_for j) (λ x y here there before.
-      before (eqb-true x.cell.output j here ∙ sym (eqb-true y.cell.output j there))) xs order
+  filter_rises xs order = pairs_kept_with _ IsBefore (is_for j) (search (arith, rules, eqb-true)) xs order
 
   waits_differ : (lists : List (List Queued)) → ((i : ℕ) → KeepsOrder (list_of lists i)) →
       ((i k : ℕ) (c d : Queued) → IsAmong c (list_of lists i) → IsAmong d (list_of lists k) → c.key ≡ d.key → i ≡ k) →
@@ -103,8 +101,7 @@ sound_from slot f ideal agrees = grind (arith, common_steps)
 
 pub only_ideal : (slot : ℕ) (f : Fabric) (ideal : IdealState) → Agrees slot f ideal → ideal ≡ ideal_of f
 only_ideal slot f a x =
-    let b = ideal_of f in
     let y = agrees_of slot f (sound_from slot f a x) in
-    let lists = ext_get_or [] a.lists b.lists (x.ports ∙ sym y.ports) (λ j _.
+    let lists = ext_get_or [] a.lists (ideal_of f).lists (x.ports ∙ sym y.ports) (λ j _.
     search (arith, rules, same_pairs IsBefore never_both, x.rising j, y.rising j, x.same j, y.same j)) in
-    let ranks = sym x.ranks ∙ y.ranks in λ k. record { lists = lists k; ranks = ranks k }
+    grind (arith, common_steps)

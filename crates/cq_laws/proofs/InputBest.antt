@@ -1,6 +1,6 @@
 -- A run with input-best matchings is a run with stable ones, for each input-best matching is stable. A whole run is a
 -- whole one too: the records tell which matchings were chosen, so no run of theirs with stable ones is over sooner.
-use Rattle.cq_laws.proofs.Terms.{common_steps, arith, ℕ, List, Option, rules, ◌+◌, [], ◌∷◌, take, Arrival, Cell, TagFault, Machine, Marked, IsStable, IsInputBest, Fabric, IsEmptyFabric, SlotRecord, FabricSlot, IsFault, LimitedRecord, LimitedFabricSlot, IsLimitedFault, AreAlso, RunBy, StopBy, WholeBy, AfterBy}
+use Rattle.cq_laws.proofs.Terms.{common_steps, arith, ℕ, List, Option, rules, ◌+◌, [], ◌∷◌, Arrival, Cell, TagFault, Machine, Marked, IsStable, IsInputBest, Fabric, IsEmptyFabric, SlotRecord, FabricSlot, IsFault, LimitedRecord, LimitedFabricSlot, IsLimitedFault, AreAlso, RunBy, StopBy, WholeBy, AfterBy}
 use Rattle.cq_laws.proofs.Parted.{ends_with}
 
 -- ## Where each slot of one kind is one of another, so are runs
@@ -34,8 +34,7 @@ module _ {S R : Type 0} (Step Step' : ℕ → List (Option Cell) → S → R →
         WholeBy Step IsEmpty came start rs end → WholeBy Step' IsEmpty came start rs end
     each_whole IsEmpty came start end rs w =
         ends_with Step came start rs IsEmpty (AfterBy Step' came start rs) IsEmpty end end w
-        (each_run 0 _ start end _ w.after) w.empty (λ m u v lt late after at over.
-        absurd (omega (arith, w.first m u (same_kind 0 _ start start v u (take m rs) after at) late over)))
+        (each_run 0 _ start end _ w.after) w.empty (λ m u v lt late x y over. search (arith, rules, w.first, same_kind))
 
     pub are_also : (IsEmpty : S → Type 0) → AreAlso Step Step' Fault IsEmpty
     are_also IsEmpty = record { slot = each; run = each_run; whole = each_whole IsEmpty; stop = each_stop }

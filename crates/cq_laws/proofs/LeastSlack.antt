@@ -128,10 +128,7 @@ module _ (ms : List Machine) (slot class_count : ℕ) (cells : List (Option Cell
     there_on : (i v : ℕ) (o : Option Queued) → came_to r.came i ≡ o →
         option_map (λ c. cushion_of r.arrived c - position_or_len (λ q. q.key.slot == r.slot) (input r.arrived i)) o
         ≡ Some v → Has (slacks r.arrived i) v
-    there_on i v None came e = absurd (let P : ⊥ = cc in P)
-    there_on i v (Some c) came e =
-        let p = place_of_arrival (cushion_of f c) c (input f i) in
-        search (arith, rules, slack_listed r.arrived i p c, arrival_at_place, arrival_place)
+    there_on i v o came e = search (arith, rules, slack_listed r.arrived i, arrival_at_place, arrival_place)
 
     pub by_arrivals : (i : ℕ) →
         either_by min (least_slack x i) (reduce min (slacks r.arrived i))
@@ -148,9 +145,7 @@ module _ (ms : List Machine) (slot class_count : ℕ) (cells : List (Option Cell
           ports = search (arith, rules, length-after, ports_kept);
           more = λ i t c at.
               let rise = slot_rises i t c at in
-              let within = slack_arrived ms slot class_count cells f g ideal r agrees come step i rise.before c
-              rise.stood in
-              let new = new_least (least_slack x i) (slacks r.arrived i) _ (slack_listed r.arrived i
-              rise.before c rise.stood) in
+              let within = slack_arrived ms slot class_count cells f g ideal r agrees come step in
+              let new = new_least (least_slack x i) (slacks r.arrived i) _ (slack_listed r.arrived i _ c rise.stood) in
               search (arith, rules, least_after, get_or_past, cases_lt) fits 4000;
         }

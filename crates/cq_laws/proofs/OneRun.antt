@@ -35,10 +35,9 @@ module _ {S R : Type 0} (Step : ℕ → List (Option Cell) → S → R → S →
 
     run_or_stop : (slot : ℕ) (traffic : List (List (Option Cell))) (f g : S) (rs ss : List R) (fault : TagFault) →
         RunBy Step slot traffic f rs g → StopBy Step Fault slot traffic f ss fault → ⊥
-    run_or_stop slot (cells ∷ traffic) f g (r ∷ rs) [] fault x y = no.never_both slot cells f x.0 r fault x.1 y
     run_or_stop slot (cells ∷ traffic) f g (r ∷ rs) (s ∷ ss) fault x y =
         grind (arith, common_steps, run_or_stop (slot + 1) traffic x.0 g rs ss fault x.2)
-    run_or_stop slot traffic f g rs ss fault x y = grind (arith, common_steps)
+    run_or_stop slot traffic f g rs ss fault x y = grind (arith, common_steps, no.never_both)
 
     pub one_of_each : IsOneRun Step Fault
     one_of_each = record { slot = no.slot; run = run_once; stop = stop_once; never_both = run_or_stop }

@@ -21,8 +21,7 @@ use Rattle.cq_laws.proofs.IdealLists.{among_put_all, put_all_keeps, put_all_new,
 pub same_fronts : (more bs : List (List Queued)) → length more ≡ length bs →
     ((j : ℕ) → slice_get (list_of more j) 0 ≡ slice_get (list_of bs j) 0) → fronts more ≡ fronts bs
 same_fronts [] [] n h = refl
-same_fronts (a ∷ more) (b ∷ bs) n h =
-    let front = h zero in let rest = same_fronts more bs (omega arith) (λ j. h (suc j)) in cc
+same_fronts (a ∷ more) (b ∷ bs) n h = grind (arith, h zero, same_fronts more bs (omega arith) (λ j. h (suc j)))
 same_fronts more bs n h = absurd (omega arith)
 
 -- Two rising lists, where the first has the cells of the second and others that wait, each behind a more urgent one

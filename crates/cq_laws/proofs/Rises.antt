@@ -1,11 +1,10 @@
 -- Partners of a matching: an output has an input whose partner it is, or none. And the first cell for an output in a
 -- list is no less urgent than any other for it.
-use Rattle.cq_laws.proofs.Terms.{◌≡◌, ◌≢◌, ℕ, zero, suc, ◌⊎◌, List, [], ◌∷◌, Option, Some, None, inl, inr, ⊎_elim, arith, slice_get, cases_lt, cases_eq, eqb-true, eq-eqb, same_Some, Queued, IsBefore, KeepsOrder, is_for, first_for, each_pair_at, first_le, partner_of, rules, Partners}
+use Rattle.cq_laws.proofs.Terms.{◌≡◌, ◌≢◌, ℕ, zero, suc, ◌⊎◌, List, [], ◌∷◌, Option, Some, inl, inr, ⊎_elim, arith, slice_get, cases_lt, cases_eq, eqb-true, eq-eqb, same_Some, Queued, IsBefore, KeepsOrder, is_for, first_for, each_pair_at, first_le, partner_of, rules, Partners}
 use Rattle.cq_laws.proofs.Members.{first_at}
 
 pub is_partner : (x : Option ℕ) (j : ℕ) → (x ≡ Some j) ⊎ (x ≢ Some j)
-is_partner None j = inr (λ e. cc)
-is_partner (Some k) j = grind (arith, cases_eq k j, same_Some)
+is_partner o j = search (arith, rules, cases_eq, same_Some)
 
 -- an output has an input whose partner it is, or none
 pub sender : (m : Partners) (j : ℕ) → ((i : ℕ) × (partner_of m i ≡ Some j)) ⊎ ((i : ℕ) → partner_of m i ≢ Some j)
