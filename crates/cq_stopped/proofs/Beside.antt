@@ -77,8 +77,7 @@ module _ (w : Switch) where
       next_within = record {
         lists =
             let first = shorter r.of_slot.first r.of_slot.arrived r.of_slot.filled k.step.fill in
-            let second = shorter r.of_slot.second r.of_slot.sent g.state k.step.finish in
-            search (arith, rules, arrived, arrived_list, first, second);
+            search (arith, rules, arrived, arrived_list, first, shorter r.of_slot.second r.of_slot.sent g.state);
         states = rw (k.step.finish.ranks, k.step.depart.ranks, k.step.fill.ranks)
             (told_low w.machines keeps r.of_slot.gone r.of_slot.arrived.ranks (grind (arith, common_steps, ranked_low))
             (λ j q left. (of_gone (IsKeyed w) k.keyed j q left).rank));
@@ -89,14 +88,12 @@ module _ (w : Switch) where
     abbrev came : ℕ
     came = length (present r.admission.cells)
 
-    -- the ideal switch beside it
-    beside : SendsAlike w.machines slot r.admission.cells k.ideal r.of_slot.gone g.state
-    beside = search (rules, same_slot)
-
     fewer_wait : waits g.state ≤ waits f.state + came - 1
     fewer_wait =
-        let less = (counted w.machines slot r.admission.cells k.ideal _ beside.sent).fewer in
-        omega (arith, all_wait slot f.state k.ideal k.agrees, all_wait (slot + 1) g.state beside.next beside.agrees)
+        let beside = same_slot w.machines slot w.classes r.admission.cells f.state g.state k.ideal r.of_slot k.agrees in
+        let sent = beside k.come k.step in
+        let less = (counted w.machines slot r.admission.cells k.ideal _ sent.sent).fewer in
+        omega (arith, all_wait slot f.state k.ideal k.agrees, all_wait (slot + 1) g.state sent.next sent.agrees)
 
     -- a phase makes no more than the number of ports squared
     proposed_few : length w.machines ≤ most_ports → sum (proposals_in r.of_slot) ≤ 8192

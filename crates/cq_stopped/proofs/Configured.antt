@@ -52,8 +52,7 @@ openings_all (k ∷ kinds) rows = search (arith, rules, zeros_low, openings_all 
 machines_low : (kinds : List Kind) (rows : List ClassRow) (j : ℕ) →
     KeepsLow (machine_at (map (λ (k : Kind). machine_of k rows) kinds) j)
 machines_low [] rows j = machine_low FirstCome []
-machines_low (k ∷ kinds) rows zero = machine_low k rows
-machines_low (k ∷ kinds) rows (suc j) = machines_low kinds rows j
+machines_low (k ∷ kinds) rows j = search (rules, machine_low, machines_low kinds)
 
 -- ## The captures
 
@@ -94,7 +93,6 @@ pub configured : (t : Tables) (s : Scheduled) (made : IsScheduleOf t s) → AreT
     IsConfigured (switch_of t s) (openings_of t.setup)
 configured t s made tables recorded =
     let known = schedule_known t s tables made in
-    let few : length made.captures ≤ most_ports = omega arith in
     let stamp : s.t0 < 2 ^ 63 = rw made.schedule (first_low made.captures recorded) in
     let low = machines_low t.setup.kinds t.setup.classes in
     let openings = openings_all t.setup.kinds t.setup.classes in

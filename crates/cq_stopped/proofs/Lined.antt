@@ -16,8 +16,7 @@ pub each_departs : (slot : ℕ) (P : Departure → Type 0) (gone : List (Option 
     AllByRecursion P (departures_from slot a gone)
 each_departs slot P [] a each = tt
 each_departs slot P (o ∷ gone) a each =
-    let rest = each_departs slot P gone (a + 1) (λ k j q is at. each (suc k) j q (omega arith) at) in
-    let here = each zero a in grind (arith, common_steps)
+    grind (arith, each zero a, each_departs slot P gone (a + 1) (λ k j q is at. each (suc k) j q (omega arith) at))
 
 module _ (j : ℕ) where
   abbrev is_its : Departure → Bool
@@ -93,21 +92,18 @@ module _ (j : ℕ) where
   its_all slot [] are = refl
   its_all slot (r ∷ rs) are = grind (arith, common_steps, its_one j slot 0 j, filter-append, its_all (slot + 1) rs)
 
-  waits : (rs : List SlotRecord) →
-      map (λ (d : Departure). d.slot - d.queued.key.slot) (filter_map its_departure rs) ≡ filter_map (wait_at j) rs
-  waits [] = refl
-  waits (r ∷ rs) = grind (arith, common_steps, waits rs)
-
-  sent_count : (rs : List SlotRecord) → length (filter_map its_departure rs)
-      ≡ count_by (λ (r : SlotRecord). is_some (sent_by r j)) rs
-  sent_count [] = refl
-  sent_count (r ∷ rs) = grind (arith, common_steps, sum_by-cons, sent_count rs)
+  -- how long it kept them, and how many they are
+  sent_waits : (rs : List SlotRecord) →
+      (map (λ (d : Departure). d.slot - d.queued.key.slot) (filter_map its_departure rs) ≡ filter_map (wait_at j) rs) ×
+      (length (filter_map its_departure rs) ≡ count_by (λ (r : SlotRecord). is_some (sent_by r j)) rs)
+  sent_waits [] = (refl, refl)
+  sent_waits (r ∷ rs) = grind (arith, common_steps, sum_by-cons, sent_waits rs)
 
   -- what is told of an output
   pub output_same : (rs : List SlotRecord) (sent : List Departure) → AreNumbered 0 rs →
       sent ≡ departures_of 0 (gone_in rs) → output_told sent j ≡ output_figures rs j
   unfolding output_figures
-  output_same rs sent are is = grind (arith, common_steps, its_all, sent_count, waits)
+  output_same rs sent are is = grind (arith, common_steps, its_all, sent_waits)
 
 -- ## Names of an input
 
@@ -165,11 +161,7 @@ module _ (came : List Arrival) (st : State) (rs : List LimitedRecord) (numbered 
     (x : Figures) (ports : ℕ) (figures : x ≡ figures_of ports (slots_in rs))
     (slots : (figures_of ports (slots_in rs)).slots ≡ slots_of (departures_of 0 (gone_in (slots_in rs))))
     (sent : sent_told came st ≡ departures_of 0 (gone_in (slots_in rs))) where
-  input_same : (i : ℕ) → input_told st i (seen_as (input_figures (slots_in rs) i)) ≡ input_figures (slots_in rs) i
-  unfolding input_figures
-  input_same i = grind (arith, common_steps, names_counted)
-
   pub figures_are : st.head.ports ≡ ports → st.head.proposals ≡ x.proposals → st.head.most ≡ x.most →
       st.inputs ≡ map seen_as x.inputs → x ≡ figures_told came st
-  unfolding figures_told figures_of
-  figures_are many proposals most inputs = search (arith, rules, inputs_same, input_same, output_same)
+  unfolding figures_told figures_of input_figures
+  figures_are many proposals most inputs = search (arith, rules, inputs_same, names_counted, output_same)

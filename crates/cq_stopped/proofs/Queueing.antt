@@ -33,11 +33,8 @@ module _ (ms : List Machine) (slot : ℕ) where
     pub above : (machine_at ms q.cell.output).floor (slice_index_or ranks q.cell.output []) q.cell.class ≤ q.key.rank
 
   module _ (ranks : List (List ℕ)) (keep : KeepLaws ms ranks) (cell : Cell) (known : IsKnown (length ranks) cell) where
-    sized : length (slice_index_or ranks cell.output []) ≡ (machine_at ms cell.output).size
-    sized = keep.sized cell.output known.inside
-
     still_keep : KeepLaws ms (after ranks cell)
-    still_keep = grind (arith, common_steps, length-set, sized, get_or-set_same, get_or-set_other, cases_eq)
+    still_keep = grind (arith, common_steps, length-set, keep.sized, get_or-set_same, get_or-set_other, cases_eq)
 
   -- what a cell at an input gets
   abbrev one_at : ℕ → List (List ℕ) → Cell → Queued
@@ -68,11 +65,10 @@ module _ (ms : List Machine) (slot : ℕ) where
       let b = one_behind i cell cells ranks r h in
       let at' = rw (← b.3) at at in
       let same = length-set ranks cell.output (given ranks cell) in
-      let keeps = still_keep ranks keep cell here in
-      let it = ranked_from (i + 1) cells (after ranks cell) b.1 keeps (λ l other is. rw same (known (suc l) other is))
-      b.2 k q at' in
+      let it = ranked_from (i + 1) cells (after ranks cell) b.1 (still_keep ranks keep cell here)
+      (λ l other is. rw same (known (suc l) other is)) b.2 k q at' in
       let c = came_from ms slot (i + 1) cells (after ranks cell) b.1 b.2 k q at' in
-      search (arith, rules, get_or-set_same, given_floor, sized, get_or-set_other, cases_eq, known (suc k) q.cell)
+      search (arith, rules, get_or-set_same, given_floor, keep.sized, get_or-set_other, cases_eq, known (suc k) q.cell)
 
   -- a cell came just where one arrives
   pub came_where : (i : ℕ) (cells : List (Option Cell)) (ranks : List (List ℕ)) (r : Ranking) →

@@ -95,8 +95,7 @@ module _ {w : Switch} (at : Taken) {ideal : IdealState} {cs : List (List (Option
       ((d e : Departure) → Has at.sent d → Has at.sent e → (d.output ≡ e.output → Follows d.queued e.queued) → R d e) →
       EachPair R at.sent
   each_sent R tells =
-      pairs_in (λ (d e : Departure). d.output ≡ e.output → Follows d.queued e.queued) R at.sent tells
-      (pairs_by_number (λ (d : Departure). d.output) (λ (d : Departure). d.queued) Follows
+      pairs_in _ R at.sent tells (pairs_by_number (λ (d : Departure). d.output) (λ (d : Departure). d.queued) Follows
       (λ j. j < length w.machines) at.sent (search (rules, all_weaker, known.departed))
       (λ j lt. pairs_left Follows (left_at j at.sent) (list_of ideal.lists j) (pairs_at j lt)))
 
@@ -105,8 +104,7 @@ module _ {w : Switch} (at : Taken) {ideal : IdealState} {cs : List (List (Option
       ((i : ℕ) (a b : Queued) → Has (input f i) a → Has (input f i) b →
       (a.cell.output ≡ b.cell.output → IsBefore a b) → R a b) →
       ((i k : ℕ) (a b : Queued) → i < k → Has (input f i) a → Has (input f k) b → R a b) → EachPair R listed
-  each_listed R leads apart = pairs_of_all R f.inputs
-      (λ i. pairs_in _ R (input f i) (leads i) (known.agrees.order i)) apart
+  each_listed R leads apart = search (rules, pairs_of_all R f.inputs, pairs_in, known.agrees.order)
 
   -- ## The shape
 
@@ -132,12 +130,9 @@ module _ {w : Switch} (at : Taken) {ideal : IdealState} {cs : List (List (Option
   abbrev gone : List Named
   gone = map (λ (d : Sent). d.cell) (map sent_as at.sent)
 
-  of_sent : (c : Named) → Has gone c → (d : Departure) × Has at.sent d × (named_as d.queued ≡ c)
-  of_sent c has = grind (arith, common_steps, image_has)
-
   pub is_of_one : (c : Named) → Has (named_in st) c → IsNameOf IsKept c
   unfolding state_of
-  is_of_one c has = search (arith, rules, has_cases (queued_in st) gone c has, is_waiting, of_sent, has_left_it)
+  is_of_one c has = search (arith, rules, has_cases (queued_in st) gone c has, is_waiting, image_has, has_left_it)
 
   -- what a name tells
   its_output : (q : Queued) → IsKept q → output_of w.came (named_as q) ≡ q.cell.output
@@ -207,21 +202,15 @@ module _ {w : Switch} (at : Taken) {ideal : IdealState} {cs : List (List (Option
   abbrev Other : Queued → Queued → Type 0
   Other a b = Differ (named_as a) (named_as b)
 
-  itself : (a b : Queued) → a ≡ b → IsBefore a b → ⊥
-  itself a b same before = search (rules, not_before_itself)
-
-  crossed : (a b : Queued) → Has listed a → Has buffered b → Other a b
-  crossed a b first second slot place =
-      search (arith, rules, is_at, same_waiting, waits_at, waits_behind, apart_from f known.agrees.differ)
-
   queued_pairs : EachPair Differ (queued_in st)
   unfolding state_of
   queued_pairs = pairs_joined Differ (map named_as listed) (map named_as buffered) (pairs_mapped named_as Differ
-      listed (search (arith, rules, each_listed Other, same_waiting, waits_at, itself, known.placed)))
+      listed (search (arith, rules, each_listed Other, same_waiting, waits_at, not_before_itself, known.placed)))
       (pairs_mapped named_as Differ buffered (let all = pairs_of_all Other at.frozen.buffers in
-      let pairs = pairs_with IsBefore Other Waits in
-      search (arith, rules, all, pairs, same_waiting, itself, all_from_has, waits_behind, known.agrees.fabric.own)))
-      (λ c d first second. search (arith, rules, image_has, all_of, Differ, crossed))
+      let pairs = pairs_with IsBefore Other Waits in let never = not_before_itself in
+      search (arith, rules, all, pairs, same_waiting, never, all_from_has, waits_behind, known.agrees.fabric.own)))
+      (let apart = apart_from f known.agrees.differ in
+      search (arith, rules, image_has, all_of, Differ, is_at, same_waiting, waits_at, waits_behind, apart.between))
 
   pub arrivals_are : AreArrivals w.came st
   unfolding state_of
@@ -232,7 +221,7 @@ module _ {w : Switch} (at : Taken) {ideal : IdealState} {cs : List (List (Option
       record {
         arrive = search (arith, rules, has_all Comes (named_in st), is_of_one);
         once = all_pairs Differ (named_in st) (pairs_joined Differ (queued_in st) gone queued_pairs left
-            (search (arith, rules, is_waiting, of_sent, differ_left)));
+            (search (arith, rules, is_waiting, image_has, differ_left)));
       }
 
   -- ## The fifth clause: the cells of each flow left in the order of arrival, those that wait came after them, and of
@@ -268,12 +257,10 @@ module _ {w : Switch} (at : Taken) {ideal : IdealState} {cs : List (List (Option
 
   -- ## The sixth clause: what waits is not above the floor of its class
 
-  below : (q : Queued) → Waits q → IsBelowFloor w st (named_as q)
-  unfolding state_of
-  below q waits = grind (arith, common_steps, its_output, its_class, all_of_has, HasWaited)
-
   pub below_floors : AreBelowFloors w st
-  below_floors = has_all (IsBelowFloor w st) (queued_in st) (search (arith, rules, is_waiting, below))
+  unfolding state_of
+  below_floors = has_all (IsBelowFloor w st) (queued_in st)
+      (search (arith, rules, is_waiting, its_output, its_class, all_of_has, HasWaited))
 
   -- ## The second clause: all lines stand in order. Those of the lists are told list by list, and those of the buffers
   -- buffer by buffer; departures and transfers are told as the run made them.

@@ -1,7 +1,7 @@
 -- One slot of a run that may be stopped. The ideal switch goes on beside the fabric. At each output the cells that
 -- come queue up behind those that left and those that wait, and where one leaves it is the first that waits: what left
 -- and then what waits is the same list. So what is known before the slot is known after it.
-use Rattle.cq_stopped.proofs.Terms.{rules, ◌≡◌, ℕ, zero, suc, ◌+◌, ◌<◌, ◌≤◌, List, [], ◌∷◌, ◌++◌, length, Option, Some, None, Ok, ◌∙◌, ◌⊎◌, ⊎_elim, arith, length-append, cases_lt, common_steps, append_assoc, get_or-append-add, get_or-map, get_or_append_left, get_or_past, length-map, append-nil, get_or-replicate, length-replicate, AllByRecursion, slice_get, slice_index_or, arrival_at, arriving, arriving_at, Cell, Departure, Queued, admitted_arrives, Came, came_from, present, Served, listed, served, HasWaited, Marked, admission, arriving_from, departures_of, empty_ideal, IdealState, all_told, departures_from, departures_in, filled, fronts, ideal_slot, put_all, rests, AreForPorts, ranking, CameFor, Keyed, limited_empty_agree, keyed, ports_kept, same_slot, SendsAlike, Agrees, Fabric, input, empty_fabric, FabricSlot, LimitedFabricSlot, LimitedRecord, slots_in, came_to, KeepLaws, gone_in, list_of, IsInputBest, IsStable, all_both, all_weaker, found_at, has_there, Has, all_from_has, all_of_has, has_cases, has_left, has_right, opening, Runs, Switch, fewer, HasFor, length-filled, rest_of, among_put_all, list_after, put_all_keeps, put_all_new, stable_slot, admission_for_ports, arrivals_for, place_of, RunBy, came_or_was, was_waiting, marks_kept}
+use Rattle.cq_stopped.proofs.Terms.{rules, ◌≡◌, ℕ, zero, suc, ◌+◌, ◌<◌, ◌≤◌, List, [], ◌∷◌, ◌++◌, length, Option, Some, None, Ok, ◌∙◌, ◌⊎◌, ⊎_elim, arith, length-append, cases_lt, common_steps, append_assoc, get_or-append-add, get_or-map, get_or_append_left, get_or_past, length-map, append-nil, get_or-replicate, length-replicate, AllByRecursion, slice_get, slice_index_or, arrival_at, arriving, arriving_at, Cell, Departure, Queued, admitted_arrives, Came, came_from, present, Served, listed, served, HasWaited, Marked, admission, arriving_from, departures_of, empty_ideal, IdealState, all_told, departures_from, departures_in, filled, fronts, ideal_slot, put_all, rests, AreForPorts, ranking, CameFor, Keyed, limited_empty_agree, keyed, ports_kept, same_slot, SendsAlike, Agrees, Fabric, input, empty_fabric, FabricSlot, LimitedFabricSlot, LimitedRecord, slots_in, came_to, gone_in, list_of, IsInputBest, IsStable, all_both, all_weaker, found_at, has_there, Has, all_from_has, all_of_has, has_cases, has_left, has_right, opening, Runs, Switch, fewer, HasFor, length-filled, rest_of, among_put_all, list_after, put_all_keeps, put_all_new, stable_slot, admission_for_ports, arrivals_for, place_of, RunBy, came_or_was, was_waiting, marks_kept}
 use Rattle.cq_ideal.specs.IdealSlot.{Sent}
 use Rattle.cq_stopped.proofs.Configured.{IsConfigured}
 use Rattle.cq_stopped.proofs.Lined.{each_departs, left_more}
@@ -34,8 +34,7 @@ pub own_at : (w : Switch) (n : ℕ) (f : Fabric) (ideal : IdealState) (cs : List
 own_at w n f ideal cs sent known j q has =
     let there = (known.agrees.same j q).1 has in
     let inside : j < length w.machines = search (arith, rules, Has, get_or_past, cases_lt) in
-    let all = (known.lanes j inside).own in
-    (inside, all_of_has (IsOwn w n j) (pool_at j sent ideal) q all (has_right (left_at j sent) _ q there))
+    search (rules, inside, known.lanes j inside, all_of_has, has_right (left_at j sent), there)
 
 -- what is known of a slot: the ideal switch beside it, what comes, and the cells that were there or came
 pub record KnownSlot (w : Switch) (n : ℕ) (cells : List (Option Cell)) (f : Marked Fabric) (r : LimitedRecord)
@@ -93,14 +92,11 @@ module _ (w : Switch) (ranks : List (List ℕ)) (configured : IsConfigured w ran
         IsKnown w.machines n (length ideal.ranks) cell
     its_known k cell at = grind (arith, common_steps, come.outputs, come.classes, configured.same)
 
-    keep : KeepLaws w.machines ideal.ranks
-    keep = grind (arith, common_steps)
-
     its_came : (k : ℕ) (q : Queued) → came_to came k ≡ Some q → Came n 0 r.admission.cells k q
     its_came = came_from w.machines n 0 r.admission.cells ideal.ranks _ as_ranked
 
     its_rank : (k : ℕ) (q : Queued) → came_to came k ≡ Some q → IsRanked w.machines n ideal.ranks q
-    its_rank = ranked_from w.machines n 0 r.admission.cells ideal.ranks _ keep its_known as_ranked
+    its_rank = ranked_from w.machines n 0 r.admission.cells ideal.ranks _ (search (arith, rules)) its_known as_ranked
 
     is_keyed : (k : ℕ) (q : Queued) → came_to came k ≡ Some q → IsKeyed w q
     is_keyed k q at =
@@ -172,9 +168,6 @@ module _ (w : Switch) (ranks : List (List ℕ)) (configured : IsConfigured w ran
       own_all = all_from_has (IsOwn w (n + 1) j) (left j ++ full j)
           (λ q has. grind (arith, common_steps, was_or_new j q, new_own q, all_of_has (IsOwn w n j), keyed))
 
-      earlier : AllByRecursion (IsEarlier j n 0) (left j ++ waiting j)
-      earlier = grind (arith, common_steps, all_weaker, IsOwn, IsEarlier, left_at)
-
       old_ahead : OldAhead j n came (waiting j)
       old_ahead k q x at output among before class =
           search (arith, rules, its_rank, its_came, is_less, all_of_has, HasWaited, lane.stands.waited)
@@ -186,9 +179,9 @@ module _ (w : Switch) (ranks : List (List ℕ)) (configured : IsConfigured w ran
 
       next_lane : Lane w (n + 1) j (slice_index_or next.ranks j []) (left_at j sent_next) (list_of next.lists j)
       next_lane =
-          let is = pool_is j inside in
-          let it = pairs_put_all j n came 0 (left j) (waiting j) (search (arith, rules, its_came)) earlier old_ahead in
-          record { stands = its_served.stands; own = rw is own_all; pairs = rw is (it lane.stands.order lane.pairs) }
+          let it = pairs_put_all j n came 0 (left j) (waiting j) (search (arith, rules, its_came))
+          (grind (arith, common_steps, all_weaker, IsOwn, IsEarlier, left_at)) old_ahead in
+          search (rules, pool_is j inside, its_served, own_all, it, lane.stands.order, lane.pairs)
 
     -- ## Departures
 
@@ -221,8 +214,7 @@ module _ (w : Switch) (ranks : List (List ℕ)) (configured : IsConfigured w ran
       departed = departed_next;
       long = grind (arith, common_steps, length-append);
       origin = λ j q inside has.
-          let now = came_now cs came n known.long in
-          search (arith, rules, came_still cs came n known.long, its_came, now, was_or_new j q, pool_is j inside);
+          search (arith, rules, came_still cs came n, its_came, came_now cs came n, was_or_new j q, pool_is j inside);
       held = λ t i q is. ⊎_elim (search (arith, rules, known.held, many, held_at, pool_keeps q.cell.output q))
           (λ now. search (arith, rules, its_came i q now.1, its_keys.outputs i q, held_at, has_right, put_all_new))
           (came_then cs came t i q is);
@@ -234,9 +226,7 @@ module _ (w : Switch) (ranks : List (List ℕ)) (configured : IsConfigured w ran
         let own = own_at w n f.state ideal cs sent known in
         let all : (j : ℕ) (q : Queued) → HasFor f.state j q ⊎ CameFor came j q → IsKeyed w q =
         λ j q has. search (arith, rules, own j q, is_keyed) in
-        let less : length (present r.admission.cells) ≤ length (present (arriving w.came n)) =
-        grind (arith, common_steps, present, fewer) in
-        search (arith, rules, come, stable, marks_kept)
+        search (arith, rules, come, stable, marks_kept, present, fewer)
 
   -- ## A run of a configured switch up to a slot: what is known of the empty fabric is known after each slot
 

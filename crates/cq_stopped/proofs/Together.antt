@@ -61,9 +61,6 @@ module _ (w : Switch) (ranks : List (List ℕ)) (configured : IsConfigured w ran
   runs : Runs w 0 (arriving_from w.came 0 at.frozen.next) (opening w ranks) rs (marked_in at.frozen)
   runs = grind (arith, common_steps)
 
-  low : at.frozen.next < 2 ^ 63
-  low = rw parted.next early
-
   stopped : Ended w ranks configured 0 at.frozen.next at.frozen.next (opening w ranks) rs (marked_in at.frozen)
       (came_of rs) (departures_of 0 (gone_in (slots_in rs)))
   stopped = stopped_is w ranks configured at.frozen.next rs (marked_in at.frozen) runs
@@ -75,25 +72,20 @@ module _ (w : Switch) (ranks : List (List ℕ)) (configured : IsConfigured w ran
   known : Known w at.frozen.next (fabric_in at.frozen) stopped.ideal (came_of rs) at.sent
   known = let known = stopped.known in search (rules, Known, came_of)
 
-  departs : EachPair DepartsBefore at.sent
-  departs = grind (arith, common_steps, EachPair, DepartsBefore, departures_in_order)
-
   -- the run is a stable one, so its transfers can be written, and they are of its slots
   moved : AreMoved ports at.frozen.next at.note
   moved =
-      let next = at.frozen.next in
       let stable = (stable_limited_too w.machines w.limits).run 0 _ (opening w ranks) (marked_in at.frozen) rs runs in
-      let many = length-map rs (λ (r : LimitedRecord). r.of_slot.came) in
-      let written = written_in_run ports w.classes w.came configured.traffic configured.names w.limits w.machines next
-      (opening w ranks) (marked_in at.frozen) rs configured.few (omega (arith, known.long)) (empty_list ports) stable in
-      search (arith, rules, written, low, all_give, all_weaker, arriving_length, of_its_slots)
+      let many = length-map rs (λ (r : LimitedRecord). r.of_slot.came) in let next = parted.next in
+      let written = written_in_run ports w.classes w.came configured.traffic configured.names w.limits w.machines in
+      search (arith, rules, written, all_give, all_weaker, arriving_length, of_its_slots, empty_list, known.long)
 
   within : RunsWithin w.came 0 at.frozen.next (opening w ranks) rs (marked_in at.frozen)
   unfolding arriving_from
   within =
       let all = come_count-first w.came at.frozen.next in
       run_within w configured.few configured.low 0 at.frozen.next (opening w ranks) (marked_in at.frozen) rs
-      stopped.slots (omega (arith, low)) (omega (arith, configured.few_cells, none_first ports ranks))
+      stopped.slots (omega (arith, early, parted.next)) (omega (arith, configured.few_cells, none_first ports ranks))
       (empty_within ports ranks configured.openings_low)
 
   figures_are_of : at.frozen.figures ≡ figures_of ports (slots_in rs)
@@ -107,42 +99,34 @@ module _ (w : Switch) (ranks : List (List ℕ)) (configured : IsConfigured w ran
       let all = all_proposed w at.frozen.next ranks (marked_in at.frozen) rs within in
       search (arith, rules, most_of_all, figures_are_of)
 
-  seen_many : length (map seen_as at.frozen.figures.inputs) ≡ ports
-  unfolding figures_of
-  seen_many = grind (arith, common_steps, length-map, figures_are_of, length-map-range_with_len)
-
   seen_right : AllByRecursion IsSeen (map seen_as at.frozen.figures.inputs)
   unfolding figures_of
-  seen_right = rw figures_are_of (of_images seen_as IsSeen _
-      (all_made _ _ 0 ports (λ i _ lt. one_seen i (slots_in rs) within.records)))
+  seen_right = search (arith, rules, figures_are_of, of_images, all_made, one_seen, within.records)
 
   states_right : AllByRecursion AreRankNumbers at.frozen.ranks
   states_right =
       search (arith, rules, state_sized at known, known, rank_numbers at.frozen.ranks within.states)
 
-  -- the name of a cell that the run keeps
-  named_right : (c : Named) → Has (named_in st) c → IsNamed ports c
-  named_right c has = let it = is_of_one at known c has in search (arith, rules)
-
   queued_right : (names : List Named) → ((c : Named) → Has names c → Has (queued_in st) c) →
       AllByRecursion (IsNamed ports) names
-  queued_right names among = search (rules, all_from_has, named_right, has_left)
+  queued_right names among = all_from_has (IsNamed ports) names (λ c has.
+      let it = is_of_one at known c (has_left (queued_in st) _ c (among c has)) in search (arith, rules))
 
   sent_right : AllByRecursion (IsSent ports) st.sent
   unfolding state_of
   sent_right =
       all_from_has (IsSent ports) (map sent_as at.sent) (λ x has.
-      let own = has_image (λ (d : Sent). d.cell) (map sent_as at.sent) x has in
-      search (arith, rules, image_has, all_of_has, known, named_right x.cell, has_right (queued_in st) _ x.cell own))
+      let own = has_right (queued_in st) _ x.cell (has_image (λ (d : Sent). d.cell) (map sent_as at.sent) x has) in
+      search (arith, rules, image_has, all_of_has, known, is_of_one at known x.cell, own))
 
   in_range : IsInRange st
-  unfolding state_of
+  unfolding figures_of state_of
   in_range =
       let many : length at.frozen.lists ≡ ports = known.ports in
+      let seen_many : length (map seen_as at.frozen.figures.inputs) ≡ ports =
+      grind (arith, common_steps, length-map, figures_are_of, length-map-range_with_len) in
       let outputs_told = states_many at known in
-      let listed = queued_right st.listed (has_left st.listed st.buffered) in
-      let buffered = queued_right st.buffered (has_right st.listed st.buffered) in
-      search (arith, rules, seen_right, states_right, listed, buffered, sent_right, moved.all, figures_low, seen_many)
+      search (arith, rules, seen_right, states_right, queued_right, has_left, has_right, sent_right, moved, figures_low)
 
   -- ## It comes to what was left
 
@@ -167,10 +151,11 @@ module _ (w : Switch) (ranks : List (List ℕ)) (configured : IsConfigured w ran
   unfolding state_of
   can_be_taken_up =
       let known = known in
+      let departs : EachPair DepartsBefore at.sent =
+      grind (arith, common_steps, EachPair, DepartsBefore, departures_in_order) in
       let order = stand_in_order at known departs moved in
-      let packets = packets_are w ranks st rs (marked_in at.frozen) configured.few configured.packets marks_many runs
-      (λ a. named_at at known a.slot a.cell.id.input) in
-      search (rules, in_range, has_shape, arrivals_are, slack_kept, keep_order, below_floors, taken_same)
+      let packets = packets_are w ranks st rs (marked_in at.frozen) configured.few configured.packets marks_many runs in
+      search (rules, in_range, has_shape, arrivals_are, slack_kept, keep_order, below_floors, taken_same, named_at)
 
 pub stopped_runs_are_sound : StoppedRunsAreSound
 stopped_runs_are_sound t s slots at made tables recorded early parted = search (rules, can_be_taken_up, configured)

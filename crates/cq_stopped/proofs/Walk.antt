@@ -170,13 +170,6 @@ module _ (w : Switch) (ranks : List (List ℕ)) (st : State) (rs : List LimitedR
   ends_marked : (i : ℕ) → i < ports → walk_mark w.limits next w.came names i ≡ Some (mark_at g.marks i)
   ends_marked i inside = rw (marks_down i inside) at (walk i inside).ends
 
-  marks_walked : map (λ (m : Bool). Some m) g.marks ≡ map (walk_mark w.limits next w.came names) (range_with_len 0
-      ports)
-  marks_walked =
-      let ends = walk_mark w.limits next w.came names in
-      let many = length-map g.marks (λ (m : Bool). Some m) ∙ many_marks in
-      search (arith, rules, by_places ends (Some false), many_marks, ends_marked, get_or-map)
-
   -- what was refused, by input
   lost_here : (i : ℕ) → i < ports →
       of_input i (refused_in (admissions_in rs)) ≡ cells_in (unnamed names (coming i 0 next w.came))
@@ -188,9 +181,8 @@ module _ (w : Switch) (ranks : List (List ℕ)) (st : State) (rs : List LimitedR
   unfolding left_before arriving_from
   lost_counted p =
       let lost = refused_in (admissions_in rs) in
-      let is_low : Cell → Type 0 = λ c. c.id.input < ports in
-      let low = all_judged is_low w.limits (opening w ranks).marks (arriving_from w.came 0 next) (admissions_in rs)
-      (search (arith, rules, fabric_judged)) (all_in_range _ w.came 0 next (all_arriving is_low w.came are.inputs)) in
+      let low = all_judged (λ c. c.id.input < ports) w.limits (opening w ranks).marks (arriving_from w.came 0 next)
+      (admissions_in rs) (search (rules, fabric_judged)) (search (rules, all_in_range, all_arriving, are.inputs)) in
       let here : ℕ → ℕ = λ i. length (filter p (cells_in (unnamed names (coming i 0 next w.came)))) in
       let parts = tally_by_parts p (λ c. 0) (λ (c : Cell). c.id.input) 1 (λ _. ports) lost
       (search (arith, rules, all_weaker)) in
@@ -203,7 +195,10 @@ module _ (w : Switch) (ranks : List (List ℕ)) (st : State) (rs : List LimitedR
   counts = with_refused (refused_in (admissions_in rs)) (refused_counts w.limits [])
 
   known : Tallied w.limits next w.came names ports g.marks counts
-  known = grind (arith, common_steps, marks_walked, same_counts, cells_in, left_before, lost_counted)
+  known =
+      let walked = by_places (walk_mark w.limits next w.came names) (Some false) in
+      let counted = lost_counted in
+      search (arith, rules, walked, length-map, ends_marked, get_or-map, same_counts, cells_in, left_before, counted)
 
   -- ## The fourth clause, the marks and the counts
 
