@@ -1,7 +1,7 @@
 -- The departures and the transfers of a run: what a slot adds to the departures, at each output the cell that it sent,
 -- if it sent one; that departures stand in order, slot by slot and those of a slot by output; what is asked of
 -- transfers; and the figures that are read off the departures.
-use Rattle.cq_stopped.proofs.Terms.{list_any, filter_none, ◌≡◌, ℕ, zero, suc, ◌+◌, ◌<◌, List, [], ◌∷◌, ◌++◌, Option, Some, None, refl, arith, rules, ◌≤◌, ◌⊎◌, length, map, ◌-◌, Bool, false, ◌∙◌, eq-eqb, ne_eqb, and_parts, cases_lt, eqb-true, common_steps, map-append, get_or_past, length-map, filter-append, sum_by-cons, AllByRecursion, range_with_len, cons_option, enumerate_from, ◌==◌, filter, slice_index_or, count_by, filter_map, is_some, option_map, Arrival, Departure, Queued, Transfer, listed, slots_of, departures_of, departures_from, departures_in, SlotRecord, LimitedRecord, slots_in, figures_of, input_figures, output_figures, sent_by, wait_at, came_to, gone_in, EachPair, all_both, all_weaker, Differ, all_from_has, all_of_has, has_kept, kept_has, AreApart, Stands, no_more, pairs_kept, figures_told, input_told, output_told, sent_told, seen_as, IsTransferBefore, named_in, Named, State, has_number, AreNumbered, IsMoved, range_rises, any_has, has_any, pairs_joined, Figures, InputFigures, Seen, true}
+use Rattle.cq_stopped.proofs.Terms.{list_any, filter_none, ◌≡◌, ℕ, zero, suc, ◌+◌, ◌<◌, List, [], ◌∷◌, ◌++◌, Option, Some, None, refl, arith, rules, ◌≤◌, ◌⊎◌, length, map, ◌-◌, Bool, false, eq-eqb, ne_eqb, and_parts, cases_lt, eqb-true, common_steps, map-append, get_or_past, length-map, filter-append, sum_by-cons, AllByRecursion, range_with_len, cons_option, enumerate_from, ◌==◌, filter, slice_index_or, count_by, filter_map, is_some, option_map, Arrival, Departure, Queued, Transfer, listed, slots_of, departures_of, departures_from, departures_in, SlotRecord, LimitedRecord, slots_in, figures_of, input_figures, output_figures, sent_by, wait_at, came_to, gone_in, EachPair, all_both, all_weaker, Differ, all_from_has, all_of_has, has_kept, kept_has, AreApart, no_more, pairs_kept, figures_told, input_told, output_told, sent_told, seen_as, IsTransferBefore, named_in, Named, State, has_number, AreNumbered, IsMoved, range_rises, any_has, has_any, pairs_joined, Figures, InputFigures, Seen, true}
 use Rattle.cq_stopped.proofs.Joined.{pairs_in}
 use Rattle.cq_stopped.proofs.Ran.{left_at, came_in, came_of, is_name_at}
 
@@ -136,15 +136,12 @@ module _ (names : List Named) (rs : List LimitedRecord) (differ : EachPair Diffe
       let mine = filter own names in
       let numbers = range_with_len 0 (length rs) in
       -- none comes past the last record
-      let inside : (t : ℕ) → comes t ≡ true → t < length rs =
-      λ t is. grind (arith, common_steps, length-map, get_or_past, cases_lt) in
+      let low : (t : ℕ) → comes t ≡ true → t < length rs = search (arith, rules, length-map, get_or_past, cases_lt) in
       let few = no_more (λ (c : Named) (t : ℕ). c.slot ≡ t) mine slots
       (search (arith, rules, pairs_in, Differ, AreApart, kept_has, eqb-true, pairs_kept))
-      (search (arith, rules, all_from_has, kept_has, any_has, eq-eqb, eqb-true, inside, has_kept, has_number)) in
+      (search (arith, rules, all_from_has, kept_has, any_has, eq-eqb, eqb-true, low, has_kept, has_number)) in
       let most = no_more IsSlotOf slots mine (search (arith, rules, pairs_in, AreApart, pairs_kept, range_rises))
-      (all_from_has (Stands IsSlotOf mine) slots (λ t has.
-      let it = has_any (is_name_at t i) names (named_at t i ∙ (kept_has comes numbers t has).1) in
-      search (arith, rules, and_parts, has_kept, eqb-true))) in
+      (search (arith, rules, all_from_has, has_any, named_at, kept_has comes, and_parts, has_kept, eqb-true)) in
       omega (arith, came_count (came_of rs) i 0 rs (λ t k e. let same : t ≡ k = omega arith in rw same refl))
 
 -- ## Together

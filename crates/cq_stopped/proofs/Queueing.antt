@@ -175,7 +175,6 @@ module _ (j slot : ℕ) where
       search (arith, rules, among_put x q xs among, old (suc k)))
       (in_order_put q xs order)
       (put_pairs Follows q left xs order pairs (search (arith, rules, all_weaker, ahead))
-      (all_from_has _ xs (λ x among. stands_behind a q slot_is input_is x (all_of_has (IsEarlier a) xs x waits among)
-      (old zero q x refl (eqb-true q.cell.output j here) among)))))
+      (search (arith, rules, all_from_has, stands_behind a q slot_is input_is, all_of_has, old zero q, eqb-true))))
       (λ other. pairs_put_all came (a + 1) left xs (come_on a (Some q) came come) (earlier_on a (left ++ xs) earlier)
       (λ k. old (suc k)) order pairs)

@@ -3,7 +3,7 @@
 -- are one, and of all others the names differ. Each name in the state is of such a cell, and comes to it: each list to
 -- the list of its input, each buffer to that of its output, and each departure to itself. So the clauses hold that ask
 -- for a sound state, but for the fourth.
-use Rattle.cq_stopped.proofs.Terms.{rules, ◌≡◌, ℕ, ◌<◌, List, [], length, Option, refl, sym, ◌∙◌, inl, inr, arith, true, ◌++◌, map, Some, None, ap, ◌≤◌, false_from_ne_true, and_from, and_parts, eq-eqb, eqb-true, common_steps, map-append, list_any, filter_map, ◌==◌, is_some, slice_index_or, filter, option_map, IsSome, IsBefore, is_for, Departure, Queued, Transfer, HasWaited, IdealState, apart_from, not_before_itself, Fabric, buffer, input, fabric_in, HasFor, list_of, machine_at, EachPair, all_pairs, all_weaker, cell_with, Differ, Has, all_from_has, all_of_has, has_left, has_right, pair_of_has, has_cases, has_image, image_has, kept_has, pairs_cross, pairs_left, pairs_right, pairs_with, sent_told, named_as, sent_as, state_of, HaveSlack, AreArrivals, IsBufferedBefore, IsTransferBefore, StandInOrder, KeepArrivalOrder, OfOneFlow, AreBelowFloors, IsBelowFloor, Switch, HasShape, class_in, class_of, named_in, output_in, output_of, queued_in, buffer_told, fabric_told, list_told, queued_of, arriving_cell, is_ahead, Taken, Named, Sent, told_state, State, has_all, any_has, has_any, pairs_joined, pairs_mapped}
+use Rattle.cq_stopped.proofs.Terms.{rules, ◌≡◌, ℕ, ◌<◌, List, [], length, Option, refl, sym, ◌∙◌, inl, inr, arith, true, ◌++◌, map, Some, ap, ◌≤◌, false_from_ne_true, and_from, and_parts, eq-eqb, eqb-true, common_steps, map-append, list_any, filter_map, ◌==◌, is_some, slice_index_or, filter, option_map, IsSome, IsBefore, is_for, Departure, Queued, Transfer, HasWaited, IdealState, apart_from, not_before_itself, Fabric, buffer, input, fabric_in, HasFor, list_of, machine_at, EachPair, all_pairs, all_weaker, cell_with, Differ, Has, all_from_has, all_of_has, has_left, has_right, pair_of_has, has_cases, has_image, image_has, kept_has, pairs_cross, pairs_left, pairs_right, pairs_with, sent_told, named_as, sent_as, state_of, HaveSlack, AreArrivals, IsBufferedBefore, IsTransferBefore, StandInOrder, KeepArrivalOrder, OfOneFlow, AreBelowFloors, IsBelowFloor, Switch, HasShape, class_in, class_of, named_in, output_in, output_of, queued_in, buffer_told, fabric_told, list_told, queued_of, arriving_cell, is_ahead, Taken, Named, Sent, told_state, State, has_all, any_has, has_any, pairs_joined, pairs_mapped}
 use Rattle.cq_stopped.proofs.Joined.{pairs_in, all_of, has_number, pairs_by_number, pairs_of_all, has_at_place, is_at, pairs_both, filter_images, sift, told_again, by_places, image_pairs}
 use Rattle.cq_stopped.proofs.Lined.{AreMoved, DepartsBefore}
 use Rattle.cq_stopped.proofs.Ran.{Follows, IsOwn, IsSentRight, Known, left_at, pool_at, IsHeld, came_in, is_name_at}
@@ -156,13 +156,10 @@ module _ {w : Switch} (at : Taken) {ideal : IdealState} {cs : List (List (Option
   -- ## An arrival is named where its cell came in
 
   pub named_at : (t i : ℕ) → list_any (is_name_at t i) (named_in st) ≡ is_some (came_in cs t i)
-  named_at t i = by (came_in cs t i) refl
-    where
-      by : (o : Option Queued) → came_in cs t i ≡ o → list_any (is_name_at t i) (named_in st) ≡ is_some o
-      by (Some q) is = search (rules, any_has, name_held t i q, known.held t i q is, and_from, eq-eqb)
-      by None is = false_from_ne_true (list_any (is_name_at t i) (named_in st)) (λ some.
-          let it = has_any (is_name_at t i) (named_in st) some in
-          let one = is_of_one it.0 it.1 in search (arith, rules, and_parts, eqb-true))
+  named_at t i =
+      let h = name_held t i in
+      let one = is_of_one in let no = false_from_ne_true in
+      search (arith, rules, any_has, h, known.held, and_from, eq-eqb, has_any, one, and_parts, eqb-true, no)
 
   -- ## What is told is what there was, and has slack: the third clause
 
@@ -249,8 +246,8 @@ module _ {w : Switch} (at : Taken) {ideal : IdealState} {cs : List (List (Option
       record {
         sent = image_pairs sent_as (λ (d e : Sent). Flow d.cell e.cell → d.cell.slot < e.cell.slot) at.sent
             (each_sent _ (search (arith, rules, of_one, has_left_it, right_at)));
-        after = has_all _ (map sent_as at.sent) (λ d has. let image = image_has sent_as at.sent d has in
-            has_all (After d) queued (search (arith, rules, is_waiting, waits_after)));
+        after = has_all _ (map sent_as at.sent) (λ d has.
+            has_all (After d) queued (search (arith, rules, image_has, is_waiting, waits_after)));
         queued = has_all _ queued (λ a first. has_all (Ahead a) queued (search
             (arith, rules, is_waiting, pairs_right, pairs_at, pair_of_has, pairs_both IsBefore Follows, of_one)));
       }
