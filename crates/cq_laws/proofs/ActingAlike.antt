@@ -33,8 +33,7 @@ module _ (limits : List (Option ℕ)) (ms : List Machine) where
       record {
         run = runs_from_empty;
         stop = λ ports class_count ranks traffic rs fault come run.
-            let start = begin limits ms class_count ports ranks traffic come in
-            best_act_alike.stop 0 class_count traffic _ _ rs fault start.agrees start.come run;
+            search (arith, rules, best_act_alike.stop, begin limits ms class_count ports ranks traffic come);
         refused = search (arith, rules, runs_from_empty);
       }
 

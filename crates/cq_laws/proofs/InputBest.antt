@@ -15,8 +15,7 @@ module _ {S R : Type 0} (Step Step' : ℕ → List (Option Cell) → S → R →
 
   pub each_stop : (slot : ℕ) (traffic : List (List (Option Cell))) (f : S) (rs : List R) (fault : TagFault) →
       StopBy Step Fault slot traffic f rs fault → StopBy Step' Fault slot traffic f rs fault
-  each_stop slot (cells ∷ traffic) f (r ∷ rs) fault run =
-      search (rules, each_stop (slot + 1) traffic run.0 rs fault run.2)
+  each_stop slot (cells ∷ traffic) f (r ∷ rs) fault run = search (rules, each_stop (slot + 1) traffic run.0 rs)
   each_stop slot traffic f rs fault run = run
 
   -- ## And so are whole runs, where the record of a slot tells of which kind it is

@@ -125,5 +125,4 @@ module _ (ms : List Machine) (n : ℕ) where
   pub idled_once : (count : ℕ) (ranks : List (List ℕ)) → KeepLaws ms ranks →
       idled_for ms (count + 1) n ranks ≡ idled ms n ranks
   idled_once zero ranks keep = refl
-  idled_once (suc count) ranks keep = search
-      (arith, rules, idled_twice, length-idle, idle_at, idled_once count (idled ms n ranks) (still_keep ranks keep))
+  idled_once (suc count) ranks keep = search (rules, idled_twice, idled_once count (idled ms n ranks), still_keep)
