@@ -8,7 +8,7 @@
 -- stand by input and then by slot. It is compared with the last one of its flow, for which a place is kept. And how
 -- many cells stand ahead of each in its input's list, counted on from one cell to the next. Where an input begins,
 -- none stands ahead, since the cells before it are of earlier inputs.
-use Rattle.cq_resume.proofs.Terms.{common_steps, rules, ◌≡◌, ◌≢◌, ℕ, ◌+◌, ◌-◌, ◌<◌, ◌≤◌, ◌⊎◌, ◌↔◌, Bool, true, false, List, length, map, get_or, set, replicate, Option, None, Some, refl, inl, inr, arith, ltb, ◌*◌, IfSome, ◌&&◌, AllPairs, AllByRecursion, cases_eq, cases_lt, and_from, lt-ltb, get_or-replicate, get_or-set_other, get_or-set_same, get_or_default, get_or_past, length-replicate, length-set, get_or_read, begins_at, FlowsStand, IsNameBefore, IsNoLaterInput, Leaves, IsBefore, Queued, Name, length-append, slice_get, ne_eqb, get_or-take, SlackStands, cushion_in, thread_in, filter_more, get_or_from_slice_get, slice_get-get_or, key_laws, most_classes, All-from_recursion, zero, suc, AllAdjacentBelow}
+use Rattle.cq_resume.proofs.Terms.{common_steps, rules, ◌≡◌, ◌≢◌, ℕ, ◌+◌, ◌-◌, ◌<◌, ◌≤◌, ◌⊎◌, ◌↔◌, Bool, true, false, List, length, map, get_or, set, replicate, Option, None, Some, refl, inl, inr, arith, ltb, ◌*◌, IfSome, ◌&&◌, AllPairs, AllByRecursion, cases_eq, cases_lt, and_from, lt-ltb, get_or-replicate, get_or-set_other, get_or-set_same, get_or_default, get_or_past, length-replicate, length-set, get_or_read, begins_at, FlowsStand, IsNameBefore, Leaves, IsBefore, Queued, Name, length-append, slice_get, ne_eqb, get_or-take, SlackStands, cushion_in, thread_in, filter_more, get_or_from_slice_get, slice_get-get_or, key_laws, most_classes, All-from_recursion, zero, suc, AllAdjacentBelow, all_weaker}
 use Rattle.cq_resume.specs.Neighbours.{IsOfNeighbours}
 use Rattle.cq_base.proofs.Each.{one_there}
 use Rattle.cq_resume.proofs.Cut.{none_kept}
@@ -20,19 +20,6 @@ PairsBelow {X} R xs n = (i j : ℕ) (d : X) → i < j → j < n → R (get_or xs
 -- ## Neighbours
 
 module _ {X : Type 0} (R : X → X → Type 0) (xs : List X) where
-  -- what holds of two neighbours, wherever they are read from
-  next_at : (n : ℕ) (x y : X) → n < length xs → x ≡ get_or xs (n - 1) x → y ≡ get_or xs n y → R x y → (k : ℕ) (d : X) →
-      k + 1 ≡ n → R (get_or xs k d) (get_or xs (k + 1) d)
-  next_at n x y inside first second next k d near = grind (arith, common_steps, get_or_default)
-
-  pub next_more : (n : ℕ) (x y : X) → n < length xs → x ≡ get_or xs (n - 1) x → y ≡ get_or xs n y → R x y →
-      AllAdjacentBelow R xs n → AllAdjacentBelow R xs (n + 1)
-  next_more n x y inside first second next all k d low = grind (arith, common_steps, cases_eq, next_at)
-
-  pub next_found : (n : ℕ) (x y : X) → 1 ≤ n → n < length xs → x ≡ get_or xs (n - 1) x → y ≡ get_or xs n y → R x y →
-      (k : ℕ) × (k + 1 < length xs) × ((d : X) → R (get_or xs k d) (get_or xs (k + 1) d))
-  next_found n x y one inside first second next = (n - 1, omega arith, λ d. grind (arith, common_steps, get_or_default))
-
   module _ (goes_on : (a b c : X) → R a b → R b c → R a c) where
     pub next_pairs : AllAdjacentBelow R xs (length xs) → AllPairs R xs
     next_pairs all i zero d lt inside = absurd (omega arith)
@@ -50,21 +37,30 @@ module _ {X : Type 0} (R : X → X → Type 0) (xs : List X) where
 
 -- ## Lanes
 
-module _ {X : Type 0} (input : X → ℕ) (xs : List X) (n : ℕ) (d : X) (inside : n < length xs) where
+-- what is known at a place: whether an input begins there, and what is kept for its input, begun anew there or kept on
+pub record At {X Y : Type 0} (input : X → ℕ) (xs : List X) (n : ℕ) (none last now : Y) (begun : Bool) : Type 0 where
+  pub inside : n < length xs
+  pub rising : AllPairs (λ a b. input a ≤ input b) xs
+  pub is : begun ≡ begins_at (map input xs) n
+  pub ways : ((begun ≡ true) × (now ≡ none)) ⊎ ((begun ≡ false) × (now ≡ last))
+
+module _ {X Y : Type 0} {input : X → ℕ} {xs : List X} {n : ℕ} {none last now : Y} {begun : Bool}
+    (at : At input xs n none last now begun) (d : X) where
   begins_test : begins_at (map input xs) n ≡ (ltb 0 n && ltb (input (get_or xs (n - 1) d)) (input (get_or xs n d)))
-  begins_test = grind (arith, common_steps)
+  begins_test = grind (arith, common_steps, at.inside)
 
   -- what was kept for the input of the one before it, or is begun with where another input begins, is for its input
-  pub known_here : {Y : Type 0} (P : ℕ → Y → Type 0) (none last now : Y) (begun : Bool) →
-      ((e : X) → P (input (get_or xs (n - 1) e)) last) →
-      ((at : ℕ) → ((k : ℕ) (e : X) → k < n → input (get_or xs k e) ≢ at) → P at none) →
-      AllPairs (λ a b. input a ≤ input b) xs → begun ≡ begins_at (map input xs) n →
-      ((begun ≡ true) × (now ≡ none)) ⊎ ((begun ≡ false) × (now ≡ last)) → P (input (get_or xs n d)) now
-  known_here P none last now begun known fresh rising is (inl begins) =
-      rw begins.1 (fresh _ (λ k e lt own. let le = rising k (n - 1) e in
-      grind (arith, common_steps, get_or_default, cases_eq k (n - 1))))
-  known_here P none last now begun known fresh rising is (inr goes) =
-      grind (arith, common_steps, begins_test, and_from, lt-ltb, cases_eq, cases_lt)
+  known_here : (P : ℕ → Y → Type 0) → ((e : X) → P (input (get_or xs (n - 1) e)) last) →
+      ((i : ℕ) → ((k : ℕ) (e : X) → k < n → input (get_or xs k e) ≢ i) → P i none) → P (input (get_or xs n d)) now
+  known_here P known fresh = elim at.ways [
+    | inl begins ↦
+        rw begins.1 (fresh _ (λ k e lt own. let le = at.rising k (n - 1) e in
+        grind (arith, common_steps, begins_test, get_or_default, cases_eq k (n - 1))))
+    | inr goes ↦ grind (arith, common_steps, begins_test, at.rising, and_from, lt-ltb, cases_eq, cases_lt)
+  ]
+
+abbrev pub none_seen : {X : Type 0} → ℕ → List (Option X)
+none_seen {X} lanes = replicate lanes (let none : Option X = None in none)
 
 module _ {X : Type 0} (input lane : X → ℕ) (R : X → X → Type 0) where
   -- it holds of two items of one lane
@@ -85,9 +81,6 @@ module _ {X : Type 0} (input lane : X → ℕ) (R : X → X → Type 0) where
     pub each : (k : ℕ) (d : X) → k < n → input (get_or xs k d) ≡ at →
         (y : X) × (get_or last (lane (get_or xs k d)) None ≡ Some y) × ((get_or xs k d ≡ y) ⊎ R (get_or xs k d) y)
 
-  abbrev pub none_seen : ℕ → List (Option X)
-  none_seen lanes = replicate lanes (let none : Option X = None in none)
-
   -- at an input of which no item came
   are_none : (xs : List X) (n lanes at : ℕ) → ((k : ℕ) (d : X) → k < n → input (get_or xs k d) ≢ at) →
       AreLast xs n at (none_seen lanes)
@@ -103,29 +96,20 @@ module _ {X : Type 0} (input lane : X → ℕ) (R : X → X → Type 0) where
   pub lanes_first : (xs : List X) (lanes : ℕ) → Lanes xs lanes 0 (none_seen lanes)
   lanes_first xs lanes = grind (arith, common_steps, are_none, length-replicate)
 
-  -- what is known at a place: whether an input begins there, and the last ones then
-  pub record Place (xs : List X) (lanes n : ℕ) (e : X) (last now : List (Option X)) (begun : Bool) : Type 0 where
-    pub known : Lanes xs lanes n last
-    pub inside : n < length xs
-    pub rising : AllPairs (λ a b. input a ≤ input b) xs
-    pub is : begun ≡ begins_at (map input xs) n
-    pub ways : ((begun ≡ true) × (now ≡ none_seen lanes)) ⊎ ((begun ≡ false) × (now ≡ last))
-    pub fits : lane (get_or xs n e) < lanes
-
-  module _ {xs : List X} {lanes n : ℕ} {e : X} {last now : List (Option X)} {begun : Bool}
-      (place : Place xs lanes n e last now begun) where
+  module _ {xs : List X} {lanes n : ℕ} (e : X) {last now : List (Option X)} {begun : Bool}
+      (known : Lanes xs lanes n last) (place : At input xs n (none_seen lanes) last now begun)
+      (fits : AllByRecursion (λ x. lane x < lanes) xs) where
     abbrev here : X
     here = get_or xs n e
 
     are : AreLast xs n (input here) now
-    are = known_here input xs n e place.inside (AreLast xs n) (none_seen lanes) last now begun
-        place.known.ends (are_none xs n lanes) place.rising place.is place.ways
+    are = known_here place e (AreLast xs n) known.ends (are_none xs n lanes)
 
     long_now : length now ≡ lanes
-    long_now = grind (arith, common_steps, length-replicate, place.known.long, place.ways)
+    long_now = grind (arith, common_steps, length-replicate, known.long, place.ways)
 
     within : lane here < length now
-    within = let fits = place.fits in omega (arith, long_now)
+    within = omega (arith, long_now, All-from_recursion (λ x. lane x < lanes) xs fits n e place.inside)
 
     abbrev then : List (Option X)
     then = set now (lane here) (Some here)
@@ -166,7 +150,7 @@ module _ {X : Type 0} (input lane : X → ℕ) (R : X → X → Type 0) where
         pub lanes_next : Lanes xs lanes (n + 1) then
         lanes_next =
             search
-            (rules, cases_eq, are.each, goes_on, test_there, get_or_default, last_then, length-set, long_now, place)
+            (rules, cases_eq, are.each, goes_on, test_there, get_or_default, last_then, length-set, long_now, known)
 
       -- one that stands behind all of its lane may come
       pub lanes_stop : may ≡ false → (false ≡ true) ↔ AllPairs InLane xs
@@ -202,10 +186,13 @@ flow_of n = n.queued.cell.output * most_classes + n.queued.cell.class
 abbrev pub input_of : Name → ℕ
 input_of n = n.queued.key.input
 
-pub flows_as_lanes : (ports : ℕ) (xs : List Name) →
-    AllByRecursion (λ n. (n.queued.cell.output < ports) × (n.queued.cell.class < most_classes)) xs →
-    AllPairs (InLane input_of flow_of LeavesFirst) xs ↔ FlowsStand xs
-flows_as_lanes ports xs each = grind (arith, common_steps, All-from_recursion _ xs each)
+module _ (ports : ℕ) (xs : List Name)
+    (each : AllByRecursion (λ n. (n.queued.cell.output < ports) × (n.queued.cell.class < most_classes)) xs) where
+  pub flows_fit : AllByRecursion (λ n. flow_of n < ports * most_classes) xs
+  flows_fit = all_weaker _ _ (λ n is. omega arith) xs each
+
+  pub flows_as_lanes : AllPairs (InLane input_of flow_of LeavesFirst) xs ↔ FlowsStand xs
+  flows_as_lanes = grind (arith, common_steps, All-from_recursion _ xs each)
 
 -- ## Threads
 
@@ -216,26 +203,18 @@ pub record Threads (listed buffered : List Queued) (n thread : ℕ) : Type 0 whe
   pub stand : (place : ℕ) (t : Queued) → place < n → slice_get listed place ≡ Some t →
       length (thread_in listed place t.key.input) < length (cushion_in buffered t)
 
--- what is known at a place: whether an input begins there
-pub record At (listed buffered : List Queued) (n thread now : ℕ) (e : Queued) (begun : Bool) : Type 0 where
-  pub known : Threads listed buffered n thread
-  pub inside : n < length listed
-  pub rising : AllPairs IsNoLaterInput listed
-  pub is : begun ≡ begins_at (map (λ (q : Queued). q.key.input) listed) n
-  pub ways : ((begun ≡ true) × (now ≡ 0)) ⊎ ((begun ≡ false) × (now ≡ thread))
-
-module _ {listed buffered : List Queued} {n thread now : ℕ} {e : Queued} {begun : Bool}
-    (at : At listed buffered n thread now e begun)
+module _ {listed buffered : List Queued} {n thread now : ℕ} (e : Queued) {begun : Bool}
+    (known : Threads listed buffered n thread)
+    (at : At (λ (q : Queued). q.key.input) listed n 0 thread now begun)
     (cushion : ℕ) (enough : cushion ≡ length (cushion_in buffered (get_or listed n e))) where
   now_counted : now ≡ length (thread_in listed n (get_or listed n e).key.input)
-  now_counted = known_here (λ (q : Queued). q.key.input) listed n e at.inside
-      (λ i (ahead : ℕ). ahead ≡ length (thread_in listed n i)) 0 thread now begun at.known.counted
-      (search (arith, rules, none_kept, ne_eqb, get_or-take)) at.rising at.is at.ways
+  now_counted = known_here at e (λ i (ahead : ℕ). ahead ≡ length (thread_in listed n i)) known.counted
+      (search (arith, rules, none_kept, ne_eqb, get_or-take, at.inside))
 
   -- one cell more, or one that has too little
   pub threads_next : now < cushion → Threads listed buffered (n + 1) (now + 1)
   threads_next less =
-      grind (arith, common_steps, now_counted, get_or_default, filter_more, length-append, get_or_from_slice_get)
+      grind (arith, common_steps, known, at.inside, now_counted, get_or_default, filter_more, length-append, get_or_from_slice_get)
 
   pub threads_stop : cushion ≤ now → (false ≡ true) ↔ SlackStands listed buffered
   threads_stop short = grind (arith, common_steps, now_counted, slice_get-get_or, at)

@@ -3,19 +3,21 @@ use Rattle.cq_resume.proofs.Lanes.{At, threads_next, threads_stop}
 use Rattle.cq_resume.proofs.slack.have_slack.Goals.{After-cushion_of-cushion}
 use Rattle.cq_resume.proofs.slack.have_slack.Goals as goal
 
-here : (c : After-cushion_of-cushion) (e : Queued) →
-    At c.args.listed.now c.args.buffered.now c.places.at c.places.thread c.if-begins.thread e c.begins.result
-here c e = search (arith, rules)
+here : (c : After-cushion_of-cushion) → At (λ (q : Queued). q.key.input) c.args.listed.now c.places.at 0 c.places.thread
+    c.if-begins.thread c.begins.result
+here c = search (arith, rules)
 
 pub places-init : goal.places-init
 places-init c = grind (arith, common_steps)
 
 pub places-preserved : goal.places-preserved
-places-preserved c = threads_next (here (goal.at.places-preserved c).After-cushion_of-cushion _)
+places-preserved c = threads_next _ c.places.invariant
+    (here (goal.at.places-preserved c).After-cushion_of-cushion)
     c.cushion_of-cushion.result c.cushion_of-cushion.ensures c.if-cushion-thread.false
 
 pub returns-then-cushion-thread : goal.returns-then-cushion-thread
-returns-then-cushion-thread c = threads_stop (here (goal.at.returns-then-cushion-thread c).After-cushion_of-cushion _)
+returns-then-cushion-thread c = threads_stop _ c.places.invariant
+    (here (goal.at.returns-then-cushion-thread c).After-cushion_of-cushion)
     c.cushion_of-cushion.result c.cushion_of-cushion.ensures c.if-cushion-thread.true
 
 pub returns : goal.returns
