@@ -5,7 +5,7 @@
 -- is counted among all buffered cells; and what is named is the same. Of any two names of one flow the one that
 -- arrived first leaves first. What a sound state comes to is said of found cells too. Where a step of judging fails it
 -- names the first clause that fails, since those before it are known; and a state is sound of which all are known.
-use Rattle.cq_resume.proofs.Terms.{common_steps, arith, rules, ◌≡◌, ◌<◌, ◌↔◌, ◌⊎◌, eqb, Bool, true, false, List, [], ◌∷◌, length, map, refl, ◌∙◌, ℕ, sym, ap, All, IsPermutation, filter, AllByRecursion, AllZip, enumerate_from, range_with_len, list_any-IsPermutation, sum_by-IsPermutation, Arrival, Queued, IsTally, figures_told, frozen_told, input_told, output_told, sent_told, taken_of, AreFound, IsWholePacket, PacketsStand, TalliesUp, has_name, names_of, IsFound, AllNamed, AreWholePackets, NoneNamed, HasLimit, Switch, is_named, named_in, packet_before, buffer_told, fabric_told, Gone, Name, Tally, State, length-filter, slots_of, departed, figures_at_input, Found, Taken, Seen, ◌++◌, get_or, ◌≤◌, AllPairs, cases_order, map-append, All-permutation, IsPermutation-sym, IsBefore, FlowsStand, IsGone, IsNameBefore, IsTold, InOneFlow, Leaves, LeavesEarlier, sent_name, waiting_name, IsFoundBefore, IsListedBefore, IsNoLaterInput, IsGoneBefore, IsTimely, StandsBelow, StandBelow, AreOrdered, AreArrivals, KeepArrivalOrder, OfOneFlow, AreBelowFloors, IsBelowFloor, StandInOrder, is_ahead, queued_in, output_of, Named, Sent, All-from_recursion, recursion_from_All, Transfer, machines_of, None, Some, inl, inr, ◌-◌, zero, suc, take, ◌+◌, filter_map, slice_get, cases_Bool, cases_eq, cases_lt, eq-eqb, eqb-true, get_or_past, map-id, get_or-map-range_with_len, length-map-range_with_len, is_for, buffer, cushion_of, input, SlackStands, cushion_in, thread_in, HaveSlack, list_told, queued_of, length-map, Scheduled, AreCellsFor, AreNamesFor, HaveRoom, IsCellFor, IsFirstOfTwo, AreFoundIn, IsForPorts, Clause, IsFirstOf, IsFirstUnsound, IsSound, switch_of, CanTakeUp, classes_of, ports_of, Tables, machine_of, IsInRange, IsNamed, below_more, below_none, all_weaker, all_both, all_front, all_back, of_images, Setup, has_at, has_there, all_of_has, all_has, has_all, has_left, has_right, has_cases, has_image, image_has, pair_of_has, Has, each_pair, all_pairs, pairs_right, pairs_cross, EachPair, pairs_of_images, most_ports, StateRefusal}
+use Rattle.cq_resume.proofs.Terms.{common_steps, subst, Option, arith, rules, ◌≡◌, ◌<◌, ◌↔◌, ◌⊎◌, eqb, Bool, true, false, List, [], ◌∷◌, length, map, refl, ◌∙◌, ℕ, ap, All, IsPermutation, filter, AllByRecursion, AllZip, enumerate_from, range_with_len, list_any-IsPermutation, sum_by-IsPermutation, Arrival, Queued, IsTally, figures_told, frozen_told, input_told, output_told, sent_told, taken_of, AreFound, IsWholePacket, PacketsStand, TalliesUp, has_name, names_of, IsFound, AllNamed, AreWholePackets, NoneNamed, HasLimit, Switch, is_named, named_in, packet_before, buffer_told, fabric_told, Gone, Name, Tally, State, length-filter, slots_of, departed, figures_at_input, Found, Taken, Seen, ◌++◌, get_or, ◌≤◌, AllPairs, cases_order, map-append, All-permutation, IsPermutation-sym, IsBefore, FlowsStand, IsGone, IsNameBefore, IsTold, InOneFlow, Leaves, LeavesEarlier, sent_name, waiting_name, IsFoundBefore, IsListedBefore, IsNoLaterInput, IsGoneBefore, IsTimely, StandsBelow, StandBelow, AreOrdered, AreArrivals, KeepArrivalOrder, OfOneFlow, AreBelowFloors, IsBelowFloor, StandInOrder, is_ahead, queued_in, output_of, Named, Sent, All-from_recursion, Option, recursion_from_All, Transfer, machines_of, None, Some, inl, inr, ◌-◌, zero, suc, take, ◌+◌, filter_map, slice_get, cases_Bool, cases_eq, cases_lt, eq-eqb, eqb-true, get_or_past, map-id, get_or-map-range_with_len, length-map-range_with_len, is_for, buffer, cushion_of, input, SlackStands, cushion_in, thread_in, HaveSlack, list_told, queued_of, length-map, Scheduled, AreCellsFor, AreNamesFor, HaveRoom, IsCellFor, IsFirstOfTwo, AreFoundIn, IsForPorts, Clause, IsFirstOf, IsFirstUnsound, IsSound, switch_of, CanTakeUp, classes_of, ports_of, Tables, machine_of, IsInRange, IsNamed, below_more, below_none, all_weaker, all_both, all_front, all_back, of_images, Setup, has_at, has_there, all_of_has, all_has, has_all, has_left, has_right, has_cases, has_image, image_has, pair_of_has, Has, each_pair, all_pairs, pairs_right, pairs_cross, EachPair, pairs_of_images, most_ports, StateRefusal}
 use Rattle.cq_resume.proofs.Zipped.{zip_by, same_mapped, IsOf, names_zip, sifted, told_facts, zip_both, zip_has, zip_mate, pairs_alike, all_alike, gone_for, told_for, Differ}
 use Rattle.cq_resume.proofs.Cut.{buffered_at, filter_both, listed_at}
 use Rattle.cq_resume.specs.Sound.{IsBufferedBefore, IsSentBefore}
@@ -41,9 +41,6 @@ has_moved xs ys m back has = search (rules, all_has (Has ys) xs, All-permutation
 same_ahead : (came : List Arrival) (next : ℕ) (c d : Named) (q r : Queued) → IsTold came next c q →
     IsTold came next d r → (is_ahead c d ≡ true) ↔ IsBefore q r
 same_ahead came next c d q r first second = grind (arith, common_steps, told_facts)
-
-turn : {came : List Arrival} {c d : Named} → OfOneFlow came c d → OfOneFlow came d c
-turn one = record { input = sym one.input; output = sym one.output; class = sym one.class }
 
 -- ## Cells of one input among all
 
@@ -162,32 +159,28 @@ module _ (w : Switch) (s : State) (f : Found) (found : IsFound w.came s f) where
   back : IsPermutation f.names.items told
   back = IsPermutation-sym told f.names.items found.same
 
-  -- by what name of the state a name was found: one that waits, or that of a departure
-  record Entry (m : Name) : Type 0 where
-    name : Named
-    told_by : Told name m.queued
-    stands : (Has (queued_in s) name × (m.sent ≡ None))
-        ⊎ ((d : Sent) × Has s.sent d × (d.cell ≡ name) × (m.sent ≡ Some d.slot))
+  -- a name of the state, with the slot in which its cell was sent, if it was
+  abbrev IsEntry : Named → Option ℕ → Type 0
+  IsEntry c o = (Has (queued_in s) c × (o ≡ None)) ⊎ ((d : Sent) × Has s.sent d × (d.cell ≡ c) × (o ≡ Some d.slot))
 
   told_cases : (m : Name) → Has told m →
       ((q : Queued) × Has waiting q × (waiting_name q ≡ m)) ⊎ ((g : Gone) × Has f.sent.items g × (sent_name g ≡ m))
   told_cases m has = grind (arith, common_steps, image_has, has_left, has_right, has_cases)
 
-  entry : (m : Name) → Has f.names.items m → Entry m
+  entry : (m : Name) → Has f.names.items m → (c : Named) × Told c m.queued × IsEntry c m.sent
   entry m has = search (arith, rules, told_cases, zip_has, zips, has_moved f.names.items told)
 
-  waits : (c : Named) → Has (queued_in s) c → (m : Name) × Has f.names.items m × Told c m.queued × (m.sent ≡ None)
-  waits c has =
-      let by = zip_mate Told (queued_in s) waiting zips c has in
+  mate : (c : Named) (o : Option ℕ) → IsEntry c o → (m : Name) × Has f.names.items m × Told c m.queued × (m.sent ≡ o)
+  mate c o (inl waits) =
+      let by = zip_mate Told (queued_in s) waiting zips c waits.0 in
       let among = rw map-append at (has_image waiting_name waiting by.0 by.1) in
       search (arith, rules, has_left, has_moved told f.names.items (waiting_name by.0) back)
-
-  left : (d : Sent) → Has s.sent d → (m : Name) × Has f.names.items m × Told d.cell m.queued × (m.sent ≡ Some d.slot)
-  left d has =
-      let by = zip_mate Left s.sent f.sent.items found.sent d has in
+  mate c o (inr left) =
+      let by = zip_mate Left s.sent f.sent.items found.sent left.0 left.1 in
       let here = has_right (map waiting_name f.listed.items ++ map waiting_name f.buffered.items) _ _
       (has_image sent_name f.sent.items by.0 by.1) in
-      (sent_name by.0, has_moved told f.names.items (sent_name by.0) back here, by.2.1, cc)
+      let own = subst (λ (e : Named). Told e by.0.queued) left.2 by.2.1 in
+      (sent_name by.0, has_moved told f.names.items (sent_name by.0) back here, own, cc)
 
   module _ (c d : Named) (m n : Name) (first : Told c m.queued) (second : Told d n.queued) where
     of_one : OfOneFlow w.came c d ↔ InOneFlow m n
@@ -196,9 +189,11 @@ module _ (w : Switch) (s : State) (f : Found) (found : IsFound w.came s f) where
     earlier : c.input ≡ d.input → ((c.slot < d.slot) ↔ IsNameBefore m n)
     earlier same = grind (arith, common_steps, told_facts)
 
-    leave : FlowsHold f.names.items → Has f.names.items m → Has f.names.items n → OfOneFlow w.came c d →
-        c.slot < d.slot → Leaves m.queued n.queued m.sent n.sent
-    leave hold at to one less = hold m n at to ((earlier one.input).0 less) (of_one.0 one)
+  leave : FlowsHold f.names.items → (c d : Named) (o p : Option ℕ) → IsEntry c o → IsEntry d p → OfOneFlow w.came c d →
+      c.slot < d.slot → (q : Queued) × (r : Queued) × Told c q × Told d r × Leaves q r o p
+  leave hold c d o p first second one less =
+      let m = mate c o first in
+      let n = mate d p second in search (arith, rules, hold m.0 n.0, earlier c d m.0 n.0, of_one c d m.0 n.0)
 
   abbrev Behind : Sent → Named → Type 0
   Behind d c = OfOneFlow w.came d.cell c → d.cell.slot < c.slot
@@ -223,35 +218,33 @@ module _ (w : Switch) (s : State) (f : Found) (found : IsFound w.came s f) where
     flows_keep : FlowsHold f.names.items → KeepArrivalOrder w s
     flows_keep hold = record {
       sent = λ i j e lt inside one.
-          let a = left (get_or s.sent i e) (has_at s.sent i e (omega arith)) in
-          let b = left (get_or s.sent j e) (has_at s.sent j e inside) in
+          let d = get_or s.sent i e in
+          let g = get_or s.sent j e in
           let order = stand.sent i j e lt inside in
-          search
-          (arith, rules, sent_differ i j e lt inside, leave _ _ b.0 a.0 b.2 a.2 hold b.1 a.1, turn one, cases_order);
+          let other = sent_differ i j e lt inside in
+          let turned = leave hold g.cell d.cell (Some g.slot) (Some d.slot) in
+          search (arith, rules, turned, has_at s.sent i e, has_at s.sent j e, cases_order);
       after = has_all BehindAll s.sent (λ d gone. has_all (Behind d) (queued_in s) (λ c has one.
-          let a = waits c has in
-          let b = left d gone in
           let other = pairs_cross Differ (queued_in s) _ c d.cell differ has (has_image _ s.sent d gone) in
-          search (arith, rules, leave _ _ a.0 b.0 a.2 b.2 hold a.1 b.1, turn one, cases_order)));
+          search (arith, rules, leave hold c d.cell None (Some d.slot), cases_order)));
       queued = has_all InTurnAll (queued_in s) (λ c first. has_all (InTurn c) (queued_in s) (λ d second one less.
-          let a = waits c first in
-          let b = waits d second in
-          search (arith, rules, same_ahead w.came s.head.next c d, leave c d a.0 b.0 a.2 b.2 hold a.1 b.1)));
+          let both = leave hold c d None None (inl (first, refl)) (inl (second, refl)) one less in
+          (same_ahead w.came s.head.next c d both.0 both.1 both.2 both.3).1 both.4));
     }
 
     keep_flows : KeepArrivalOrder w s → FlowsHold f.names.items
     keep_flows keep m n first second before one =
         let a = entry m first in
         let b = entry n second in
-        let flow = (of_one a.name b.name m n a.told_by b.told_by).1 one in
-        let less = (earlier a.name b.name m n a.told_by b.told_by flow.input).1 before in
-        let before_it = (same_ahead w.came s.head.next a.name b.name m.queued n.queued a.told_by b.told_by).0 in
-        let all_turn = all_has InTurnAll (queued_in s) a.name keep.queued in
-        let all_behind = λ (d : Sent). all_has (Behind d) (queued_in s) a.name in
+        let flow = (of_one a.0 b.0 m n a.1 b.1).1 one in
+        let less = (earlier a.0 b.0 m n a.1 b.1 flow.input).1 before in
+        let before_it = (same_ahead w.came s.head.next a.0 b.0 m.queued n.queued a.1 b.1).0 in
+        let all_turn = all_has InTurnAll (queued_in s) a.0 keep.queued in
+        let all_behind = λ (d : Sent). all_has (Behind d) (queued_in s) a.0 in
         let Both : Sent → Sent → Type 0 = λ d e. IsSentBefore w.came d e
         × (OfOneFlow w.came d.cell e.cell → d.cell.slot < e.cell.slot) in
         let both = each_pair Both s.sent (λ i j d lt inside. (stand.sent i j d lt inside, keep.sent i j d lt inside)) in
-        let turns = all_has (InTurn a.name) (queued_in s) in
+        let turns = all_has (InTurn a.0) (queued_in s) in
         search (arith, rules, pair_of_has, all_turn, all_behind, turns, all_has BehindAll s.sent)
 
     -- the fifth clause, by the names that were found
