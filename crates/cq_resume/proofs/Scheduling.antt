@@ -28,13 +28,9 @@ module _ (t : Tables) (captures : List (List Captured)) (input : ℕ) where
   behind k i zero rest last = grind (arith, common_steps)
   behind k i (suc n) rest last = grind (arith, common_steps, goes_on, behind k (i + 1) n rest)
 
-  packet_is : (k i : ℕ) → (cell_in k i).cell.id.packet ≡ k
+  numbers_are : (k i : ℕ) → ((cell_in k i).cell.id.packet ≡ k) × ((cell_in k 0).cell.id.index ≡ 0)
   unfolding cell_of
-  packet_is k i = refl
-
-  index_is : (k : ℕ) → (cell_in k 0).cell.id.index ≡ 0
-  unfolding cell_of
-  index_is k = refl
+  numbers_are k i = (refl, refl)
 
   abbrev packets_from : ℕ → ℕ → List Arrival
   packets_from k m = flat_map (arrivals_of t captures input) (range_with_len k m)
@@ -43,7 +39,7 @@ module _ (t : Tables) (captures : List (List Captured)) (input : ℕ) where
   one_packet : (k n : ℕ) (rest : List Arrival) → cells t captures input k ≡ suc n →
       ((a : Arrival) → a.cell.id.packet < k + 1 → a.slot < start t captures input (k + 1) → ComeBehind a rest) →
       ComeBehind (cell_in k 0) (map (cell_in k) (range_with_len (0 + 1) n) ++ rest)
-  one_packet k n rest many later = grind (arith, common_steps, packet_is, ends_before, behind)
+  one_packet k n rest many later = grind (arith, common_steps, numbers_are, ends_before, behind)
 
   come_behind : (k m : ℕ) (a : Arrival) → a.cell.id.packet < k → a.slot < start t captures input k →
       ComeBehind a (packets_from k m)
@@ -57,7 +53,7 @@ module _ (t : Tables) (captures : List (List Captured)) (input : ℕ) where
   line_of zero = tt
   line_of (suc m) =
       let some = some_cells 0 in
-      search (arith, rules, index_is, one_packet 0 (cells t captures input 0 - 1) (packets_from (0 + 1) m), come_behind)
+      search (arith, rules, numbers_are 0 0, one_packet 0 (cells t captures input 0 - 1) (packets_from (0 + 1) m), come_behind)
 
   pub input_is_line : IsLine (arrivals_at t captures input)
   unfolding arrivals_at
