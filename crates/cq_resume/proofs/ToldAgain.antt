@@ -41,12 +41,6 @@ module _ {X : Type 0} (number : X → ℕ) where
   ordered [] n pairs all = no_items 0 n
   ordered (x ∷ xs) n pairs all = grind (arith, common_steps, first x xs 0 n, ordered xs n)
 
-  -- so are the lists of all numbers, end on end
-  end_on_end : (told : ℕ → List X) (xs : List X) (n : ℕ) → ((i : ℕ) → told i ≡ numbered xs i) →
-      EachPair (λ x y. number x ≤ number y) xs → AllByRecursion (λ x. number x < n) xs →
-      flat_map (λ l. l) (map told (range_with_len 0 n)) ≡ xs
-  end_on_end told xs n is pairs all = grind (arith, common_steps, flat_map-map, flat_same, ordered)
-
 -- ## What is looked up and told again
 
 told_again : {X Y : Type 0} (f : X → Option Y) (g : Y → X) (xs : List X) →
@@ -82,11 +76,13 @@ module _ (w : Switch) (s : State) (in_range : IsInRange s) (shape : HasShape w s
       (told : ℕ → List Queued) (is : (i : ℕ) → told i ≡ numbered number (filter_map cell_of xs) i)
       (named : (c : Named) → Has xs c → Has (named_in s) c) where
     again : map named_as (flat_map (λ l. l) (map told (range_with_len 0 s.head.ports))) ≡ xs
-    again = rw (end_on_end number told (filter_map cell_of xs) s.head.ports is
+    again =
+        let all = told_again cell_of named_as xs
+        (λ c has. let some = arrives c (named c has) in grind (arith, common_steps)) in
+        let in_order = ordered number (filter_map cell_of xs) s.head.ports
         (pairs_looked_up cell_of R (λ q r. number q ≤ number r) no_less xs (each_pair R xs pairs))
-        (search (arith, rules, all_from_has, looked_up, low)))
-        (told_again cell_of named_as xs
-        (λ c has. let some = arrives c (named c has) in grind (arith, common_steps)))
+        (search (arith, rules, all_from_has, looked_up, low)) in
+        grind (arith, common_steps, flat_map-map, flat_same, is)
 
   lists_again : map named_as (flat_map (λ l. l) (map (list_told w.came s) (range_with_len 0 s.head.ports))) ≡ s.listed
   lists_again = again (λ q. q.key.input) (λ c d. c.input ≤ d.input) (search (arith, rules, its_input)) s.listed
