@@ -73,9 +73,8 @@ pub record Facts (came : List Arrival) (next : ℕ) (c : Named) (q : Queued) : T
   pub arrives : arriving_cell came c ≡ Some q.cell
   pub key : q.key ≡ key_of c
 
-module _ (came : List Arrival) (next : ℕ) (c : Named) where
-  pub told_facts : (q : Queued) → IsTold came next c q → Facts came next c q
-  told_facts q is = search (arith, rules, ltb-true, cases_Bool)
+pub told_facts : (came : List Arrival) (next : ℕ) (c : Named) (q : Queued) → IsTold came next c q → Facts came next c q
+told_facts came next c q is = search (arith, rules, ltb-true, cases_Bool)
 
 -- those of an input are the cells of its names
 pub sifted : (came : List Arrival) (i : ℕ) (xs : List Named) →
