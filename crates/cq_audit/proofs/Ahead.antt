@@ -40,11 +40,8 @@ module _ (o : Orders) (m : Partners) (i : ℕ) where
       abbrev output : ℕ
       output = get_or xs n 0
 
-      stands : (place_of o i output ≡ n) × (n < partner_place o m i) × (n < length (outputs_of o i))
+      pub stands : (place_of o i output ≡ n) × (n < partner_place o m i) × IsOffered o i output
       stands = grind (arith, common_steps, order_ends, all_ahead, place_of-at, get_or-take)
-
-      pub is_offered : IsOffered o i output
-      is_offered = grind (arith, common_steps, order_ends, all_ahead, place_of-at, get_or-take)
 
       pub in_range : length m ≡ ports o → output < length m
       in_range square = grind (arith, common_steps, output_in_range, stands)
@@ -60,4 +57,4 @@ module _ (o : Orders) (m : Partners) (i : ℕ) where
       -- it blocks, and is less
       pub taken : {found : Option ℕ} → LeastUntil n found → (HasBetterInput o m i output → ⊥) →
           ((l : ℕ) → found ≡ Some l → output < l) → LeastUntil (n + 1) (Some output)
-      taken had none less = search (arith, rules, others, order_ends, stands)
+      taken had none less = search (arith, rules, others, stands)
