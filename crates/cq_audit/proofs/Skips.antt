@@ -1,6 +1,6 @@
 -- Slots that a replay skips. No cell arrives up to the next arrival, and no line is of a slot before the first one's.
 -- And a stretch of no slots leaves everything as it is.
-use Rattle.cq_audit.proofs.Terms.{rules, ◌≡◌, ℕ, ◌≤◌, inl, inr, min, List, [], ◌∷◌, replicate, Option, None, Some, arith, slice_get, AllByRecursion, cases_lt, no_arrivals, Arrival, Transfer, Machine, Marked, IsStable, Fabric, LimitedFabricRun, quiet_limited_slots, quiet_of, NoneBefore, HasRested, IsInStep, ReplayView, ports_in, FirstIsLeast, IsStill, IsStillUntil, all_weaker, common_steps, IsQuietUntil}
+use Rattle.cq_audit.proofs.Terms.{rules, ◌≡◌, ℕ, ◌≤◌, min, List, [], ◌∷◌, None, Some, arith, slice_get, AllByRecursion, cases_lt, Arrival, Transfer, Machine, quiet_of, NoneBefore, HasRested, IsInStep, ReplayView, FirstIsLeast, IsStill, IsStillUntil, all_weaker, common_steps, IsQuietUntil}
 
 -- ## Up to where nothing happens
 
@@ -28,18 +28,9 @@ not_skipped came slot lines before = grind (arith, common_steps, all_late)
 pub until_here : (came : List Arrival) (slot : ℕ) (lines : List Transfer) (t : Transfer) → NoneBefore slot 1 lines →
     Some t ≡ slice_get lines 0 → t.slot ≡ slot → IsStillUntil came lines slot slot
 until_here came slot [] t before first here = cc
-until_here came slot (u ∷ lines) t before first here =
-    let at : t ≡ u = cc first in
-    record { still = not_skipped came slot (u ∷ lines) before; ends = λ _. inr (inl (cc (at, here))) }
+until_here came slot (u ∷ lines) t before first here = search (arith, rules, not_skipped came slot (u ∷ lines))
 
 -- ## A stretch of no slots
 
 pub no_rest : (ms : List Machine) (slot : ℕ) (v : ReplayView) → IsInStep ms slot v → HasRested ms slot slot v v
 no_rest ms slot v step = search rules
-
--- and a fabric that rests for no slots is as it was
-pub same_fabric : (limits : List (Option ℕ)) (ms : List Machine) (k slot : ℕ) (old : ReplayView) (new : Marked Fabric) →
-    k ≡ 0 →
-    LimitedFabricRun IsStable limits ms slot (replicate k no_arrivals) old.fabric
-    (quiet_limited_slots ms k slot (ports_in old) old.fabric.state.ranks old.fabric.marks) new → new ≡ old.fabric
-same_fabric limits ms k slot old new none ran = grind (arith, common_steps)

@@ -10,7 +10,7 @@
 -- that one meets no tag fault, the fabric meets none, and it goes on for no more slots than that one.
 use Rattle.cq_audit.proofs.Terms.{common_steps, rules, ◌≡◌, ℕ, ◌+◌, ◌-◌, ◌<◌, ◌≤◌, Bool, List, [], length, map, Option, Result, Err, arith, length-append, ◌*◌, zero, suc, ◌∷◌, ◌++◌, refl, append_assoc, IfErr, IsOk, OnOk, cases_lt, append-nil, take_all, take-append-le, Arrival, arriving, end_of, enough, RoomView, Cell, Transfer, Machine, class_count, Marked, first_slots, arriving_from, ranking, IsStable, Fabric, IsEmptyFabric, LimitedFabricRun, empty_limited_fabric, fabric_admission, IsLimitedFault, LimitedFabricSlot, LimitedRecord, arrivals_for, refusal_of, AreInOrder, NoneBefore, CanReplay, HasRested, IsInStep, IsSlotFault, ReplayView, SlotReplayed, ports_in, IsMadeAs, IsReady, IsStill, RunEnds, Reaches, StableRun, before_slot, AuditRefusal, Left, SlotFault, arriving_length, arriving_parts, quiet_limited_slots, transfers_of_run, AfterBy, run_length, first_more, quiet_slots, Ok, Some, TagFault, arrival_at, IsTraffic, is_from, is_to, number_of, count_for, whole_limited_run, empty_limited, input, reach, empty_list, empty_together, nothing_for, slots_fit, arrives_found, come_from, from_here, from_last, no_more_from, one_if, some_one, idled, all_go_on, transfers_one, quiet_transfers, limited_parts, run_fault, held_for, LimitedAgrees, LimitedRunsAlike, same_limited_fault, begin, same_limited_run, limited_lists_kept, limited_outputs_kept, come_for, for_here, for_last, no_more_to}
 use Rattle.cq_audit.proofs.BySlot.{before_is, phase_later, none_first, none_from, none_next}
-use Rattle.cq_audit.proofs.Skips.{all_late, same_fabric}
+use Rattle.cq_audit.proofs.Skips.{all_late}
 use Rattle.cq_audit.proofs.WholeFollowing.{all_before, moved, moved_parts}
 use Rattle.cq_audit.proofs.Following.{one_stable_run}
 use Rattle.cq_ideal.proofs.LimitedEnds.{last, limited_ends, limited_not_more, limited_whole_fault}
@@ -184,7 +184,8 @@ module _ {M : List ℕ → Machine} {came : List Arrival} {lines : List Transfer
     -- what was not over is not over after it
     pub not_over_past : (end_of came ≤ slot → IsEmptyFabric now.fabric.state → ⊥) → end_of came ≤ next →
         IsEmptyFabric new.fabric.state → ⊥
-    not_over_past more over empty = grind (arith, common_steps, same_fabric, cases_lt)
+    not_over_past more over empty =
+        let same = λ (none : next - slot ≡ 0). rw none at rested.slots in grind (arith, common_steps, cases_lt, same)
 
   -- ## A slot
 
