@@ -1,7 +1,7 @@
 -- The lines of a phase, told one after another. Their inputs rise, so where a line has its turn, those before it are of
 -- lesser inputs and those behind it of greater ones: it is the line of its input, and an output that is taken then is
 -- taken by a lesser input's line.
-use Rattle.cq_audit.proofs.Terms.{common_steps, rules, ◌≡◌, ◌≢◌, ℕ, ◌+◌, ◌<◌, ◌≤◌, ◌⊎◌, List, [], ◌∷◌, ◌++◌, length, map, get_or, take, drop, None, Some, refl, sym, ◌∙◌, arith, replicate, AllByRecursion, range_with_len, ⊎_elim, cases_eq, cond_both, eq-eqb, eqb-true, length-map, length-replicate, length-set, get_or-set_same, get_or-set_other, ext_get_or, get_or-map-range_with_len, length-map-range_with_len, take-append-drop, take_all, take_more, drop_more, find-append, all_back, all_weaker, Queued, Transfer, Waiting, cells_of, list_of, Partners, partner_of, with_pair, IsFreeOutput, nobody, IsOf, AreRight, IsFirstWrong, IsWrongLine, RiseByInput, first_id, line_of_input, output_told, told, get_or-map}
+use Rattle.cq_audit.proofs.Terms.{common_steps, rules, ◌≡◌, ◌≢◌, ℕ, ◌+◌, ◌<◌, ◌≤◌, ◌⊎◌, List, [], ◌∷◌, ◌++◌, length, map, get_or, take, drop, None, Some, refl, sym, ◌∙◌, arith, replicate, AllByRecursion, range_with_len, ⊎_elim, cases_eq, cond_both, eq-eqb, eqb-true, length-map, length-replicate, length-set, get_or-set_same, get_or-set_other, ext_get_or, get_or-map-range_with_len, length-map-range_with_len, take-append-drop, take_more, drop_more, find-append, all_back, all_weaker, Queued, Transfer, Waiting, cells_of, list_of, Partners, partner_of, with_pair, IsFreeOutput, nobody, IsOf, AreRight, IsFirstWrong, IsWrongLine, RiseByInput, first_id, line_of_input, output_told, told, get_or-map}
 use Rattle.cq_audit.specs.Pairs.{CanBeJoined}
 
 -- the list of an input that is one
@@ -37,11 +37,6 @@ pub record ToldBy (lists : List (List Queued)) (lines : List Transfer) (m : Part
 pub none_told : (lists : List (List Queued)) (ports : ℕ) → ports ≡ length lists →
     ToldBy lists [] (replicate ports None)
 none_told lists ports e = grind (arith, common_steps, length-replicate, nobody)
-
--- all lines were looked at
-pub at_end : {lists : List (List Queued)} {lines : List Transfer} {n : ℕ} {m : Partners} →
-    ToldBy lists (take n lines) m → length lines ≤ n → ToldBy lists lines m
-at_end had all = grind (arith, common_steps, take_all)
 
 pub all_told : (lists : List (List Queued)) (lines : List Transfer) (m : Partners) (ports : ℕ) →
     ports ≡ length lists → ToldBy lists lines m → m ≡ told ports lines
@@ -88,16 +83,13 @@ module _ (lists : List (List Queued)) (lines front rest : List Transfer) (t : Tr
   sides : AllByRecursion (λ u. u.input < t.input) front × AllByRecursion (λ u. t.input < u.input) rest
   sides = both_sides t rest front (rw parts at rise)
 
-  less : AllByRecursion (λ u. u.input < t.input) front
-  less = sides.0
-
   -- it is wrong
   pub wrong_line : (first_id t.output (list_of lists t.input) ≢ Some t.id)
       ⊎ ((k : ℕ) × (partner_of m k ≡ Some t.output)) → IsFirstWrong lists lines t.input
   wrong_line why =
-      let same = lesser_line front t less rest sides.1 in
-      let own = own_line front t less rest in
-      let before = told_before front t less in
+      let same = lesser_line front t sides.0 rest sides.1 in
+      let own = own_line front t sides.0 rest in
+      let before = told_before front t sides.0 in
       rw parts (record {
         wrong = search (arith, rules, same, own, before, had.told);
         least = λ k below wrong. had.right k
@@ -108,9 +100,9 @@ module _ (lists : List (List Queued)) (lines front rest : List Transfer) (t : Tr
   pub right_line : t.input < length m → first_id t.output (list_of lists t.input) ≡ Some t.id →
       IsFreeOutput m t.output → ToldBy lists (front ++ t ∷ []) (with_pair m t.input t.output)
   right_line inside names free =
-      let own = own_line front t less [] in
-      let other = other_line front t less in
-      let before = told_before front t less in
+      let own = own_line front t sides.0 [] in
+      let other = other_line front t sides.0 in
+      let before = told_before front t sides.0 in
       record {
         size = search (arith, rules, length-set, had.size);
         told = λ i. grind (arith, common_steps, get_or-set_same, get_or-set_other, had.told, own, other, cases_eq);
@@ -145,7 +137,9 @@ module _ (ws : List Waiting) (lines : List Transfer) (n : ℕ) (d : Transfer) (m
   wrong_at why = wrong_line (cells_of ws) lines (take n lines) (drop (n + 1) lines) line m parts rise had (rw list why)
 
   pub can_join : IsFreeOutput m line.output → CanBeJoined m line.input line.output
-  can_join free = grind (arith, common_steps, free_before, less, parts, long, own)
+  can_join free =
+      let apart = both_sides line (drop (n + 1) lines) (take n lines) (rw parts at rise) in
+      grind (arith, common_steps, free_before, long, own)
 
   pub right_at : first_id line.output w.cells ≡ Some line.id → IsFreeOutput m line.output →
       ToldBy (cells_of ws) (take (n + 1) lines) (with_pair m line.input line.output)

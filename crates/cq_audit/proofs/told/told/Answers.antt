@@ -1,11 +1,11 @@
-use Rattle.cq_audit.proofs.Terms.{arith, rules, length-map, cells_of}
-use Rattle.cq_audit.proofs.TellingLines.{ToldBy, all_told, at_end, can_join, right_at, wrong_at}
+use Rattle.cq_audit.proofs.Terms.{arith, rules, length-map, cells_of, take_all}
+use Rattle.cq_audit.proofs.TellingLines.{ToldBy, all_told, can_join, right_at, wrong_at}
 use Rattle.cq_audit.proofs.told.told.Goals as goal
 use Rattle.cq_audit.proofs.told.told.Goals.{After-lines}
 
 -- all lines are looked at in the end
 ended : (c : After-lines) → ToldBy (cells_of c.args.lists.now) c.args.lines.now c.lines.pairs
-ended c = at_end c.lines.invariant (omega arith)
+ended c = search (arith, rules, take_all)
 
 pub returns-then-not-is_right-clause-wrong : goal.returns-then-not-is_right-clause-wrong
 returns-then-not-is_right-clause-wrong c = wrong_at _ _ _ _ _ _ c.lines-test.true c.requires.lines c.requires.rise
