@@ -2,7 +2,7 @@
 -- first, and those of its phases are among the others.
 -- The lines of a log, phase by phase. They are in order, so where none is of an earlier phase those of this one
 -- stand at the front, in order of input, and the others are of later ones.
-use Rattle.cq_audit.proofs.Terms.{rules, ◌≡◌, ℕ, ◌+◌, ◌<◌, ◌≤◌, Bool, true, false, List, [], ◌∷◌, ◌++◌, refl, arith, suc, ◌⊎◌, take, drop, ap, ⊎_elim, common_steps, AllByRecursion, filter, position_or_len, and_from, and_left, and_parts, and_right, cases_lt, cond-false, cond_both, eq-eqb, eqb-true, false_from_ne_true, le-ltb, lt-ltb, ltb-true, ne_eqb, cases_Bool, append-nil, append_cancel_left, filter-append, Transfer, AreInOrder, IsTransferBefore, AllBehind, NoneBefore, in_phase, is_at, AreParted, FirstIsLeast, before_slot, all_weaker, not, first_here, first_later, all_front, all_give, filter_all, filter_none}
+use Rattle.cq_audit.proofs.Terms.{rules, ◌≡◌, ℕ, ◌+◌, ◌<◌, ◌≤◌, Bool, true, false, List, [], ◌∷◌, ◌++◌, refl, arith, suc, ◌⊎◌, take, drop, ap, ⊎_elim, common_steps, AllByRecursion, filter, position_or_len, and_from, and_left, and_parts, and_right, cases_lt, cond-false, cond_both, eq-eqb, eqb-true, false_from_ne_true, le-ltb, lt-ltb, ltb-true, ne_eqb, cases_Bool, append-nil, append_cancel_left, filter-append, Transfer, AreInOrder, IsTransferBefore, AllBehind, NoneBefore, in_phase, is_at, AreParted, FirstIsLeast, before_slot, all_weaker, not, first_here, first_later, all_front, all_give, filter_all, filter_none, recursion_from_All}
 
 -- ## What is kept of lines by a test
 
@@ -88,8 +88,7 @@ module _ (ports : ℕ) where
   none_from slot (t ∷ lines) order all = grind (arith, common_steps, cases_lt, none_from slot lines order.2 all.1)
 
   pub none_first : (lines : List Transfer) → AreInOrder ports lines → NoneBefore 0 1 lines
-  none_first [] order = tt
-  none_first (t ∷ lines) order = grind (arith, common_steps, cases_lt, none_first lines order.2)
+  none_first lines order = none_from 0 lines order (recursion_from_All _ lines (λ k d lt. omega arith))
 
   -- behind the second phase of a slot they are of later slots
   pub none_next : (slot : ℕ) (lines : List Transfer) → AreInOrder ports lines → AllBehind slot 2 lines →
