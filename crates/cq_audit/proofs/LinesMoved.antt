@@ -34,9 +34,8 @@ module _ (lists : List (List Queued)) (lines : List Transfer) where
   told_at i inside = get_or-map-range_with_len (output_told lines) 0 (length lists) i i None inside (omega arith)
 
   -- a partner is that of an input, and its line names it
-  module _ (i j : ℕ) (is : partner_of (told (length lists) lines) i ≡ Some j) where
-    pub told_line : output_told lines i ≡ Some j
-    told_line = search (arith, rules, told_at, get_or_past, told_size, cases_lt)
+  told_line : (i j : ℕ) → partner_of (told (length lists) lines) i ≡ Some j → output_told lines i ≡ Some j
+  told_line i j is = search (arith, rules, told_at, get_or_past, told_size, cases_lt)
 
   module _ (right : AreRight lists lines) where
     -- the line of an input names its first cell for an output, so there is one

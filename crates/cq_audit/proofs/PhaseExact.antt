@@ -8,10 +8,7 @@ use Rattle.cq_audit.proofs.LinesMoved.{line_later, some_of, told_at, told_size}
 -- ## The line of an input among those of all
 
 -- what a function notes of an input is a transfer of it
-abbrev OwnInput : (ℕ → Option Transfer) → Type 0
-OwnInput h = (i : ℕ) (t : Transfer) → h i ≡ Some t → t.input ≡ i
-
-module _ (h : ℕ → Option Transfer) (own : OwnInput h) where
+module _ (h : ℕ → Option Transfer) (own : (i : ℕ) (t : Transfer) → h i ≡ Some t → t.input ≡ i) where
   none_here : (i a n : ℕ) → (i < a) ⊎ (a + n ≤ i) → line_of_input i (filter_map h (range_with_len a n)) ≡ None
   none_here i a zero out = refl
   none_here i a (suc n) out = grind (arith, common_steps, line_later, none_here i (a + 1) n (grind arith))
