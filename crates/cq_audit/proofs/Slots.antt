@@ -33,9 +33,6 @@ module _ (M : List ℕ → Machine) {slot : ℕ} {cells : List (Option Cell)} (r
   abbrev machines : List Machine
   machines = map M ranks.fixed
 
-  many : length machines ≡ length ranks.fixed
-  many = length-map ranks.fixed M
-
   pub come_to_ports : ComeToPorts (length l.limits) cells
   come_to_ports = grind (arith, common_steps, length-map)
 
