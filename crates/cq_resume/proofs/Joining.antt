@@ -82,11 +82,9 @@ module _ (w : Switch) where
   unfolding arriving_from
   stops_past slot zero count at f middle [] rs fault there x y =
       let here : at ≡ slot = omega arith in (count, rs, rw (here, x) y)
-  stops_past slot (suc n) zero at f middle ps rs fault there x y = absurd y
-  stops_past slot (suc n) (suc count) at f middle (p ∷ ps) [] fault there x y = absurd (search (arith, rules))
   stops_past slot (suc n) (suc count) at f middle (p ∷ ps) (r ∷ rs) fault there x y =
       search (arith, rules, one.slot slot, stops_past (slot + 1) n count at)
-  stops_past slot n count at f middle ps rs fault there x y = absurd x
+  stops_past slot n count at f middle ps rs fault there x y = grind (arith, common_steps)
 
   -- of two runs to their ends neither is shorter
   no_longer : (next : ℕ) (start g h : Marked Fabric) (rs ss : List LimitedRecord) → RunsOn w next start rs g →
