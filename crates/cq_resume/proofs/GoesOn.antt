@@ -5,7 +5,7 @@ use Rattle.cq_resume.proofs.Terms.{common_steps, rules, ◌≡◌, ◌≢◌, �
 use Rattle.cq_ideal.proofs.Waiting.{total, total_more, total_none}
 use Rattle.cq_resume.proofs.Cut.{rising_kept}
 pub use Rattle.cq_resume.proofs.Coming.{FoundAt, found_at}
-pub use Rattle.cq_resume.proofs.Zipped.{Differ, sifted}
+pub use Rattle.cq_resume.proofs.Zipped.{Differ, is_cell_of, sifted}
 use Rattle.cq_resume.specs.Sound.{IsBufferedBefore, IsSentBefore}
 use Rattle.cq_resume.specs.Finding.{IsBufferedBefore as IsFoundBefore}
 
@@ -42,17 +42,9 @@ pub some_cell : (o : Option Cell) → IsSome o → (cell : Cell) × (o ≡ Some 
 some_cell None some = absurd (let P : ⊥ = cc in P)
 some_cell (Some cell) some = (cell, refl)
 
--- what the cell of a name is
-pub record IsCellOf (came : List Arrival) (c : Named) (q : Queued) : Type 0 where
-  pub arrives : arriving_cell came c ≡ Some q.cell
-  pub key : q.key ≡ key_of c
-
 -- a cell with the key of a name
 abbrev pub cell_with : Named → Cell → Queued
 cell_with c cell = record { cell = cell; key = key_of c }
-
-pub is_cell_of : (came : List Arrival) (c : Named) (q : Queued) → queued_of came c ≡ Some q → IsCellOf came c q
-is_cell_of came c q is = search (arith, rules)
 
 -- a name is of an arrival
 abbrev IsOfArrival : Named → Arrival → Type 0

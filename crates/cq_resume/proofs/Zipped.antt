@@ -68,12 +68,16 @@ module _ {A B : Type 0} (R : A → B → Type 0) where
 
 -- ## One name
 
-pub record Facts (came : List Arrival) (next : ℕ) (c : Named) (q : Queued) : Type 0 where
-  pub early : c.slot < next
+-- what the cell of a name is
+pub record IsCellOf (came : List Arrival) (c : Named) (q : Queued) : Type 0 where
   pub arrives : arriving_cell came c ≡ Some q.cell
   pub key : q.key ≡ key_of c
 
-pub told_facts : (came : List Arrival) (next : ℕ) (c : Named) (q : Queued) → IsTold came next c q → Facts came next c q
+pub is_cell_of : (came : List Arrival) (c : Named) (q : Queued) → queued_of came c ≡ Some q → IsCellOf came c q
+is_cell_of came c q is = search (arith, rules)
+
+pub told_facts : (came : List Arrival) (next : ℕ) (c : Named) (q : Queued) → IsTold came next c q →
+    (c.slot < next) × IsCellOf came c q
 told_facts came next c q is = search (arith, rules, ltb-true, cases_Bool)
 
 -- those of an input are the cells of its names
@@ -87,7 +91,8 @@ sifted came i (c ∷ xs) = grind (arith, common_steps, sifted came i xs)
 
 -- a name and the found one stand for the same arrival
 pub record IsOf (came : List Arrival) (next : ℕ) (c : Named) (n : Name) : Type 0 where
-  pub facts : Facts came next c n.queued
+  pub early : c.slot < next
+  pub cell : IsCellOf came c n.queued
 
 zip_images : {A B C D : Type 0} (R : A → B → Type 0) (S : C → D → Type 0) (f : A → C) (g : B → D) →
     ((x : A) (y : B) → R x y → S (f x) (g y)) → (xs : List A) (ys : List B) → AllZip R xs ys →
