@@ -214,7 +214,7 @@ module _ {listed buffered : List Queued} {n thread now : ℕ} (e : Queued) {begu
   -- one cell more, or one that has too little
   pub threads_next : now < cushion → Threads listed buffered (n + 1) (now + 1)
   threads_next less =
-      grind (arith, common_steps, known, at.inside, now_counted, get_or_default, filter_more, length-append, get_or_from_slice_get)
+      grind (arith, common_steps, now_counted, get_or_default, filter_more, length-append, get_or_from_slice_get)
 
   pub threads_stop : cushion ≤ now → (false ≡ true) ↔ SlackStands listed buffered
   threads_stop short = grind (arith, common_steps, now_counted, slice_get-get_or, at)

@@ -28,9 +28,9 @@ module _ (t : Tables) (captures : List (List Captured)) (input : ℕ) where
   behind k i zero rest last = grind (arith, common_steps)
   behind k i (suc n) rest last = grind (arith, common_steps, goes_on, behind k (i + 1) n rest)
 
-  numbers_are : (k i : ℕ) → ((cell_in k i).cell.id.packet ≡ k) × ((cell_in k 0).cell.id.index ≡ 0)
+  named_by : (k i : ℕ) → ((cell_in k i).cell.id.packet ≡ k) × ((cell_in k 0).cell.id.index ≡ 0)
   unfolding cell_of
-  numbers_are k i = (refl, refl)
+  named_by k i = (refl, refl)
 
   abbrev packets_from : ℕ → ℕ → List Arrival
   packets_from k m = flat_map (arrivals_of t captures input) (range_with_len k m)
@@ -39,7 +39,7 @@ module _ (t : Tables) (captures : List (List Captured)) (input : ℕ) where
   one_packet : (k n : ℕ) (rest : List Arrival) → cells t captures input k ≡ suc n →
       ((a : Arrival) → a.cell.id.packet < k + 1 → a.slot < start t captures input (k + 1) → ComeBehind a rest) →
       ComeBehind (cell_in k 0) (map (cell_in k) (range_with_len (0 + 1) n) ++ rest)
-  one_packet k n rest many later = grind (arith, common_steps, numbers_are, ends_before, behind)
+  one_packet k n rest many later = grind (arith, common_steps, named_by, ends_before, behind)
 
   come_behind : (k m : ℕ) (a : Arrival) → a.cell.id.packet < k → a.slot < start t captures input k →
       ComeBehind a (packets_from k m)
@@ -53,7 +53,7 @@ module _ (t : Tables) (captures : List (List Captured)) (input : ℕ) where
   line_of zero = tt
   line_of (suc m) =
       let some = some_cells 0 in
-      search (arith, rules, numbers_are 0 0, one_packet 0 (cells t captures input 0 - 1) (packets_from (0 + 1) m), come_behind)
+      search (arith, rules, named_by, one_packet 0 (cells t captures input 0 - 1) (packets_from (0 + 1) m), come_behind)
 
   pub input_is_line : IsLine (arrivals_at t captures input)
   unfolding arrivals_at

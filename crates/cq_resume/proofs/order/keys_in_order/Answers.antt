@@ -18,7 +18,8 @@ places-init c = rw c.none_seen-last.ensures (lanes_first of_input of_output IsBe
 
 pub places-preserved : goal.places-preserved
 places-preserved c = lanes_next of_input of_output IsBefore _ c.places.invariant
-    (here (goal.at.places-preserved c).After-may_follow) c.requires.outputs _ (get_or_default _ _ _ _) c.may_follow.result c.may_follow.ensures urgent_on c.if-not-may_follow.false
+    (here (goal.at.places-preserved c).After-may_follow) c.requires.outputs _ (get_or_default _ _ _ _)
+    c.may_follow.result c.may_follow.ensures urgent_on c.if-not-may_follow.false
 
 pub returns-then-not-may_follow : goal.returns-then-not-may_follow
 returns-then-not-may_follow c = lanes_stop of_input of_output IsBefore _
