@@ -1,4 +1,4 @@
-use Rattle.cq_resume.proofs.Terms.{◌∙◌, rules, IsPartitionPoint-from_clause, IsPartitionPoint, true, false, ◌≡◌}
+use Rattle.cq_resume.proofs.Terms.{arith, rules, IsPartitionPoint-from_clause, IsPartitionPoint, true, false, ◌≡◌}
 use Rattle.cq_resume.proofs.Zipped.{ahead_parts, is_ahead, named_here, named_past}
 use Rattle.cq_resume.proofs.found.is_named.Goals as goal
 use Rattle.cq_resume.proofs.found.is_named.Goals.{After-partition_point-at}
@@ -15,6 +15,4 @@ returns-then-at-names c = named_past c.args.input c.args.slot c.args.names.now c
     c.if-at-names.true
 
 pub returns : goal.returns
-returns c = c.is_of.ensures ∙ named_here c.args.input c.args.slot c.args.names.now c.requires
-    c.partition_point-at.result c.partition_point-at.ensures.bound
-    (point (goal.at.returns c).After-partition_point-at) _ c.if-at-names.false
+returns c = search (arith, rules, named_here, point (goal.at.returns c).After-partition_point-at)

@@ -11,14 +11,12 @@ pub places-init : goal.places-init
 places-init c = grind (arith, common_steps)
 
 pub places-preserved : goal.places-preserved
-places-preserved c = threads_next _ c.places.invariant
-    (here (goal.at.places-preserved c).After-cushion_of-cushion)
-    c.cushion_of-cushion.result c.cushion_of-cushion.ensures c.if-cushion-thread.false
+places-preserved c =
+    search (arith, rules, threads_next, here (goal.at.places-preserved c).After-cushion_of-cushion)
 
 pub returns-then-cushion-thread : goal.returns-then-cushion-thread
-returns-then-cushion-thread c = threads_stop _ c.places.invariant
-    (here (goal.at.returns-then-cushion-thread c).After-cushion_of-cushion)
-    c.cushion_of-cushion.result c.cushion_of-cushion.ensures c.if-cushion-thread.true
+returns-then-cushion-thread c =
+    search (arith, rules, threads_stop, here (goal.at.returns-then-cushion-thread c).After-cushion_of-cushion)
 
 pub returns : goal.returns
 returns c = grind (arith, common_steps, slice_get_within, c.places.invariant.stand)
