@@ -338,10 +338,6 @@ inputs_low s range =
     let sent = of_images (λ (d : Sent). d.cell) (λ (c : Named). c.input < s.head.ports) s.sent in
     grind (arith, common_steps, all_weaker, all_both, sent, s.listed)
 
--- what is tested and fails does not hold
-pub denied : {P : Type 0} {b : Bool} → (b ≡ true) ↔ P → b ≡ false → P → ⊥
-denied test fails holds = grind (arith, common_steps)
-
 -- ## One clause after another
 
 module _ (w : Switch) (s : State) where

@@ -1,5 +1,4 @@
 use Rattle.cq_resume.proofs.Terms.{arith, rules, ◌≡◌, ◌↔◌, true, AreOrdered, HaveRoom}
-use Rattle.cq_resume.proofs.Judging.{denied}
 use Rattle.cq_resume.proofs.sound.judge_places.Goals as goal
 use Rattle.cq_resume.proofs.sound.judge_places.Goals.{After-have_slack, After-in_order}
 
@@ -12,12 +11,12 @@ room_is c = search (arith, rules)
 
 pub returns-then-not-in_order-clause-refused : goal.returns-then-not-in_order-clause-refused
 returns-then-not-in_order-clause-refused c =
-    search (arith, rules, denied, order_is (goal.at.returns-then-not-in_order-clause-refused c).After-in_order)
+    search (arith, rules, order_is (goal.at.returns-then-not-in_order-clause-refused c).After-in_order)
 
 pub returns-then-not-have_slack-clause-refused : goal.returns-then-not-have_slack-clause-refused
 returns-then-not-have_slack-clause-refused c =
     let at = goal.at.returns-then-not-have_slack-clause-refused c in
-    search (arith, rules, denied, order_is at.After-in_order, room_is at.After-have_slack)
+    search (arith, rules, order_is at.After-in_order, room_is at.After-have_slack)
 
 pub returns-clause-stand : goal.returns-clause-stand
 returns-clause-stand c =
