@@ -40,16 +40,6 @@ outputs_long : (x : Figures) (r : SlotRecord) → length (figures_after x r).out
 unfolding figures_after
 outputs_long x r = length-by_place (output_after r) x.outputs
 
--- the figures with a record more, by their parts
-pub figures_are : (x y : Figures) (r : SlotRecord) (p1 p2 : ℕ) → p1 ≡ proposals (orders_of r.arrived.inputs) r.first →
-    p2 ≡ proposals (orders_of r.sent.inputs) r.second →
-    y.slots ≡ (if list_any is_some r.gone then max x.slots (r.slot + 1) else x.slots) →
-    y.proposals ≡ x.proposals + (p1 + p2) → y.most ≡ max x.most (max p1 p2) →
-    y.inputs ≡ map (λ at. input_after r at.0 at.1) (enumerate_from 0 x.inputs) →
-    y.outputs ≡ map (λ at. output_after r at.0 at.1) (enumerate_from 0 x.outputs) → y ≡ figures_after x r
-unfolding figures_after proposals_in
-figures_are x y r p1 p2 first second slots all most inputs outputs = grind (arith, common_steps)
-
 -- ## What is known of a slot
 
 -- the first cells of the pairs of the input-best matching have crossed, and there were so many proposals
@@ -130,16 +120,6 @@ module _ {ms : List Machine} {slot : ℕ} {q0 : Queues} {ranks0 : List (List ℕ
     counted_inputs looks seen = by_place_same (λ k. input_counted looks q1 k (came_to came k)) (input_after of_slot) 0
         x.inputs (λ i y k e at. search (arith, rules, input_told))
 
-    output_told : (j : ℕ) (y : OutputFigures) →
-        output_counted slot (came_to (fronts q2.buffers) j) y ≡ output_after of_slot j y
-    unfolding output_counted output_after
-    output_told j y = refl
-
-    counted_outputs :
-        map (λ at. output_counted slot (came_to (fronts q2.buffers) at.0) at.1) (enumerate_from 0 x.outputs)
-        ≡ map (λ at. output_after of_slot at.0 at.1) (enumerate_from 0 x.outputs)
-    counted_outputs = grind (arith, common_steps, by_place_same, output_told)
-
     same : SendsAlike ms slot cells known.ideal (fronts q2.buffers) (fabric_of q4 ranks2)
     same = alike known arrived room (moved_of crossed1) sent (moved_of crossed2)
 
@@ -153,8 +133,7 @@ module _ {ms : List Machine} {slot : ℕ} {q0 : Queues} {ranks0 : List (List ℕ
         AreCounted (λ i. input_counted looks q1 i (came_to came i)) slot (fronts q2.buffers) p1 p2 x y →
         Whole ms slot cells x y (fabric_of q0 ranks0) (fabric_of q4 ranks2) known.ideal (fronts q2.buffers)
         (transfers_of m1 q1.inputs slot 1 ++ transfers_of m2 q3.inputs slot 2)
-    unfolding transfers_in
+    unfolding transfers_in output_counted output_after figures_after proposals_in
     whole_slot looks seen y counts =
-        let figures = figures_are x y of_slot p1 p2 crossed1.counted crossed2.counted counts.slots counts.proposed
-        counts.most (counts.inputs ∙ counted_inputs looks seen) (counts.outputs ∙ counted_outputs) in
+        let figures : y ≡ figures_after x of_slot = grind (arith, common_steps, counted_inputs looks seen) in
         search (rules, is_slot, in_step, seen_after, same)
