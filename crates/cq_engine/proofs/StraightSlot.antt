@@ -5,7 +5,7 @@
 -- transfer empties the lists and puts each cell alone into the buffer of its output, which sends it. After that nothing
 -- waits and nothing is offered, and the second matching is empty. The lists and buffers in between are made here for
 -- the proof alone.
-use Rattle.cq_engine.proofs.Terms.{common_steps, rules, ◌≡◌, ℕ, ◌+◌, ◌-◌, ◌*◌, ◌<◌, ◌≤◌, List, [], ◌∷◌, ◌++◌, length, map, drop, get_or, replicate, Option, Some, None, refl, sym, ap, ◌∙◌, ⊎_elim, arith, All, IfSome, min, enumerate_from, filter_map, range_with_len, reduce, sum_by, option_map, option_to_list, cases_lt, cond_both, eq-eqb, row_fits, same_Some, append-nil, ext_get_or, get_or_past, length-map, get_or-map-range_with_len, length-map-range_with_len, sum-map, sum_by-cons, Cell, Queued, Transfer, Figures, InputFigures, cushion, first_for, Machine, all_told, fronts, rests, LimiterView, list_of, orders_of, output_order, Moves, list_taken, transfers_of, outputs_of, ports, IsListed, Partners, partner_of, partner_place, proposals, IsFreeOutput, IsInputBest, IsStable, cushion_of, slacks, came_to, HoldsFabric, Queues, fabric_of, AreRanked, BuffersHaveRoom, HaveArrived, HaveJudged, HaveSent, ListsHaveRoom, fits_lists, held_before, keyed, IsInStep, IsSeen, arriving_slack, input_counted, slack_seen, GoStraight, crossing, crossings, input_passed, Look, among, place_head, none_unless, kept_more, kept_few}
+use Rattle.cq_engine.proofs.Terms.{common_steps, rules, ◌≡◌, ℕ, ◌+◌, ◌-◌, ◌*◌, ◌<◌, ◌≤◌, List, [], ◌∷◌, ◌++◌, length, map, drop, get_or, replicate, Option, Some, None, refl, sym, ap, ◌∙◌, ⊎_elim, arith, All, IfSome, min, enumerate_from, filter_map, range_with_len, reduce, sum_by, option_map, cases_lt, cond_both, eq-eqb, row_fits, same_Some, append-nil, ext_get_or, get_or_past, length-map, get_or-map-range_with_len, length-map-range_with_len, sum-map, sum_by-cons, Cell, Queued, Transfer, Figures, InputFigures, first_for, Machine, all_told, fronts, rests, LimiterView, list_of, orders_of, output_order, Moves, list_taken, transfers_of, ports, IsListed, Partners, partner_of, partner_place, proposals, IsFreeOutput, IsInputBest, IsStable, cushion_of, slacks, came_to, HoldsFabric, Queues, fabric_of, AreRanked, BuffersHaveRoom, HaveArrived, HaveJudged, HaveSent, ListsHaveRoom, fits_lists, held_before, keyed, IsInStep, IsSeen, arriving_slack, input_counted, slack_seen, GoStraight, crossing, crossings, input_passed, Look, among, place_head, none_unless, outputs_at, kept_more, kept_few}
 use Rattle.std.proofs.Math.ListN.{get_or-map}
 use Rattle.cq_engine.specs.declared.measure.Look.TheVariants as look
 use Rattle.cq_engine.proofs.NoOffers.{none_best, none_proposed, nothing_moves, nothing_noted}
@@ -70,23 +70,21 @@ rests_alone buffers gone long empty =
 
 -- ## What is noted, input by input
 
-crossings_more : (slot n : ℕ) (came : List (Option Queued)) →
-    crossings slot (n + 1) came ≡ crossings slot n came ++ option_to_list (crossing slot n (came_to came n))
-unfolding crossings
-crossings_more slot n came = kept_more (λ i. crossing slot i (came_to came i)) n
-
 pub crossings_none : (slot : ℕ) (came : List (Option Queued)) → crossings slot 0 came ≡ []
 unfolding crossings
 crossings_none slot came = refl
 
 pub crossings_past : (slot n : ℕ) (came : List (Option Queued)) → came_to came n ≡ None →
     crossings slot (n + 1) came ≡ crossings slot n came
-crossings_past slot n came none = grind (arith, common_steps, crossings_more, append-nil)
+unfolding crossings
+crossings_past slot n came none =
+    let more = kept_more (λ i. crossing slot i (came_to came i)) n in grind (arith, common_steps, more, append-nil)
 
 pub crossings_one : (slot n : ℕ) (came : List (Option Queued)) (c : Queued) → came_to came n ≡ Some c →
     let t : Transfer = record { slot = slot; phase = 1; input = n; output = c.cell.output; id = c.cell.id } in
     crossings slot (n + 1) came ≡ crossings slot n came ++ t ∷ []
-crossings_one slot n came c is = grind (arith, common_steps, crossings_more)
+unfolding crossings
+crossings_one slot n came c is = grind (arith, common_steps, kept_more (λ i. crossing slot i (came_to came i)) n)
 
 -- one an input at most
 pub crossings_few : (slot n : ℕ) (came : List (Option Queued)) → length (crossings slot n came) ≤ n
@@ -106,9 +104,6 @@ module _ {ms : List Machine} {slot : ℕ} {q : Queues} {ranks0 : List (List ℕ)
   -- how many inputs there are
   abbrev n : ℕ
   n = length q.inputs
-
-  square : length q.buffers ≡ n
-  square = known.agrees.fabric.square
 
   none_past : (i : ℕ) → n ≤ i → came_to came i ≡ None
   none_past i past = grind (arith, common_steps, fits_lists known lists_room i)
@@ -134,20 +129,15 @@ module _ {ms : List Machine} {slot : ℕ} {q : Queues} {ranks0 : List (List ℕ)
   filled =
       record { inputs = q.inputs; buffers = map alone gone; from_inputs = q.from_inputs; to_outputs = q.to_outputs }
 
-  lists_long : length lists ≡ n
-  lists_long = length-map-range_with_len (λ i. alone (came_to came i)) 0 n
-
-  pairs_long : length pairs ≡ n
-  pairs_long = length-map-range_with_len (λ i. wanted (came_to came i)) 0 n
+  ruleset by_input = (get_or-map-range_with_len, get_or_past, length-map-range_with_len, none_past, cases_lt)
 
   list_is : (i : ℕ) → list_of lists i ≡ alone (came_to came i)
-  list_is i = grind (arith, common_steps, get_or-map-range_with_len, get_or_past, lists_long, none_past, cases_lt)
+  list_is i = grind (arith, common_steps, by_input)
 
   partner_is : (i : ℕ) → partner_of pairs i ≡ wanted (came_to came i)
-  partner_is i = grind (arith, common_steps, get_or-map-range_with_len, get_or_past, pairs_long, none_past, cases_lt)
+  partner_is i = grind (arith, common_steps, by_input)
 
-  order_is : (i : ℕ) → outputs_of (orders_of lists) i ≡ output_order (alone (came_to came i))
-  order_is i = let nil : List Queued = [] in get_or-map output_order lists i nil ∙ ap output_order (list_is i)
+  ruleset listed_facts = (length-map, length-map-range_with_len, outputs_at, list_is, partner_is)
 
   -- the cell of a pair
   pair_cell : (i j : ℕ) → partner_of pairs i ≡ Some j →
@@ -163,31 +153,29 @@ module _ {ms : List Machine} {slot : ℕ} {q : Queues} {ranks0 : List (List ℕ)
   -- ## The first matching
 
   at_best : (i : ℕ) → partner_place (orders_of lists) pairs i ≡ 0
-  at_best i = grind (arith, common_steps, order_is, partner_is, place_head)
+  at_best i = grind (arith, common_steps, outputs_at, list_is, partner_is, place_head)
 
   once : (i k j : ℕ) → partner_of pairs i ≡ Some j → partner_of pairs k ≡ Some j → i ≡ k
-  once i k j h g =
-      search (arith, rules, keyed known, pair_cell, pair_gone)
+  once i k j h g = search (arith, rules, keyed known, pair_cell, pair_gone)
 
   pairs_stable : IsStable (orders_of lists) pairs
-  pairs_stable =
-      search (rules, length-map, pairs_long, lists_long, offers_wanted, wants_offered, order_is, partner_is, once)
+  pairs_stable = search (rules, listed_facts, offers_wanted, wants_offered, once)
 
   pairs_best : IsInputBest (orders_of lists) pairs
   pairs_best = record { stable = pairs_stable; best = λ m stable i. let first = at_best i in omega arith }
 
   all_proposed : length (crossings slot n came) ≡ proposals (orders_of lists) pairs
   unfolding crossings
-  all_proposed = search (rules, length-map, lists_long, sum-map, sum_sizes, place_head, order_is, partner_is)
+  all_proposed = search (rules, listed_facts, sum-map, sum_sizes, place_head)
 
   all_noted : transfers_of pairs lists slot 1 ≡ crossings slot n came
   unfolding crossings transfers_of
-  all_noted = grind (arith, common_steps, pairs_long, same_kept, list_is, partner_is, first_alone)
+  all_noted = grind (arith, common_steps, length-map-range_with_len, same_kept, list_is, partner_is, first_alone)
 
   -- ## The phases
 
   arrived : HaveArrived q came listed
-  arrived = grind (arith, common_steps, lists_long, list_is, no_list)
+  arrived = grind (arith, common_steps, length-map-range_with_len, list_is, no_list)
 
   buffer_is : (j : ℕ) → list_of (map alone gone) j ≡ alone (came_to gone j)
   buffer_is j = let none : Option Queued = None in get_or-map alone gone j none
@@ -198,27 +186,23 @@ module _ {ms : List Machine} {slot : ℕ} {q : Queues} {ranks0 : List (List ℕ)
       none_unless (came_to gone j) (λ c is. ⊎_elim (search (rules, straight.sent.only j c, free, pair_of))
       (λ past. grind (arith, common_steps, get_or_past)) (cases_lt j n))
 
-  ruleset pair_facts = (partner_is, list_is, pair_cell, buffer_is, pair_gone, none_sent)
+  ruleset pair_facts = (listed_facts, pair_cell, buffer_is, pair_gone, none_sent)
 
   moves : Moves pairs lists q.buffers q.inputs (map alone gone)
-  moves =
-      search (arith, rules, pair_facts, lists_long, length-map, square, no_list, left_alone, first_alone, no_buffer)
+  moves = search (arith, rules, pair_facts, no_list, left_alone, first_alone, no_buffer)
 
   crossed : HaveCrossed pairs (length (crossings slot n came)) listed filled
   crossed = record { best = pairs_best; counted = all_proposed; moves = moves }
 
   sent : (ranks2 : List (List ℕ)) → ranks2 ≡ all_told ms gone ranks1 → HaveSent ms listed ranks1 filled ranks2 q
-  sent ranks2 told = grind (arith, common_steps, rests_alone, square, fronts_alone)
+  sent ranks2 told = grind (arith, common_steps, rests_alone, fronts_alone)
 
   -- nothing is offered then
   abbrev nobody : Partners
   nobody = replicate (ports (orders_of q.inputs)) None
 
-  none_offered : (i : ℕ) → outputs_of (orders_of q.inputs) i ≡ []
-  none_offered i = let nil : List Queued = [] in get_or-map output_order q.inputs i nil ∙ ap output_order (no_list i)
-
   crossed_again : HaveCrossed nobody 0 q q
-  crossed_again = search (rules, none_best, none_offered, none_proposed, nothing_moves)
+  crossed_again = search (rules, none_best, outputs_at, no_list, none_proposed, nothing_moves)
 
   -- ## The figures
 
@@ -226,15 +210,12 @@ module _ {ms : List Machine} {slot : ℕ} {q : Queues} {ranks0 : List (List ℕ)
   abbrev least : Option Queued → Option ℕ
   least o = option_map (λ c. 0) o
 
-  no_cushion : (c : Queued) → cushion c.key (list_of q.buffers c.cell.output) ≡ 0
-  no_cushion c = ap (cushion c.key) (no_buffer c.cell.output)
-
   arriving_least : (i : ℕ) (o : Option Queued) → arriving_slack listed i o ≡ least o
-  arriving_least i o = grind (arith, common_steps, no_cushion)
+  arriving_least i o = grind (arith, common_steps, no_buffer)
 
   all_least : (o : Option Queued) →
       reduce min (map (λ at. cushion_of (fabric_of listed []) at.1 - at.0) (enumerate_from 0 (alone o))) ≡ least o
-  all_least o = grind (arith, common_steps, no_cushion)
+  all_least o = grind (arith, common_steps, no_buffer)
 
   seen_least : (looks : Look) (i : ℕ) → slack_seen looks listed i (came_to came i) ≡ least (came_to came i)
   unfolding slacks
@@ -266,8 +247,7 @@ module _ {ms : List Machine} {slot : ℕ} {q : Queues} {ranks0 : List (List ℕ)
       AreCounted (λ i. input_passed (came_to came i)) slot gone (length (crossings slot n came)) 0 x y →
       Whole ms slot cells x y (fabric_of q ranks0) (fabric_of q ranks2) known.ideal gone (crossings slot n came)
   whole_straight room x up looks seen ranks2 told y counts =
-      let fronts_are = fronts_alone gone in
       let none = nothing_noted (ports (orders_of q.inputs)) q.inputs slot 2 in
       let long = whole_slot x up known arrived room crossed (sent ranks2 told) crossed_again looks seen y
-      (search (arith, rules, counted_passed looks x.inputs)) in
-      rw (fronts_are, none, append-nil, all_noted) at long
+      (search (arith, rules, fronts_alone, counted_passed looks x.inputs)) in
+      rw (fronts_alone gone, none, append-nil, all_noted) at long
