@@ -44,9 +44,6 @@ held_first f held square is = grind (arith, common_steps, length-map, get_or-map
 
 module _ (f : Fabric) (i : ℕ) (held : List ℕ) (so_far : HeldSoFar f i held) (inside : i < length f.inputs)
     (cells : List Queued) (here : cells ≡ list_of f.inputs i) where
-  next_waiting : (j : ℕ) → waiting_for j (take (i + 1) f.inputs) ≡ waiting_for j (take i f.inputs) + number_for j cells
-  next_waiting j = grind (arith, common_steps, take_more, waiting_push)
-
   pub cells_inside : ((k : ℕ) (c : Queued) → IsAmong c (input f k) → c.cell.output < length f.inputs) →
       All (λ c. c.cell.output < length held) cells
   cells_inside outputs k d within =
@@ -54,7 +51,7 @@ module _ (f : Fabric) (i : ℕ) (held : List ℕ) (so_far : HeldSoFar f i held) 
 
   pub held_next : (new : List ℕ) → length new ≡ length held →
       ((j : ℕ) → j < length held → get_or new j 0 ≡ get_or held j 0 + number_for j cells) → HeldSoFar f (i + 1) new
-  held_next new same counted = grind (arith, common_steps, next_waiting)
+  held_next new same counted = grind (arith, common_steps, take_more, waiting_push)
 
 pub held_last : (f : Fabric) (i : ℕ) (held : List ℕ) → HeldSoFar f i held → length f.inputs ≤ i → held ≡ fabric_held f
 held_last f i held so_far past = ext_get_or 0 held (fabric_held f) (so_far.ports ∙ sym (held_long f))
