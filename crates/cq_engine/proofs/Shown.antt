@@ -1,6 +1,6 @@
 -- What the parts of an engine show of what a slot asks. It is asked of the engine as clauses see it. Moved to the
 -- parts it is one record, which the lemmas take.
-use Rattle.cq_engine.proofs.Terms.{common_steps, rules, ◌≡◌, ◌<◌, ◌≤◌, ◌^◌, ℕ, Bool, false, List, Option, length, map, get_or, ◌∙◌, arith, length-map, Cell, Figures, Queued, Machine, class_count, admitted, CanCount, LimiterView, AreForPorts, list_of, Queues, fabric_of, admitted_room, numbers_fit, AreRanked, BuffersHaveRoom, ListsHaveRoom, Departure, Transfer, RoomView, EngineView, IsReadyFor, IsRunning, ports_of, Look, CanTakeIn, HasTakenIn, RanksView, admitted_arrives, admitted_for_ports}
+use Rattle.cq_engine.proofs.Terms.{common_steps, rules, ◌≡◌, ◌<◌, ◌≤◌, ◌^◌, ℕ, Bool, false, List, Option, length, map, get_or, arith, length-map, Cell, Figures, Queued, Machine, class_count, admitted, CanCount, LimiterView, AreForPorts, list_of, Queues, fabric_of, admitted_room, numbers_fit, AreRanked, BuffersHaveRoom, ListsHaveRoom, Departure, Transfer, RoomView, EngineView, IsReadyFor, IsRunning, ports_of, Look, CanTakeIn, HasTakenIn, RanksView, admitted_arrives, admitted_for_ports}
 
 -- what is seen of these parts
 abbrev pub seen : List (List ℕ) → List (List ℕ) → Queues → LimiterView → Figures → ℕ → Bool → EngineView
@@ -17,10 +17,6 @@ seen fixed states q l x next stopped =
       next = next;
       stopped = stopped;
     }
-
--- what a number is at most, one that is the same is
-pub at_most : (a b n : ℕ) → a ≡ b → b ≤ n → a ≤ n
-at_most a b n e le = omega arith
 
 -- ## What is known where a slot begins
 
@@ -48,13 +44,10 @@ module _ (M : List ℕ → Machine) (v : EngineView) (fixed states : List (List 
 
 module _ {ms : List Machine} {slot : ℕ} {cells : List (Option Cell)} {q : Queues} {states : List (List ℕ)}
     {l : LimiterView} {looks : Look} {x : Figures} (known : Begun ms slot cells q states l looks x) where
-  pub ports_are : length l.limits ≡ length ms
-  ports_are = known.running.holds.ports ∙ known.running.in_step.ports
-
   -- its arrivals can be taken in: the numbers of cells that outputs hold stay below 2^64
   pub can_take_in : ((j : ℕ) → length (list_of q.buffers j) ≤ get_or q.to_outputs j 0) →
       ((j : ℕ) → get_or q.to_outputs j 0 < 2 ^ 64) → CanTakeIn ms cells l
-  can_take_in within fits = grind (arith, common_steps, ports_are, numbers_fit)
+  can_take_in within fits = grind (arith, common_steps, numbers_fit)
 
   -- ## What is admitted by some marks
 

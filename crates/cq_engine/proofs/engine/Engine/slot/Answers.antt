@@ -1,6 +1,6 @@
 use Rattle.cq_engine.proofs.Terms.{answer_to, rules, sym, ◌≡◌, ◌+◌, ◌*◌, ◌<◌, ◌≤◌, ◌++◌, ℕ, List, length, get_or, map, refl, ap, ◌∙◌, arith, append_assoc, length-append, IfSome, Option, length-map, Queued, Figures, admitted, fronts, ranking, transfers_of, came_to, EngineView, HoldsFabric, fabric_of, HaveArrived, HaveJudged, HaveSent, admits_are, still_holds, came_newest, came_outputs, can_cross_first, can_cross_second, come_apart, few_cross, fits_lists, held_before, its_admission, GoStraight, crossings, length-told, HasJudged, Cell, LimiterView, Queues, RoomView, Transfer}
 use Rattle.cq_engine.specs.{Crossing.HasCrossed, Sending.CanSend}
-use Rattle.cq_engine.proofs.Shown.{Begun, at_most, begun, buffers_room, can_take_in, lists_room, taken}
+use Rattle.cq_engine.proofs.Shown.{Begun, begun, buffers_room, can_take_in, lists_room, taken}
 use Rattle.cq_engine.proofs.Done.{slot_done}
 use Rattle.cq_engine.proofs.Slot.{HaveCrossed, Whole, moved_of, whole_slot}
 use Rattle.cq_engine.proofs.StraightSlot.{at_most_square, crossings_few, held_straight, whole_straight}
@@ -10,12 +10,9 @@ use Rattle.cq_engine.proofs.engine.Engine.slot.Goals.{After-arrive, After-cross-
 
 -- ## Numbers
 
-below : (a b n : ℕ) → a ≤ b → b < n → a < n
-below a b n le lt = omega arith
-
 once_few : (few ports made now before : ℕ) {n after : ℕ} → few ≤ ports → made ≡ few → ports ≡ n → after ≡ before →
     before ≡ now → after + (made + 0) ≤ now + 2 * (n * n)
-once_few few ports made now before {n} le is e same seen = let square : n ≤ n * n = at_most_square n in omega arith
+once_few few ports made now before {n} le is e same seen = omega (arith, at_most_square n)
 
 twice_few : (p q n first second now after : ℕ) → first ≤ p * p → p ≡ n → second ≤ q * q → q ≡ n → after ≡ now →
     after + (first + second) ≤ now + 2 * (n * n)
@@ -155,7 +152,7 @@ go_straight-requires g c =
     let at = goal.at.go_straight-requires g c in came_outputs (taken (known g at.After-self) c.in_default.ensures.taken)
 
 pub of_outputs-requires : goal.of_outputs-requires
-of_outputs-requires g c = at_most _ _ _ c.ports-ports.ensures.value c.ports-ports.ensures.few
+of_outputs-requires g c = search (arith, rules)
 
 pub pass-crossed-requires : goal.pass-crossed-requires
 pass-crossed-requires g c =
@@ -173,8 +170,8 @@ pass-crossed-requires g c =
 pub count_proposals-requires : goal.count_proposals-requires
 count_proposals-requires g c =
     let at = goal.at.count_proposals-requires g c in
-    below _ _ _ (few_proposed g at.After-pass-crossed (ports_seen g at.After-self) (straight g at.After-of_outputs))
-    c.requires.ready.proposals
+    let seen = ports_seen g at.After-self in
+    omega (arith, few_proposed g at.After-pass-crossed seen (straight g at.After-of_outputs))
 
 pub arrive-requires : goal.arrive-requires
 arrive-requires g c =
@@ -227,7 +224,7 @@ cross-second-requires-clause-can g c =
 pub count_proposals-requires-2 : goal.count_proposals-requires-2
 count_proposals-requires-2 g c =
     let at = goal.at.count_proposals-requires-2 g c in
-    below _ _ _ (few_crossed g at.After-cross-second (ports_seen g at.After-self)) c.requires.ready.proposals
+    omega (arith, few_crossed g at.After-cross-second (ports_seen g at.After-self))
 
 -- ## What the slot comes to
 
