@@ -14,8 +14,7 @@ output_counted-counted-requires c = still_few c.outputs.invariant (λ (y : Outpu
     c.requires.counts c.as_slice.ensures
 
 pub outputs-preserved : goal.outputs-preserved
-outputs-preserved c =
-    search (arith, rules, next_changed, next_kept c.outputs.invariant none, nothing_counted)
+outputs-preserved c = search (arith, rules, next_changed, next_kept c.outputs.invariant none, nothing_counted)
 
 pub returns : goal.returns
 returns c = all_changed c.outputs.invariant (omega arith)

@@ -9,8 +9,7 @@ input_passed-counted-requires c =
     still_few c.inputs.invariant (λ (y : InputFigures). y.cells) none (omega arith) c.requires.counts c.as_slice.ensures
 
 pub inputs-preserved : goal.inputs-preserved
-inputs-preserved c =
-    search (arith, rules, next_changed, next_kept c.inputs.invariant none)
+inputs-preserved c = search (arith, rules, next_changed, next_kept c.inputs.invariant none)
 
 pub returns : goal.returns
 returns c = all_changed c.inputs.invariant (omega arith)

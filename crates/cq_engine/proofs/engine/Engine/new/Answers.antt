@@ -1,5 +1,5 @@
 -- Before the first slot nothing waits and nothing was counted.
-use Rattle.cq_engine.proofs.Terms.{arith, rules, length, map, length-map, length-replicate, ◌≡◌, ℕ, List, [], Some, replicate, ap, ◌∙◌, common_steps, slice_get, slice_get_within, get_or_from_slice_get, get_or-replicate, Figures, Machine, AreForOneSwitch, empty_fabric, no_figures, empty_agree, Queues, fabric_of, LimiterView, IsInStep, IsRunning, holds_first, more_at_first}
+use Rattle.cq_engine.proofs.Terms.{arith, rules, length, map, length-map, length-replicate, ◌≡◌, ℕ, List, [], Some, replicate, common_steps, slice_get, slice_get_within, get_or_from_slice_get, get_or-replicate, Figures, Machine, AreForOneSwitch, empty_fabric, no_figures, empty_agree, Queues, fabric_of, LimiterView, IsInStep, IsRunning, holds_first, more_at_first}
 use Rattle.cq_engine.specs.declared.measure.Look.TheVariants as look
 use Rattle.cq_engine.proofs.engine.Engine.new.Goals as goal
 
@@ -29,17 +29,9 @@ new-requires-2 g c = search (arith, rules, length-map)
 
 pub invariant_of-result : goal.invariant_of-result
 invariant_of-result g c =
-    let made = c.requires in
-    let items = c.args.ranks.items in
-    let fixed = c.of.ensures.fixed in
-    let figures = c.in_ok-no_figures.ensures ∙ ap no_figures made.from_inputs in
-    let runs = running_first (map g.R.Rank.machine c.of.result.fixed) (length items) c.of.result.states
-    c.in_ok-new.field-0 c.in_ok-no_figures.field-0 c.in_ok-new-2.field-0 (rw fixed made.machines)
-    (length-map c.of.result.fixed g.R.Rank.machine ∙ ap length fixed ∙ length-map items g.R.Rank.fixed)
-    (ap length c.of.ensures.states ∙ length-map items g.R.Rank.state)
-    (rw (← made.from_inputs) c.in_ok-new.ensures.inputs) (rw (← made.from_inputs) c.in_ok-new.ensures.buffers) figures
-    (ap length c.in_ok-new-2.ensures.limits ∙ made.limits) (rw (← made.limits) c.in_ok-new-2.ensures.held) in
-    (made.workers, λ _. runs)
+    let runs = running_first (map g.R.Rank.machine c.of.result.fixed) (length c.args.ranks.items) c.of.result.states
+    c.in_ok-new.field-0 c.in_ok-no_figures.field-0 c.in_ok-new-2.field-0 in
+    search (arith, rules, runs, length-map)
 
 pub returns : goal.returns
 returns g c = search (arith, rules, c.of.ensures.fixed, c.of.ensures.states)
