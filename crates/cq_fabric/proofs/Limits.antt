@@ -49,10 +49,6 @@ holds_ideal : (slot : ℕ) (f : Fabric) (ideal : IdealState) (l : LimiterView) �
     HoldsLists ideal.lists l
 holds_ideal slot f ideal l agrees holds = grind (arith, common_steps, hold_as_many slot f ideal agrees)
 
-holds_fabric : (slot : ℕ) (f : Fabric) (ideal : IdealState) (l : LimiterView) → Agrees slot f ideal →
-    HoldsLists ideal.lists l → HoldsFabric f l
-holds_fabric slot f ideal l agrees holds = grind (arith, common_steps, hold_as_many slot f ideal agrees)
-
 one_less : (xs : List Queued) (n : ℕ) → n + bit (slice_get xs 0) ≡ length xs → n ≡ length (drop 1 xs)
 one_less xs n e = grind (arith, common_steps, length-drop, slice_get_cases)
 
@@ -91,21 +87,14 @@ sends_are ms slot cells ideal r gone next ranked sent = search (arith, rules, se
 module _ {ms : List Machine} {slot : ℕ} {q : Queues} {ranks : List (List ℕ)} {cells : List (Option Cell)}
     {classes : ℕ} {came : List (Option Queued)} {ranks' : List (List ℕ)}
     (known : AreRanked ms slot q ranks cells classes came ranks') where
-  full : List (List Queued)
-  full = filled came known.ideal.lists
-
-  ideally : ranking ms slot 0 cells known.ideal.ranks ≡ Ok (record { came = came; ranks = ranks' })
-  ideally = search (rules)
-
   -- the outputs hold what the fabric has at the end of the slot
   pub still_holds : (gone : List (Option Queued)) (g : Fabric) (before judged after : LimiterView) →
       SendsAlike ms slot cells known.ideal gone g → HoldsFabric (fabric_of q ranks) before →
       HaveJudged cells before judged → HasReleased gone judged after → HoldsFabric g after
-  unfolding full
   still_holds gone g before judged after alike holds judges releases =
       let ranked : Ranking = record { came = came; ranks = ranks' } in
-      let sends = sends_are ms slot cells known.ideal ranked gone alike.next ideally alike.sent in
-      let now = holds_filled came cells known.ideal.lists full before judged
+      let sends = sends_are ms slot cells known.ideal ranked gone alike.next (search (rules)) alike.sent in
+      let now = holds_filled came cells known.ideal.lists _ before judged
       (holds_ideal slot (fabric_of q ranks) known.ideal before known.agrees holds) refl judges.limits
       judges.as_many judges.more (came_for ms slot cells ranks ranked known.ranked) in
-      search (arith, rules, holds_rests, holds_fabric (slot + 1) g alike.next after alike.agrees)
+      search (arith, rules, holds_rests, hold_as_many (slot + 1) g alike.next alike.agrees)
