@@ -1,7 +1,8 @@
 -- Lists and buffers with their rooms. A cell that goes into a list takes the room that the list has for it, and a
 -- cell that leaves gives it back, so that no list and no buffer can hold more cells, or fewer, than before.
-use Rattle.cq_fabric.proofs.Terms.{zero, suc, common_steps, rules, ◌≡◌, ℕ, ◌+◌, ◌<◌, ◌≤◌, cond, List, [], ◌∷◌, ◌++◌, length, map, get_or, take, drop, Option, Some, None, refl, ap, ◌∙◌, ⊎_elim, arith, replicate, is_some, slice_get, cases_lt, cond_both, length-map, get_or_default, get_or_past, ext_get_or, drop_all, take_all, append-nil, get_or-replicate, length-insert, Queued, first_for, without_first, fronts, rests, Waiting, cells_of, Buffered, cells_in, list_of, FirstKeysDiffer, orders_of, output_order, Moves, Orders, Partners, IsMatching, are_orders, HaveCells, HaveRoom, MovesRoom, list_spare, buffer_spare, partner_or_free, length_put, came_to, list_arrived, from_first, Queues, FitLists, KeysApart, CanCross, FitEach, AreSquare, list_room, buffer_room, fabric_of, no_list, list_at, list_with, front_of, popped, most_ports, cells-at, list_spare-at}
+use Rattle.cq_fabric.proofs.Terms.{zero, suc, common_steps, rules, ◌≡◌, ℕ, ◌+◌, ◌<◌, ◌≤◌, cond, List, [], ◌∷◌, ◌++◌, length, map, get_or, take, drop, Option, Some, None, refl, ◌∙◌, ⊎_elim, arith, replicate, is_some, slice_get, cases_lt, cond_both, length-map, get_or_default, get_or_past, ext_get_or, drop_all, take_all, append-nil, get_or-replicate, length-insert, Queued, first_for, without_first, fronts, rests, Waiting, cells_of, Buffered, cells_in, list_of, FirstKeysDiffer, orders_of, output_order, Moves, Orders, Partners, IsMatching, are_orders, HaveCells, HaveRoom, MovesRoom, list_spare, buffer_spare, partner_or_free, length_put, came_to, list_arrived, from_first, Queues, FitLists, KeysApart, CanCross, FitEach, AreSquare, list_room, buffer_room, fabric_of, no_list, list_at, list_with, front_of, popped, most_ports, cells-at, list_spare-at}
 use Rattle.std.proofs.Math.ListN.{get_or-map}
+use Rattle.std.proofs.lemmas.Simd.{map-map}
 
 -- what a slice of a vector leaves of the vector
 pub whole : {X : Type 0} (n : ℕ) (xs old : List X) → n ≡ length xs → length old ≡ length xs →
@@ -112,33 +113,25 @@ pub record HaveCrossed (m : Partners) (lists : List Waiting) (buffers : List Buf
 
 module _ {m : Partners} {lists : List Waiting} {buffers : List Buffered} {lists' : List Waiting}
     {buffers' : List Buffered} (known : HaveCrossed m lists buffers lists' buffers') where
-  pub lists_long : length lists' ≡ length lists
-  lists_long = search (arith, rules, length-map)
-
-  pub buffers_long : length buffers' ≡ length buffers
-  buffers_long = search (arith, rules, length-map)
-
   pub crossed_list_rooms : map list_room lists' ≡ map list_room lists
-  crossed_list_rooms = search (arith, rules, same_rooms, lists_long, list_room-is, without_one)
+  crossed_list_rooms = search (arith, rules, same_rooms, length-map, list_room-is, without_one)
 
   pub crossed_buffer_rooms : map buffer_room buffers' ≡ map buffer_room buffers
-  crossed_buffer_rooms = same_rooms buffer_room buffers' buffers buffers_long (λ j _. ⊎_elim (λ r. search
+  crossed_buffer_rooms =
+      same_rooms buffer_room buffers' buffers (search (arith, rules, length-map)) (λ j _. ⊎_elim (λ r. search
       (arith, rules, buffer_room-is, length_put (known.have r.0 j r.1).0 (list_of (cells_in buffers) j)))
       (λ free. search (arith, rules, buffer_room-is)) (partner_or_free m j))
 
   pub crossed_square : (n : ℕ) → AreSquare lists buffers n → AreSquare lists' buffers' n
-  crossed_square n square =
-      search (arith, rules, lists_long, buffers_long, get_or-map (λ (w : Waiting). w.outputs), square.outputs)
+  crossed_square n square = search (arith, rules, length-map, get_or-map (λ (w : Waiting). w.outputs), square.outputs)
 
 -- ## Departures
 
 pub fronts_shown : (buffers : List Buffered) → fronts (cells_in buffers) ≡ map front_of buffers
-fronts_shown [] = refl
-fronts_shown (b ∷ buffers) = ap (λ l. slice_get b.cells 0 ∷ l) (fronts_shown buffers)
+fronts_shown buffers = map-map _ _ buffers
 
 pub rests_shown : (buffers : List Buffered) → cells_in (map popped buffers) ≡ rests (cells_in buffers)
-rests_shown [] = refl
-rests_shown (b ∷ buffers) = ap (λ l. drop 1 b.cells ∷ l) (rests_shown buffers)
+rests_shown buffers = search (rules, map-map)
 
 pub rooms_shown : (buffers : List Buffered) → map buffer_room (map popped buffers) ≡ map buffer_room buffers
 rooms_shown [] = refl

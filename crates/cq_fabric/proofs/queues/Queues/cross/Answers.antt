@@ -1,6 +1,6 @@
 use Rattle.cq_fabric.proofs.Terms.{refl, rules, sym, subst, arith, length-map, cells_of, cells_in, orders_of, IsMatching, HaveCells, Held, CanCross}
 use Rattle.cq_fabric.proofs.Offered.{as_offered}
-use Rattle.cq_fabric.proofs.Queued.{HaveCrossed, whole, has_cell, have_room, lists_long, buffers_long, crossed_list_rooms, crossed_buffer_rooms, crossed_square, matched_long}
+use Rattle.cq_fabric.proofs.Queued.{HaveCrossed, whole, has_cell, have_room, crossed_list_rooms, crossed_buffer_rooms, crossed_square, matched_long}
 use Rattle.cq_fabric.proofs.queues.Queues.cross.Goals as goal
 use Rattle.cq_fabric.proofs.queues.Queues.cross.Goals.{After-self}
 
@@ -38,10 +38,10 @@ cross_matched-requires-clause-note c = search (arith, rules, matched_long)
 
 pub invariant_of-self : goal.invariant_of-self
 invariant_of-self c = search
-    (arith, rules, crossed, as_offered, lists_long, buffers_long, whole, crossed_square, crossed_buffer_rooms)
+    (arith, rules, crossed, as_offered, length-map, whole, crossed_square, crossed_buffer_rooms)
 
 pub returns-clause-from_inputs : goal.returns-clause-from_inputs
-returns-clause-from_inputs c = search (arith, rules, whole, lists_long, crossed_list_rooms, crossed)
+returns-clause-from_inputs c = search (arith, rules, whole, length-map, crossed_list_rooms, crossed)
 
 pub returns-clause-to_outputs : goal.returns-clause-to_outputs
-returns-clause-to_outputs c = search (arith, rules, whole, buffers_long, crossed_buffer_rooms, crossed)
+returns-clause-to_outputs c = search (arith, rules, whole, length-map, crossed_buffer_rooms, crossed)
