@@ -1,7 +1,6 @@
 -- How many cells for an output there are. An arrival brings one more, a transfer moves one from the inputs to the
 -- output's buffer, and a departure takes one away. So it is in each slot with stable matchings, whoever found them.
-use Rattle.cq_fabric.proofs.Terms.{rules, ◌≡◌, ℕ, zero, suc, ◌+◌, ◌≤◌, eqb, Bool, List, [], ◌∷◌, length, Option, Some, None, refl, ap, ⊎_elim, arith, common_steps, if◌then◌else◌, is_some, filter, insert, cond_both, length-drop, length-insert, Cell, Queued, arrival_at, is_for, first_for, without_first, Machine, list_of, HasCellFor, orders_of, output_order, list_taken, Partners, partner_of, IsMatching, IsStable, partner_or_free, length_put, Fabric, input, buffer, list_arrived, Transfers, SlotRecord, FabricSlot, came_cell, rest_of, Marked, admission, count_for, each_once, LimitedFabricSlot, LimitedRecord, waiting_for, held_for, is_output_order, admitted_at, get_or_past, drop}
-use Rattle.std.proofs.Math.ListN.{get_or-map}
+use Rattle.cq_fabric.proofs.Terms.{rules, ◌≡◌, ℕ, zero, suc, ◌+◌, ◌≤◌, eqb, Bool, List, [], ◌∷◌, length, Option, Some, None, refl, ap, ⊎_elim, arith, common_steps, if◌then◌else◌, is_some, filter, insert, cond_both, length-drop, length-insert, Cell, Queued, arrival_at, is_for, first_for, without_first, Machine, list_of, HasCellFor, orders_of, list_taken, Partners, partner_of, IsMatching, IsStable, partner_or_free, length_put, Fabric, input, buffer, list_arrived, Transfers, SlotRecord, FabricSlot, came_cell, rest_of, Marked, admission, count_for, each_once, LimitedFabricSlot, LimitedRecord, waiting_for, held_for, is_output_order, outputs_at, admitted_at, get_or_past, drop}
 
 abbrev bit : Bool → ℕ
 bit b = if b then 1 else 0
@@ -50,8 +49,7 @@ sum_comes j (x ∷ new) (y ∷ old) cells same each =
 -- each list has no more than before
 sum_most : (j : ℕ) (new old : List (List Queued)) → length new ≡ length old →
     ((i : ℕ) → count j (list_of new i) ≤ count j (list_of old i)) → waiting_for j new ≤ waiting_for j old
-sum_most j new old same each =
-    let all = sum_comes j new old [] same (λ i. let e = each i in omega arith) in omega arith
+sum_most j new old same each = search (arith, rules, sum_comes j new old [], same, each)
 
 -- and one of them has one less
 sum_less : (j : ℕ) (new old : List (List Queued)) (k : ℕ) → length new ≡ length old →
@@ -79,7 +77,7 @@ length_left k (x ∷ xs) = grind (arith, common_steps, cond_both, length_left k 
 offered : (m : Partners) (f : Fabric) → IsMatching (orders_of f.inputs) m → (i j : ℕ) → partner_of m i ≡ Some j →
     HasCellFor (input f i) j
 offered m f matching i j p =
-    ((is_output_order (input f i)).offered j).0 (rw (get_or-map output_order f.inputs i []) at (matching.offered i j p))
+    ((is_output_order (input f i)).offered j).0 (rw (outputs_at f.inputs i) at (matching.offered i j p))
 
 moved : (m : Partners) (old new : Fabric) → IsMatching (orders_of old.inputs) m → Transfers m old new → (j : ℕ) →
     held_for j new ≤ held_for j old

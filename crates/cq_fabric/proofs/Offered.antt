@@ -133,5 +133,4 @@ module _ (m : Partners) (lists lists' : List Waiting) (buffers buffers' : List (
 
   pub moved_outputs : All (λ list. list.outputs ≡ length lists) lists →
       map (λ w. w.outputs) lists' ≡ map (λ w. w.outputs) lists → All (λ list. list.outputs ≡ length lists) lists'
-  moved_outputs all outputs k d l =
-      let out : Waiting → ℕ = λ w. w.outputs in search (arith, rules, length-map, get_or-map out)
+  moved_outputs all outputs k d l = search (arith, rules, length-map, get_or-map (λ (w : Waiting). w.outputs))

@@ -3,7 +3,7 @@
 -- ones of this slot, and each cell that waits has slack 1, so that the more urgent cells for an output stand below
 -- the cushion of one that comes. Of the rooms it is enough that the buffer of each output for which a cell waits or
 -- comes has room for one: where the first matching fills that room, the output sends a cell and has it again.
-use Rattle.cq_fabric.proofs.Terms.{common_steps, rules, ◌≡◌, ℕ, zero, suc, ◌+◌, ◌-◌, ◌<◌, ◌≤◌, true, List, [], ◌∷◌, length, get_or, drop, Option, Some, None, refl, sym, subst, ⊎_elim, arith, IfSome, filter, cases_lt, cond_both, eq-eqb, get_or-map, get_or_past, length-drop, length-map, same_Some, Cell, Queued, arrival_at, is_for, Machine, count_for, LimiterView, AreForPorts, Ranking, fronts, list_of, orders_of, Partners, IsMatching, IsStable, HaveCells, partner_or_free, length_put, SendsAlike, IsAmong, waiting_for, came_to, Arrives, Transfers, Departs, SlotRecord, FabricSlot, from_first, was_waiting, Sound, came_from, keyed_from, HoldsFabric, IsNewest, Queues, ComeApart, FitLists, CanCross, fabric_of, Keyed, arrived_sound, moved_sound, sent_sound, same_slot, sound_from, all_from_has, came_or_was}
+use Rattle.cq_fabric.proofs.Terms.{common_steps, rules, ◌≡◌, ℕ, zero, suc, ◌+◌, ◌-◌, ◌<◌, ◌≤◌, true, List, [], ◌∷◌, length, get_or, drop, Option, Some, refl, sym, subst, ⊎_elim, arith, IfSome, filter, cases_lt, cond_both, eq-eqb, get_or-map, get_or_past, length-drop, length-map, same_Some, Cell, Queued, arrival_at, is_for, Machine, count_for, LimiterView, AreForPorts, Ranking, fronts, list_of, orders_of, Partners, IsMatching, IsStable, HaveCells, partner_or_free, length_put, SendsAlike, IsAmong, waiting_for, came_to, Arrives, Transfers, Departs, SlotRecord, FabricSlot, from_first, was_waiting, Sound, came_from, keyed_from, HoldsFabric, IsNewest, Queues, ComeApart, FitLists, CanCross, fabric_of, Keyed, arrived_sound, moved_sound, sent_sound, same_slot, sound_from, all_from_has, came_or_was}
 use Rattle.std.proofs.lemmas.List.FromFn.{length-range_with_len}
 use Rattle.cq_base.proofs.Pooled.{looked_few}
 use Rattle.cq_prefs.specs.Moves.{transfers_of}
@@ -30,8 +30,7 @@ arrives_one : (j : ℕ) (cells : List (Option Cell)) (i : ℕ) (cell : Cell) →
     cell.output ≡ j → 1 ≤ count_for j cells
 arrives_one j [] i cell h e = absurd (let P : ⊥ = cc in P)
 arrives_one j (o ∷ cells) zero cell h e = grind (arith, common_steps, same_Some, eq-eqb)
-arrives_one j (None ∷ cells) (suc i) cell h e = arrives_one j cells i cell h e
-arrives_one j (Some d ∷ cells) (suc i) cell h e = omega (arith, arrives_one j cells i cell h e)
+arrives_one j (o ∷ cells) (suc i) cell h e = grind (arith, common_steps, arrives_one j cells i cell h e)
 
 -- ## The cells of one slot can cross
 

@@ -20,7 +20,7 @@ pub use Rattle.cq_ideal.specs.Limiter.{HoldsLists, JudgesAsBefore, LimiterView, 
 pub use Rattle.cq_ideal.specs.Ranking.{AreForPorts, Ranking, ranking}
 pub use Rattle.cq_list.specs.InputList.{Waiting, cells_of}
 pub use Rattle.cq_urgency.specs.OutputBuffer.{Buffered, cells_in}
-pub use Rattle.cq_prefs.proofs.InputOrder.{are_orders}
+pub use Rattle.cq_prefs.proofs.InputOrder.{are_orders, outputs_at}
 pub use Rattle.cq_prefs.specs.FirstCells.{AreOrdersOf, FirstKeysDiffer, HasCellFor, first_key, key_before, list_of, orders_of, output_order}
 pub use Rattle.cq_prefs.specs.Moves.{Moves, list_taken}
 pub use Rattle.cq_prefs.specs.Orders.{Orders, no_offers, ports}
