@@ -24,10 +24,7 @@ module _ (r : Reader) (config state : List ℕ) where
           early = is.early;
           plan = is.plan;
           stops = is.stops;
-          same = record {
-            configured = grind (arith, common_steps, tables_same, same_under);
-            captured = grind (arith, common_steps, captures_same, all_weaker, same_under);
-          };
+          same = search (arith, rules, tables_same, same_under, captures_same, all_weaker);
           told = search (arith, rules, get_same);
         }
 

@@ -1,5 +1,5 @@
 -- The words of this crate's proofs that stand elsewhere, each passed on from its place.
-pub use Rattle.cq_base.proofs.Library.{Err, IsOkAnd, List, Ok, Result, Some, [], ap, arith, common_steps, get, le-ltb, length, length-map, refl, rules, subst, sym, ℕ, ◌<◌, ◌^◌, ◌∷◌, ◌≡◌, ◌≢◌, ◌≤◌}
+pub use Rattle.cq_base.proofs.Library.{Err, List, Ok, Some, [], ap, arith, common_steps, get, le-ltb, length, length-map, refl, rules, subst, ℕ, ◌<◌, ◌^◌, ◌∷◌, ◌≡◌, ◌≢◌, ◌≤◌}
 pub use Rattle.cq_base.specs.declared.cell.TagFault.{TagFault}
 pub use Rattle.cq_space.specs.Space.{Contents}
 pub use Rattle.cq_pcap.specs.Captured.{Captured}
@@ -10,7 +10,7 @@ pub use Rattle.cq_resume.specs.Switch.{IsScheduleOf, Switch, switch_of}
 pub use Rattle.cq_words.specs.declared.command.Command.TheVariants.{Resume, Run}
 pub use Rattle.cq_run.specs.Aim.{Aim, Denies, Meets, Resuming}
 pub use Rattle.cq_run.specs.{Reader.Reader, Writing.all_replaced}
-pub use Rattle.cq_run.specs.Verdict.{captures_in, judged, sent_or_tag, tables_in}
+pub use Rattle.cq_run.specs.Verdict.{captures_in, judged, tables_in}
 pub use Rattle.cq_base.proofs.Each.{all_weaker}
 pub use Rattle.cq_base.specs.Limits.{longest_file}
 pub use Rattle.cq_space.proofs.Replaced.{get_same}

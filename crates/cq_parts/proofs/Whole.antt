@@ -2,7 +2,7 @@
 -- What goes on from there keeps what the run keeps, and comes to an end where the run does (`read_runs_go_on`); both
 -- write the same of it. A tag fault that is met from there is one of the whole run, and so that of the ideal switch,
 -- for which `run` is refused.
-use Rattle.cq_parts.proofs.Terms.{common_steps, arith, rules, ◌≡◌, ◌<◌, ◌^◌, ℕ, List, refl, ap, sym, subst, Ok, Err, IsOkAnd, Result, Scheduled, schedule_of, LimitedRecord, Captured, IsScheduleOf, Switch, switch_of, Tables, Contents, Run, Aim, Denies, Meets, Resuming, Reader, captures_in, judged, tables_in, sent_or_tag, IsRead, Taken, departures_in_run, read_runs_go_on, stopped_runs_are_read, GoesOnAsRun, IsReadAs, kept_in_run, traffic_is, AreGiven, IsEmulation, KeepsUp, IsPartText, Plan, Refusal}
+use Rattle.cq_parts.proofs.Terms.{common_steps, arith, rules, ◌≡◌, ◌<◌, ◌^◌, ℕ, List, refl, subst, Ok, Err, Scheduled, schedule_of, LimitedRecord, Captured, IsScheduleOf, Switch, switch_of, Tables, Contents, Run, Aim, Denies, Meets, Resuming, Reader, captures_in, judged, tables_in, IsRead, Taken, departures_in_run, read_runs_go_on, stopped_runs_are_read, GoesOnAsRun, IsReadAs, kept_in_run, traffic_is, AreGiven, IsEmulation, KeepsUp, IsPartText, Plan, Refusal}
 use Rattle.cq_resume.specs.declared.refusal.StateRefusal.TheVariants as of_state
 use Rattle.cq_run.proofs.Crossed.{keeps_up}
 use Rattle.cq_run.specs.Plan.{crossed, resumed}
@@ -78,8 +78,7 @@ module _ (r : Reader) (config : List ℕ) (m : Contents) (t : Tables) (captures 
       denied : (refusal : Refusal) → Denies aim refusal → judged r (Run config) m ≡ Err refusal
       denied (refused.Tag fault) is =
           let on = (goes is.from is.read).whole_fault fault is.stops in
-          let faulty = ap sent_or_tag (whole_fault t captures fault given.tables given.each on) in
-          grind (arith, common_steps)
+          grind (arith, common_steps, whole_fault t captures fault)
       denied (refused.State (stopped.Line n)) is = cc (read_as.never_refused (of_state.Text n) is)
       denied (refused.State stopped.Shape) is = cc (read_as.never_refused of_state.Shape is)
       denied (refused.State (stopped.Unsound clause)) is = cc (read_as.never_refused (of_state.Unsound clause) is)
@@ -90,9 +89,6 @@ module _ (r : Reader) (config : List ℕ) (m : Contents) (t : Tables) (captures 
 
 pub parts_are_the_run : (r : Reader) → PartsAreTheRun r
 parts_are_the_run r config state slots m left is =
-    let stops = is.stops in
-    let read = stops.read in
-    let aims = aimed r config state left stops.tables stops.captures stops.text is.same.configured is.same.captured
-    is.told stops.stopped.short in
-    subst (λ (v : Result Aim Refusal). IsOkAnd v (IsAimOfRun r config m)) (sym aims) (aim_of_run r config m
-    stops.tables stops.captures read.configured read.captured stops.given slots is.early stops.text stops.stopped)
+    let it = is.stops in
+    let aims = aimed r config state left it.tables it.captures it.text in
+    search (arith, rules, aims, aim_of_run r config m it.tables it.captures)
