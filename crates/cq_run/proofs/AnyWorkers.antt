@@ -2,7 +2,7 @@
 -- run the setup and the limits, and what is written the names of the files and the length of a slot. So the same
 -- arrives whatever that number is; and each verdict, each plan that meets it, and each reason that denies it, is made
 -- of what arrives and of these. Numbers can be exchanged, so it holds both ways.
-use Rattle.cq_run.proofs.Terms.{rules, arith, common_steps, ◌≡◌, ◌+◌, ℕ, zero, suc, List, [], ◌∷◌, length, refl, ap, sym, Arrival, IsOkAnd, Result, Ok, Err, arrivals, arrivals_at, arrivals_of, cell_of, cells, Captured, Tables, Departure, LimitedRecord, IsFabricRun, PortRow, Kept, captures_out, crossed, resumed, switched, ideal_departures, ran_ideal, packets_out, Contents, Aim, Denies, Meets, Crossing, Auditing, Parting, Resuming, Exactly, Refusal, Plan, Reader, ◌>>=◌, judged, ideally_sent, sent_or_tag, tables_in, judged_of_given, Command, Audit, Check, Ideal, Part, Resume, Run}
+use Rattle.cq_run.proofs.Terms.{rules, arith, common_steps, ◌≡◌, ◌+◌, ℕ, zero, suc, List, [], ◌∷◌, length, refl, ap, sym, Arrival, IsOkAnd, Result, Ok, Err, arrivals, arrivals_at, arrivals_of, cell_of, cells, Captured, Tables, Departure, LimitedRecord, IsFabricRun, PortRow, Kept, captures_out, crossed, resumed, switched, ideal_departures, ran_ideal, packets_out, Contents, Aim, Denies, Meets, Crossing, Auditing, Refusal, Plan, Reader, ◌>>=◌, judged, ideally_sent, sent_or_tag, tables_in, judged_of_given, Command, Audit, Check, Ideal, Part, Resume, Run}
 use Rattle.std.specs.Prelude.{max}
 use Rattle.cq_cells.proofs.Ranges.{flat_same}
 use Rattle.cq_cells.specs.Schedule.{stamp_slot, start}
@@ -98,12 +98,6 @@ module _ (n : ℕ) (t : Tables) where
         Follows (Ok (Auditing t cs sent trace log)) (Ok (Auditing u cs sent trace log))
     auditing sent trace log = grind (arith, common_steps, aimed, arrivals_same)
 
-    parting : (slots : ℕ) (name : List ℕ) → Follows (Ok (Parting t cs slots name)) (Ok (Parting u cs slots name))
-    parting slots name = grind (arith, common_steps, aimed, arrivals_same)
-
-    resuming : (bytes : List ℕ) → Follows (Ok (Resuming t cs bytes)) (Ok (Resuming u cs bytes))
-    resuming bytes = grind (arith, common_steps, aimed, arrivals_same, resumed_same)
-
   -- ## Each command
 
   module _ (r : Reader) (m : Contents) (one other : List ℕ) (first : tables_in one m ≡ Ok t)
@@ -118,18 +112,16 @@ module _ (n : ℕ) (t : Tables) where
         Follows (sent_of aim r t cs m) (sent_of aim r u cs m)
     sends cs aim h = grind (arith, common_steps, ideally_same, then_both)
 
-    ideal : (cs : List (List Captured)) (sent : List Departure) →
-        Follows (Ok (Exactly (switched t cs sent))) (Ok (Exactly (switched u cs sent)))
-    ideal cs sent = rw (switched_same cs sent) (alike _)
-
     follows : (command : Command) → Follows (judged r (over one command) m) (judged r (over other command) m)
     unfolding check_line
     follows (Check old) = rw (first, second) (alike _)
-    follows (Ideal old) = both (rest_of asked.Ideal) (λ cs. search (rules, sends, ideal))
+    follows (Ideal old) = both (rest_of asked.Ideal) (λ cs. search (rules, sends, switched_same, alike))
     follows (Run old) = both (rest_of asked.Run) (λ cs. sends cs Crossing (crossing cs))
     follows (Audit old) = both (rest_of asked.Audit) (λ cs. search (rules, then_both, sends, auditing))
-    follows (Part old slots state) = both (rest_of (asked.Part slots state)) (λ cs. parting cs slots state)
-    follows (Resume old state) = both (rest_of (asked.Resume state)) (λ cs. search (rules, then_both, resuming))
+    follows (Part old slots state) =
+        both (rest_of (asked.Part slots state)) (λ cs. search (arith, rules, aimed, arrivals_same))
+    follows (Resume old state) = both (rest_of (asked.Resume state))
+        (λ cs. search (arith, rules, then_both, aimed, arrivals_same, resumed_same))
     follows _ = alike _
 
 -- ## Both ways
