@@ -1,7 +1,7 @@
 -- A switch of one port sends each cell in the slot in which it comes. Cells come one after another, at most one in a
 -- slot. So no cell waits when a slot begins; the cell that comes is alone in the one list, and leaves.
 -- The departures are the arrivals, and every packet leaves with its last cell, which alone is marked as last.
-use Rattle.cq_run.proofs.Terms.{common_steps, ◌⊎◌, inl, inr, ◌≡◌, ℕ, zero, suc, ◌+◌, ◌<◌, ◌≤◌, Bool, cond, List, [], ◌∷◌, map, replicate, Option, Some, None, Result, Ok, Err, refl, sym, ap, ◌∙◌, ⊎_elim, arith, rules, ◌-◌, ◌*◌, length, flat_map, ◌==◌, append-nil, AllByRecursion, range_with_len, filter, cases_eq, cond-true, eq-eqb, and_from, Arrival, arriving, arriving_at, end_of, enough, traffic_of, Departure, TagFault, filter-append, arrivals, arrivals_at, arrivals_of, cell_of, cells, cells_of, t0_of, packet_at, start, IsInRange, IsLater, IsTraffic, traffic_is, departures_limited, whole_limited_run, LimitedRan, empty_limited, unlimited, all_weaker, run_as_before, same_sent, Captured, AreTables, classes_of, ports_of, Tables, machines_of, openings_of, ideal_departures, ran_ideal, ends_packet_at, leaving, packets_out, all_leave, as_it_leaves, ne_eqb, Cell, Queued, Machine, after_input, ranking, arriving_is, first_slot, ranked_none, NoLimits, all_slots, before_end, OutPacket, one_is, most_ports}
+use Rattle.cq_run.proofs.Terms.{common_steps, ◌⊎◌, inl, inr, ◌≡◌, ℕ, zero, suc, ◌+◌, ◌<◌, ◌≤◌, Bool, cond, List, [], ◌∷◌, map, replicate, Option, Some, None, Result, Ok, Err, refl, sym, ap, ◌∙◌, ⊎_elim, arith, rules, ◌-◌, ◌*◌, flat_map, ◌==◌, append-nil, AllByRecursion, range_with_len, filter, cases_eq, cond-true, eq-eqb, and_from, Arrival, arriving, arriving_at, end_of, enough, traffic_of, Departure, TagFault, filter-append, arrivals, arrivals_at, arrivals_of, cell_of, cells, cells_of, t0_of, packet_at, start, IsInRange, IsLater, IsTraffic, traffic_is, departures_limited, whole_limited_run, LimitedRan, empty_limited, unlimited, all_weaker, run_as_before, same_sent, Captured, AreTables, classes_of, ports_of, Tables, machines_of, openings_of, ideal_departures, ran_ideal, ends_packet_at, leaving, packets_out, all_leave, as_it_leaves, ne_eqb, Cell, Queued, Machine, after_input, ranking, arriving_is, first_slot, ranked_none, NoLimits, all_slots, before_end, OutPacket, one_is, most_ports}
 use Rattle.cq_base.proofs.{Each.all_give, Pooled.each_pair}
 use Rattle.cq_base.specs.Items.{EachPair}
 use Rattle.cq_ideal.specs.Ending.{arriving_from}
@@ -252,10 +252,6 @@ module _ (t : Tables) (packets : List Captured) where
   abbrev one : List (List Captured)
   one = packets ∷ []
 
-  arrivals_are : arrivals t one ≡ flat_map (arrivals_of t one 0) (range_with_len 0 (length packets))
-  unfolding arrivals arrivals_at
-  arrivals_are = append-nil (flat_map (arrivals_of t one 0) (range_with_len 0 (length packets)))
-
   as_passed : (n a : ℕ) → map (with_slot t one) (map (last_of t one) (range_with_len a n)) ≡ map
       (as_it_leaves t packets) (range_with_len a n)
   unfolding cell_of
@@ -264,8 +260,7 @@ module _ (t : Tables) (packets : List Captured) where
 
   pub all_leave_is : (sent : List Departure) → AreTables t → ports_of t.setup ≡ 1 → NoLimits t.limits →
       ideal_departures t (arrivals t one) ≡ Ok sent → packets_out t one sent 0 ≡ all_leave t packets
-  unfolding packets_out
+  unfolding packets_out arrivals arrivals_at
   all_leave_is sent are single none h =
-      let in_slot : AreInSlot (arrivals t one) sent =
-      sent_in_slot t (arrivals t one) sent single none (traffic_is t one are (sym single)) h in
-      grind (arith, common_steps, outs, in_slot.output, in_slot.cells, arrivals_are, lasts, as_passed)
+      let in_slot = sent_in_slot t (arrivals t one) sent single none (traffic_is t one are (sym single)) h in
+      grind (arith, common_steps, outs, in_slot.output, in_slot.cells, append-nil, lasts, as_passed)

@@ -27,9 +27,6 @@ split_at r limit input at (x ∷ xs) row ys m e = search (rules, split_at r limi
 
 module _ (r : Reader) (limit : ℕ) (rows : List PortRow) (k : ℕ) (row : PortRow) (inside : k < length rows)
     (is : row ≡ get_or rows k row) where
-  length_before : length (take k rows) ≡ k
-  length_before = length-take-le k rows (omega (arith, inside))
-
   abbrev then_rest : List Packets → Contents → Result (List Packets) Refusal
   then_rest made m = packets_at r k limit row.read m >>= (λ q.
       captures_from r limit (k + 1) (drop (k + 1) rows) m >>= (λ rest. Ok (made ++ q ∷ rest)))
@@ -53,7 +50,7 @@ module _ (r : Reader) (limit : ℕ) (rows : List PortRow) (k : ℕ) (row : PortR
   more_is : (m : Contents) → (captures_from r limit 0 (take k rows) m >>= (λ made. then_this made m)) ≡ captures_from
       r limit 0 (take (k + 1) rows) m
   unfolding captures_from
-  more_is m = grind (arith, common_steps, take_more, split_at r limit 0 k (take k rows) row [] m, length_before)
+  more_is m = grind (arith, common_steps, take_more, split_at r limit 0 k (take k rows) row [] m, length-take-le)
 
   -- one port more
   pub reads_more : {Q R : List ℕ → Type 0} {old mid new : Space} {made : List Packets} {q : Packets}
