@@ -1,5 +1,5 @@
 -- The numbers of a command that words are are in their ranges.
-use Rattle.cq_run.proofs.Terms.{◌≡◌, ℕ, Bool, cond, List, [], ◌∷◌, arith, Option, None, Some, option_map, leb-true, common_steps, command_for, most_slots, with_three, Command, IsWithinRange, Ahead, InTurn, pace_of, number_from, as_run, run_of, streamed, most_ports, most_soak_slots}
+use Rattle.cq_run.proofs.Terms.{◌≡◌, ℕ, List, [], ◌∷◌, arith, Option, None, Some, option_map, leb-true, common_steps, command_for, most_slots, with_three, Command, IsWithinRange, Ahead, InTurn, pace_of, number_from, as_run, run_of, streamed, most_ports, most_soak_slots}
 use Rattle.std.specs.Int.{IsInRange}
 
 -- a number that a text writes is in its range
@@ -11,12 +11,9 @@ three_within : (word first second third : List ℕ) (command : Command) →
 three_within word first second third command e =
     grind (arith, common_steps, in_range 0 most_slots second, in_range 1 most_ports second, in_range 1 most_soak_slots)
 
-tested : (b : Bool) (o : Option Command) (command : Command) → cond b o None ≡ Some command → o ≡ Some command
-tested b o command e = grind (arith, common_steps)
-
 pub words_within : (words : List (List ℕ)) (command : Command) → command_for words ≡ Some command →
     IsWithinRange command
-words_within (word ∷ a ∷ b ∷ c ∷ []) command e = three_within word a b c command (tested _ _ command e)
+words_within (word ∷ a ∷ b ∷ c ∷ []) command e = grind (arith, common_steps, three_within word a b c)
 words_within words command e = grind (arith, common_steps)
 
 -- ## The words `stream CONFIG` are judged as `run CONFIG`, ahead
