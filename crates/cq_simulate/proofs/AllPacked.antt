@@ -1,8 +1,8 @@
--- Packets that are put together at all outputs in one pass. When so many departures were used up, those that are left
+-- Packets that are put together at all outputs in one pass. When some departures were used up, those that are left
 -- are the others, and each output stands where a walk over its own departures would stand (`SoFar`), with the packets
 -- of that walk in its bytes (`Walked`). One departure more goes on with the walk at its output, and passes by those
 -- at all others.
-use Rattle.cq_simulate.proofs.Terms.{rules, ◌≡◌, ◌≢◌, ℕ, ◌+◌, ◌<◌, ◌≤◌, All, List, [], ◌∷◌, ◌++◌, length, map, drop, get_or, set, Option, Some, None, refl, sym, ap, ◌∙◌, subst, arith, suc, true, false, take, zero, cond, common_steps, IfSome, cases_eq, cond-true, cond-false, eq-eqb, ne_eqb, and_from, and_left, and_right, append-nil, drop_more, get_or-set_other, get_or-set_same, length-drop, length-set, map-append, take_more, take-append-drop, get_or_default, unpacked, Departure, Captured, longest_body, rows_from, ports_of, Tables, ArePacked, HaveLeftOf, ends_packet_at, leaving, packets_out, CanBeJoined, IsEmptied, Took, left_with, records_of, Fits, opened, piece_at, filter, filter-append, All-push, leaves_in_flow, left_in_flow, JoinerView, open_after, open_at, packet_at, packets_of, length-rows_from, PackedDeparture, written_with, OutPacket, PacketRow, length-map-range_with_len, ◌-◌, ◌*◌, flat_map, min, ◌==◌, range_with_len, flat_map-append, Cell, cells, cell_of, arrivals, came_in_flow, AreTables, of_packet, AreCutFrom, Piece, Open, pieces_give_frame, range_more, filter_none, recursion_from_All, JoinsOn, cells_above, length-append}
+use Rattle.cq_simulate.proofs.Terms.{cons_option, Has, has_right, inl, append_assoc, all_from_has, rules, ◌≡◌, ◌≢◌, ℕ, ◌+◌, ◌<◌, ◌≤◌, All, List, [], ◌∷◌, ◌++◌, length, map, drop, get_or, set, Option, Some, None, refl, ap, ◌∙◌, arith, suc, true, false, take, zero, cond, common_steps, IfSome, cases_eq, cond-true, cond-false, eq-eqb, ne_eqb, and_from, and_left, and_right, append-nil, drop_more, get_or-set_other, get_or-set_same, length-set, map-append, take-append-drop, get_or_default, unpacked, Departure, Captured, longest_body, rows_from, ports_of, Tables, ArePacked, HaveLeftOf, ends_packet_at, leaving, packets_out, CanBeJoined, IsEmptied, Took, left_with, records_of, Fits, opened, piece_at, filter, filter-append, All-push, leaves_in_flow, left_in_flow, JoinerView, open_after, open_at, packet_at, packets_of, length-rows_from, PackedDeparture, written_with, OutPacket, PacketRow, length-map-range_with_len, ◌-◌, ◌*◌, flat_map, min, ◌==◌, range_with_len, flat_map-append, Cell, cells, cell_of, arrivals, came_in_flow, AreTables, of_packet, AreCutFrom, Piece, Open, pieces_give_frame, range_more, filter_none, JoinsOn, cells_above, length-append}
 use Rattle.cq_pcap.specs.Written.{written}
 use Rattle.cq_simulate.specs.declared.packing.Packing.{Packing}
 use Rattle.cq_simulate.proofs.Departed.{departed_captured, departed_class, departed_output}
@@ -131,18 +131,10 @@ module _ (captures : List (List Captured)) (input k : ℕ) (capture : List Captu
 
 -- ## One after another
 
--- what leaves, if anything does
-abbrev listed : Option OutPacket → List OutPacket
-listed None = []
-listed (Some p) = p ∷ []
-
 all_pushed : (packets : List OutPacket) (o : Option OutPacket) → All (λ p. length p.body ≤ longest_body) packets →
-    IfSome o (λ p. length p.body ≤ longest_body) → All (λ p. length p.body ≤ longest_body) (packets ++ listed o)
+    IfSome o (λ p. length p.body ≤ longest_body) → All (λ p. length p.body ≤ longest_body) (packets ++ cons_option o [])
 all_pushed packets None all small = rw (append-nil packets) all
 all_pushed packets (Some p) all small = All-push (λ (x : OutPacket). length x.body ≤ longest_body) packets p all small
-
-none_large : (packets : List OutPacket) → packets ≡ [] → All (λ p. length p.body ≤ longest_body) packets
-none_large packets none k d inside = grind (arith, common_steps)
 
 -- the cells of a flow among some departures and then others
 flow-append : (i c j : ℕ) (xs ys : List Departure) → left_in_flow i c j (xs ++ ys) ≡ left_in_flow i c j xs ++
@@ -151,114 +143,118 @@ flow-append i c j xs ys = grind (arith, common_steps, filter-append, map-append)
 
 of_flow : (i c j : ℕ) (d : Departure) (ds : List Departure) → leaves_in_flow i c j d ≡ true →
     left_in_flow i c j (d ∷ ds) ≡ d.queued.cell ∷ left_in_flow i c j ds
-of_flow i c j d ds e = ap (map (λ (x : Departure). x.queued.cell))
-    (cond-true (leaves_in_flow i c j d) (d ∷ filter (leaves_in_flow i c j) ds) (filter (leaves_in_flow i c j) ds) e)
+of_flow i c j d ds e = grind (arith, common_steps)
 
--- what is known when so many departures were gone through
-pub record SoFar (t : Tables) (captures : List (List Captured)) (sent : List Departure) (output k : ℕ)
+has_next : {sent : List Departure} (before rest : List Departure) (d : Departure) → before ++ d ∷ rest ≡ sent →
+    Has sent d
+has_next before rest d all = rw (← all) (has_right before (d ∷ rest) d (inl refl))
+
+-- what is known when these departures were gone through
+pub record SoFar (t : Tables) (captures : List (List Captured)) (output : ℕ) (before : List Departure)
     (joiner : JoinerView) (packets : List OutPacket) : Type 0 where
   pub inputs : joiner.inputs ≡ length captures
   pub classes : joiner.classes ≡ length t.setup.classes
   pub open_packets : (i c : ℕ) → c < length t.setup.classes →
-      open_at joiner i c ≡ opened captures None (left_in_flow i c output (take k sent))
-  pub made : packets ≡ packets_out t captures (take k sent) output
+      open_at joiner i c ≡ opened captures None (left_in_flow i c output before)
+  pub made : packets ≡ packets_out t captures before output
   pub small : All (λ p. length p.body ≤ longest_body) packets
 
-module _ (t : Tables) (captures : List (List Captured)) (sent : List Departure) (output k : ℕ) (e : Departure)
-    (inside : k < length sent) where
-  abbrev d : Departure
-  d = get_or sent k e
-
-  next_out : packets_out t captures (take (k + 1) sent) output
-      ≡ packets_out t captures (take k sent) output
+module _ (t : Tables) (captures : List (List Captured)) (output : ℕ) (before : List Departure) (d : Departure) where
+  next_out : packets_out t captures (before ++ d ∷ []) output
+      ≡ packets_out t captures before output
       ++ map (leaving t captures) (cond (ends_packet_at output d) (d ∷ []) [])
   unfolding packets_out
-  next_out = grind (arith, common_steps, take_more, filter-append, map-append)
-
-  next_flow : (i c : ℕ) → left_in_flow i c output (take (k + 1) sent) ≡ left_in_flow i c output (take k sent) ++
-      left_in_flow i c output (d ∷ [])
-  next_flow i c = grind (arith, common_steps, take_more, flow-append)
+  next_out = grind (arith, common_steps, filter-append, map-append)
 
   -- a departure of another pair, or at another output
-  pub same_flow : (i c : ℕ) → leaves_in_flow i c output d ≡ false →
-      left_in_flow i c output (take (k + 1) sent) ≡ left_in_flow i c output (take k sent)
-  same_flow i c other = search (arith, rules, next_flow, append-nil, cond-false)
+  same_flow : (i c : ℕ) → leaves_in_flow i c output d ≡ false →
+      left_in_flow i c output (before ++ d ∷ []) ≡ left_in_flow i c output before
+  same_flow i c other = search (arith, rules, flow-append, append-nil, cond-false)
 
-  pub at_other : {joiner : JoinerView} {packets : List OutPacket} → SoFar t captures sent output k joiner packets →
-      d.output ≢ output → SoFar t captures sent output (k + 1) joiner packets
-  at_other {packets = packets} so_far ne = grind (arith, common_steps, next_out, append-nil, cond-false, same_flow)
+  pub at_other : {joiner : JoinerView} {packets : List OutPacket} → SoFar t captures output before joiner packets →
+      d.output ≢ output → {next : List Departure} → next ≡ before ++ d ∷ [] →
+      SoFar t captures output next joiner packets
+  at_other {packets = packets} so_far ne more =
+      rw more (grind (arith, common_steps, next_out, append-nil, cond-false, same_flow))
 
   module _ (here : d.output ≡ output) where
     own_cell : leaves_in_flow d.queued.cell.id.input d.queued.cell.class output d ≡ true
     own_cell = grind (arith, common_steps, and_from, eq-eqb)
 
-    pub cell_fits : {joiner : JoinerView} {packets : List OutPacket} {stamp : ℕ} →
-        SoFar t captures sent output k joiner packets → HaveLeftOf t captures sent stamp →
-        d.queued.cell.class < length t.setup.classes →
-        Fits captures (open_at joiner d.queued.cell.id.input d.queued.cell.class) d.queued.cell
-    cell_fits so_far of_run few =
+    -- its cell is the next
+    pub can_join : {joiner : JoinerView} {packets : List OutPacket} {sent : List Departure} {stamp : ℕ}
+        (rest : List Departure) → SoFar t captures output before joiner packets →
+        HaveLeftOf t captures sent stamp → before ++ d ∷ rest ≡ sent → CanBeJoined captures joiner d
+    can_join rest so_far of_run all =
         let i = d.queued.cell.id.input in
         let c = d.queued.cell.class in
-        let l = of_run.whole i in
-        let left = l.left c output in
-        let split = flow-append i c output (take k sent) (d ∷ drop (k + 1) sent) in
-        let first = of_flow i c output d (drop (k + 1) sent) own_cell in
-        rw (so_far.open_packets i c few) (flow_fits t captures i (omega arith) of_run.tables of_run.captures c output
-        (l.packets c output) (left_in_flow i c output (take k sent)) d.queued.cell
-        (left_in_flow i c output (drop (k + 1) sent)) (cc (drop_more sent k e inside, take-append-drop k sent)))
+        let captured = departed_captured of_run d (has_next before rest d all) in
+        let class = departed_class of_run d (has_next before rest d all) in
+        let left = (of_run.whole i).left c output in
+        let split = flow-append i c output before (d ∷ rest) in
+        let first = of_flow i c output d rest own_cell in
+        let fits = flow_fits t captures i (omega arith) of_run.tables of_run.captures c output
+        ((of_run.whole i).packets c output) (left_in_flow i c output before) d.queued.cell
+        (left_in_flow i c output rest) cc in
+        let opens = so_far.open_packets i c class in search (arith, rules)
 
     module _ {joiner joiner_new : JoinerView} {packets : List OutPacket}
-        (so_far : SoFar t captures sent output k joiner packets) (joined : JoinsOn captures d joiner joiner_new) where
+        (so_far : SoFar t captures output before joiner packets) (joined : JoinsOn captures d joiner joiner_new) where
       open_next : (i c : ℕ) → c < length t.setup.classes → open_at joiner_new i c ≡ opened captures None
-          (left_in_flow i c output (take (k + 1) sent))
+          (left_in_flow i c output (before ++ d ∷ []))
       open_next i c few =
-          search (arith, rules, and_right, ne_eqb, cases_eq, and_left, opened-append, own_cell, next_flow, same_flow)
-
-      -- what leaves at this output
-      leaves : map (leaving t captures) (cond (ends_packet_at output d) (d ∷ []) []) ≡ listed (left_with t captures d)
-      leaves = grind (arith, common_steps, eq-eqb)
+          search (arith, rules, and_right, ne_eqb, cases_eq, and_left, opened-append, own_cell, flow-append, same_flow)
 
       pub went_on : (o : Option OutPacket) {more : List OutPacket} → o ≡ left_with t captures d →
-          more ≡ packets ++ listed o → IfSome o (λ p. length p.body ≤ longest_body) →
-          SoFar t captures sent output (k + 1) joiner_new more
-      went_on o is pushed small = grind (arith, common_steps, open_next, leaves, next_out, all_pushed)
+          more ≡ packets ++ cons_option o [] → IfSome o (λ p. length p.body ≤ longest_body) →
+          {next : List Departure} → next ≡ before ++ d ∷ [] → SoFar t captures output next joiner_new more
+      went_on o is pushed small on = rw on (search (arith, rules, open_next, next_out, all_pushed, eq-eqb))
 
-pub at_first : (t : Tables) (captures : List (List Captured)) (sent : List Departure) (output : ℕ) (joiner : JoinerView)
+pub at_first : (t : Tables) (captures : List (List Captured)) (output : ℕ) (joiner : JoinerView)
     (packets : List OutPacket) → joiner.inputs ≡ length captures → joiner.classes ≡ length t.setup.classes →
-    ((i c : ℕ) → open_at joiner i c ≡ None) → packets ≡ [] → SoFar t captures sent output 0 joiner packets
+    ((i c : ℕ) → open_at joiner i c ≡ None) → packets ≡ [] → SoFar t captures output [] joiner packets
 unfolding packets_out
-at_first t captures sent output joiner packets inputs classes none nothing = search (rules, none_large)
+at_first t captures output joiner packets inputs classes none nothing = search (arith, rules)
+
+-- the cell of the departure at a place is the next when those before it were gone through
+pub next_at : {t : Tables} {captures : List (List Captured)} {sent : List Departure} {stamp output : ℕ}
+    {joiner : JoinerView} {packets : List OutPacket} → HaveLeftOf t captures sent stamp → (k : ℕ) (e : Departure) →
+    k < length sent → (get_or sent k e).output ≡ output → SoFar t captures output (take k sent) joiner packets →
+    CanBeJoined captures joiner (get_or sent k e)
+next_at {t} {captures} {sent} {output = output} of_run k e inside here so_far =
+    can_join t captures output (take k sent) (get_or sent k e) here (drop (k + 1) sent) so_far of_run
+    (cc (drop_more sent k e inside, take-append-drop k sent))
 
 -- at what is no port nothing departs
 pub nowhere : {t : Tables} {captures : List (List Captured)} {sent : List Departure} {stamp : ℕ} (output : ℕ) →
     HaveLeftOf t captures sent stamp → ports_of t.setup ≤ output → packets_out t captures sent output ≡ []
 unfolding packets_out
 nowhere {t} {captures} {sent} output of_run none =
-    search (rules, filter_none, recursion_from_All, departed_output, and_left, ne_eqb)
+    search (rules, filter_none, all_from_has, departed_output, and_left, ne_eqb)
 
 -- ## All outputs
 
--- the walk at an output, after so many departures: its packets stand in the bytes
-pub record Walked (t : Tables) (captures : List (List Captured)) (sent : List Departure) (j done : ℕ) (p : Packing) :
+-- the walk at an output, after these departures: its packets stand in the bytes
+pub record Walked (t : Tables) (captures : List (List Captured)) (j : ℕ) (before : List Departure) (p : Packing) :
     Type 0 where
   pub packets : List OutPacket
-  pub so_far : SoFar t captures sent j done p.joiner packets
+  pub so_far : SoFar t captures j before p.joiner packets
   pub bytes : p.bytes.items ≡ written packets
 
 -- what is known when some departures were used up
 pub record AllSoFar (t : Tables) (captures : List (List Captured)) (sent left : List Departure)
     (places : List Packing) : Type 0 where
-  pub done : ℕ
-  pub others : left ≡ drop done sent
+  pub before : List Departure
+  pub all : before ++ left ≡ sent
   pub outputs : length places ≡ ports_of t.setup
-  pub each : (j : ℕ) (p : Packing) → j < length places → Walked t captures sent j done (get_or places j p)
+  pub each : (j : ℕ) (p : Packing) → j < length places → Walked t captures j before (get_or places j p)
 
 pub none_yet : (t : Tables) (captures : List (List Captured)) (sent left : List Departure) (places : List Packing) →
     left ≡ sent → length places ≡ ports_of t.setup → All (IsEmptied (length captures) (length t.setup.classes)) places →
     AllSoFar t captures sent left places
 none_yet t captures sent left places all outputs emptied = record {
-  done = 0;
-  others = all;
+  before = [];
+  all = all;
   outputs = outputs;
   each = λ j p inside.
       let e = emptied j p inside in search (arith, rules, at_first);
@@ -266,64 +262,48 @@ none_yet t captures sent left places all outputs emptied = record {
 
 module _ {t : Tables} {captures : List (List Captured)} {sent : List Departure} {left rest : List PackedDeparture}
     {p : PackedDeparture} {places : List Packing} {d : Departure} (so_far : AllSoFar t captures sent (map unpacked left)
-    places) (first : left ≡ p ∷ rest) (opens : d ≡ unpacked p) where
-  is_first : drop so_far.done sent ≡ d ∷ map unpacked rest
-  is_first = grind (arith, common_steps)
+    places) (first : left ≡ p ∷ rest) (opens : d ≡ unpacked p) {stamp : ℕ} (of_run : HaveLeftOf t captures sent stamp)
+  where
+    all : so_far.before ++ d ∷ map unpacked rest ≡ sent
+    all = grind (arith, common_steps)
 
-  inside : so_far.done < length sent
-  inside = grind (arith, common_steps, is_first, length-drop)
-
-  parts : get_or sent so_far.done d ∷ drop (so_far.done + 1) sent ≡ d ∷ map unpacked rest
-  parts = sym (drop_more sent so_far.done d inside) ∙ is_first
-
-  here : get_or sent so_far.done d ≡ d
-  here = ap (λ (ds : List Departure). get_or ds 0 d) parts
-
-  its_output : (get_or sent so_far.done d).output ≡ d.output
-  its_output = ap (λ (x : Departure). x.output) here
-
-  module _ {stamp : ℕ} (of_run : HaveLeftOf t captures sent stamp) where
     pub at_port : d.output < length places
-    at_port = grind (arith, common_steps, departed_output, inside, its_output)
+    at_port = rw so_far.outputs (departed_output of_run d (has_next so_far.before (map unpacked rest) d all))
 
     module _ (place : Packing) (is : place ≡ get_or places d.output place) where
-      own : Walked t captures sent d.output so_far.done place
+      own : Walked t captures d.output so_far.before place
       own = grind (arith, common_steps, at_port)
 
       -- its cell is the next
       pub can_take : CanBeJoined captures place.joiner d
-      can_take =
-          let came = departed_captured of_run so_far.done d inside in
-          let class = departed_class of_run so_far.done d inside in
-          let fits = cell_fits t captures sent d.output so_far.done d inside its_output own.so_far of_run class in
-          search (arith, rules, own.so_far, here)
+      can_take = can_join t captures d.output so_far.before d refl _ own.so_far of_run all
 
       module _ (new : Packing) (took : Took t captures d place new) where
-        took_here : Took t captures (get_or sent so_far.done d) place new
-        took_here = subst (λ (y : Departure). Took t captures y place new) (sym here) took
-
-        written_on : (o : Option OutPacket) → written own.packets ++ records_of o ≡ written (own.packets ++ listed o)
+        written_on : (o : Option OutPacket) →
+            written own.packets ++ records_of o ≡ written (own.packets ++ cons_option o [])
         written_on None = rw (append-nil own.packets, append-nil (written own.packets))
         written_on (Some p) = written_with own.packets p
 
-        gone_on : Walked t captures sent d.output (so_far.done + 1) new
+        gone_on : Walked t captures d.output (so_far.before ++ d ∷ []) new
         gone_on =
-            let o = left_with t captures (get_or sent so_far.done d) in
-            let on = went_on t captures sent d.output so_far.done d inside its_output own.so_far took_here.joined o refl
-            refl took_here.small in
-            let bytes = written_on o in search (arith, rules, on, own.bytes, took_here.bytes)
+            let o = left_with t captures d in
+            let on =
+            went_on t captures d.output so_far.before d refl own.so_far took.joined o refl refl took.small refl in
+            let bytes = written_on o in search (arith, rules, on, own.bytes, took.bytes)
 
         at_another : (j : ℕ) (p : Packing) → j < length places → j ≢ d.output →
-            Walked t captures sent j (so_far.done + 1) (get_or (set places d.output new) j p)
+            Walked t captures j (so_far.before ++ d ∷ []) (get_or (set places d.output new) j p)
         at_another j p in_places ne =
             let was = so_far.each j p in_places in
-            let passed = at_other t captures sent j so_far.done d inside was.so_far in
-            search (arith, rules, get_or-set_other, passed, its_output)
+            let passed = at_other t captures j so_far.before d was.so_far in
+            search (arith, rules, get_or-set_other, passed)
 
         pub one_more : AllSoFar t captures sent (map unpacked rest) (set places d.output new)
-        one_more = search (arith, rules, length-set, at_another, cases_eq, get_or-set_same, at_port, gone_on, parts)
+        one_more =
+            let more = append_assoc so_far.before (d ∷ []) (map unpacked rest) in
+            search (arith, rules, length-set, at_another, cases_eq, get_or-set_same, at_port, gone_on, all)
 
 -- where no departure is left all packets are put together
 pub all_packed : (t : Tables) (captures : List (List Captured)) (sent left : List Departure) (places : List Packing) →
     AllSoFar t captures sent left places → left ≡ [] → ArePacked t captures sent places
-all_packed t captures sent left places so_far none = grind (arith, common_steps, length-drop so_far.done sent)
+all_packed t captures sent left places so_far none = grind (arith, common_steps, append-nil)

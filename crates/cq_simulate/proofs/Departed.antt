@@ -1,7 +1,7 @@
 -- Each cell that departs has arrived. Of each input and class the cells of the packets that are taken in leave an
 -- output as they came. So what holds of all cells that arrive holds of each that departs: it is of a packet of its
 -- input's capture.
-use Rattle.cq_simulate.proofs.Terms.{rules, ◌≡◌, ℕ, ◌+◌, ◌<◌, ◌≤◌, ◌^◌, true, List, [], ◌∷◌, length, get_or, Result, Ok, sym, ◌∙◌, arith, common_steps, max, AllByRecursion, filter, eq-eqb, and_from, Arrival, end_of, Departure, TagFault, packets_of, cells, start, cell_of, arrivals_at, arrivals, IsTraffic, piece_begins, all_flat, traffic_is, NoLimits, slots_of, leaves_in_flow, departures_of, departures_limited, LimitedRan, flows_leave_in_packets, limited_same_sent, run_as_before, slots_as_before, Captured, AreTables, IsSetup, classes_of, ports_of, Tables, machines_of, openings_of, HaveLeftOf, LeaveInOrder, LeaveWhole, LeftInOrder, IsCaptured, ideal_departures, ran_ideal, slots_ran, subst, and_parts, eqb-true, Has, all_of_has, has_cases, has_image, has_kept, image_has, kept_has, flat_map, of_packet, Cell, came_more, few_by, length_packet, row_of, rows_are, length-append, length-map-range_with_len, last_departs, limited_slots, has_at, all_made}
+use Rattle.cq_simulate.proofs.Terms.{rules, ◌≡◌, ℕ, ◌+◌, ◌<◌, ◌≤◌, ◌^◌, true, List, [], ◌∷◌, length, Result, Ok, sym, ◌∙◌, arith, common_steps, max, AllByRecursion, filter, eq-eqb, and_from, Arrival, end_of, Departure, TagFault, packets_of, cells, start, cell_of, arrivals_at, arrivals, IsTraffic, piece_begins, all_flat, traffic_is, NoLimits, slots_of, leaves_in_flow, departures_of, departures_limited, LimitedRan, flows_leave_in_packets, limited_same_sent, run_as_before, slots_as_before, Captured, AreTables, IsSetup, classes_of, ports_of, Tables, machines_of, openings_of, HaveLeftOf, LeaveInOrder, LeaveWhole, LeftInOrder, IsCaptured, ideal_departures, ran_ideal, slots_ran, subst, and_parts, eqb-true, Has, all_of_has, has_cases, has_image, has_kept, image_has, kept_has, flat_map, of_packet, Cell, came_more, few_by, length_packet, row_of, rows_are, length-append, length-map-range_with_len, last_departs, limited_slots, all_made}
 use Rattle.cq_cells.specs.Traffic.{IsInRange, IsRecorded}
 use Rattle.cq_simulate.proofs.OfPackets.{as_packets, packets_come}
 use Rattle.cq_simulate.proofs.Runnable.{runnable}
@@ -71,27 +71,27 @@ small_cells t captures some each = all_cells t captures _ (λ i k n in_captures 
     search (arith, rules, rows_are, few_by t captures i (k + 1), came_more, length_packet, length-append))
 
 module _ {t : Tables} {captures : List (List Captured)} {sent : List Departure} {stamp : ℕ}
-    (of_run : HaveLeftOf t captures sent stamp) (k : ℕ) (e : Departure) (inside : k < length sent) where
+    (of_run : HaveLeftOf t captures sent stamp) (d : Departure) (has : Has sent d) where
   abbrev came : List Arrival
   came = arrivals t captures
 
-  it : CameAs came (get_or sent k e)
-  it = came_as came sent of_run.whole (get_or sent k e) (has_at sent k e inside)
+  it : CameAs came d
+  it = came_as came sent of_run.whole d has
 
   is_in_range : IsInRange (ports_of t.setup) (classes_of t.setup) it.arrival
   is_in_range = grind (arith, common_steps, all_of_has, traffic_is)
 
-  pub departed_captured : IsCaptured captures (get_or sent k e).queued.cell
+  pub departed_captured : IsCaptured captures d.queued.cell
   unfolding cell_of cells
   departed_captured =
       let all = all_cells t captures (λ a. IsCaptured captures a.cell) (search (arith, rules, piece_begins)) in
       subst (IsCaptured captures) it.own (all_of_has (λ a. IsCaptured captures a.cell) came it.arrival all it.has)
 
-  pub departed_class : (get_or sent k e).queued.cell.class < length t.setup.classes
+  pub departed_class : d.queued.cell.class < length t.setup.classes
   departed_class = rw it.own at is_in_range.class
 
   -- so each departure is at a port
-  pub departed_output : (get_or sent k e).output < ports_of t.setup
+  pub departed_output : d.output < ports_of t.setup
   departed_output = rw it.output at is_in_range.output
 
 -- ## The last slot

@@ -1,5 +1,6 @@
+use Rattle.cq_simulate.proofs.Terms.{take}
 use Rattle.cq_simulate.proofs.AllPacked.{SoFar}
 use Rattle.cq_simulate.proofs.packets.put_together.Given as goal
 
 abbrev pub invariant-departures : goal.invariant-departures
-invariant-departures l = SoFar l.tables l.captures l.sent l.output l.departure-index l.joiner l.packets.items
+invariant-departures l = SoFar l.tables l.captures l.output (take l.departure-index l.sent) l.joiner l.packets.items
