@@ -1,5 +1,5 @@
 -- What each step of the loop over the slots of the fabric asks for, where so many slots are left as are not yet over.
-use Rattle.cq_simulate.proofs.Terms.{common_steps, rules, ◌≡◌, ◌↔◌, ℕ, suc, ◌+◌, ◌-◌, ◌<◌, ◌≤◌, ◌^◌, Bool, true, false, List, [], ◌++◌, length, map, replicate, Option, Err, refl, sym, ap, arith, zero, ◌*◌, ◌∷◌, length-append, append_assoc, IsTrue, sum, slice_index, cases_lt, and_left, leb-false, ne_eqb, no_arrivals, Arrival, arriving, end_of, arriving_at, RoomView, Cell, Departure, TagFault, Transfer, EngineView, HaveBufferRoom, HaveListRoom, IsMadeAs, IsReadyFor, SlotDone, answer_to, its_admission, marked_fabric, HaveLeft, CanCount, AreForPorts, ranking, IsEmptyFabric, Fabric, input, LimitedFabricRun, admissions_in, LimitedRecord, IsLimitedFault, LimitedFabricSlot, slots_in, IsInputBest, Machine, class_count, counts_fit, none_counted, all_counted_both, refused_in, HasRunOn, IsReadyOn, NoneCome, StopsWithin, RanTo, WentOn, to_come, arrivals_for, arrives_found, from_here, one_if, come_from, no_more_from, for_here, come_for, no_more_to, IsQuiet, append-nil, length-map, get_or_past, map-append, take_all, take-append-le, departures_in, no_departures, IdealState, quiet_figures, quiet_transfers, transfers_of_run, range_with_len, Queued, nothing_left, come_count, come_count-first, arriving_length, arriving_here, arriving_parts, one_slot_more, waiting, total, total_same, Marked, arriving_from, departures_of, LimitedSent, stable_limited_slot, limited_ports_kept, same_limited_slot, only_limited_run, empty_together, Agrees, fabric_held, held_for, LimitedAgrees, figures_after, fold-append, sum_by-cons, agrees_of, ideal_of, is_from, is_to, number_of, arriving_is, found, quiet_limited_slots, quiet_limited_slot, limited_lists_kept, limited_outputs_kept, all_go_on, departures_one, transfers_both, transfers_one, departures_on, hold_as_many, most_ports}
+use Rattle.cq_simulate.proofs.Terms.{common_steps, rules, ◌≡◌, ℕ, suc, ◌+◌, ◌-◌, ◌<◌, ◌≤◌, ◌^◌, Bool, true, false, List, [], ◌++◌, length, map, replicate, Option, Err, refl, sym, ap, arith, zero, ◌*◌, ◌∷◌, length-append, append_assoc, sum, slice_index, cases_lt, and_left, leb-false, ne_eqb, no_arrivals, Arrival, arriving, end_of, arriving_at, RoomView, Cell, Departure, TagFault, Transfer, EngineView, HaveBufferRoom, HaveListRoom, IsMadeAs, IsReadyFor, SlotDone, answer_to, its_admission, marked_fabric, HaveLeft, CanCount, AreForPorts, ranking, IsEmptyFabric, Fabric, input, LimitedFabricRun, admissions_in, LimitedRecord, IsLimitedFault, LimitedFabricSlot, slots_in, IsInputBest, Machine, class_count, counts_fit, none_counted, all_counted_both, refused_in, HasRunOn, IsReadyOn, NoneCome, StopsWithin, RanTo, WentOn, to_come, arrivals_for, arrives_found, from_here, one_if, come_from, no_more_from, for_here, come_for, no_more_to, IsQuiet, append-nil, length-map, get_or_past, map-append, take_all, take-append-le, departures_in, no_departures, IdealState, quiet_figures, quiet_transfers, transfers_of_run, range_with_len, Queued, nothing_left, come_count, come_count-first, arriving_length, arriving_here, arriving_parts, one_slot_more, waiting, total, total_same, Marked, arriving_from, departures_of, LimitedSent, stable_limited_slot, limited_ports_kept, same_limited_slot, only_limited_run, empty_together, Agrees, fabric_held, held_for, LimitedAgrees, figures_after, fold-append, sum_by-cons, agrees_of, ideal_of, is_from, is_to, number_of, arriving_is, found, quiet_limited_slots, quiet_limited_slot, limited_lists_kept, limited_outputs_kept, all_go_on, departures_one, transfers_both, transfers_one, departures_on, hold_as_many, most_ports}
 use Rattle.cq_engine.specs.Engine.{HasGoneOn, ports_of}
 use Rattle.cq_engine.specs.Resting.{HasRested}
 use Rattle.cq_simulate.proofs.Steps.{IsFree, few_left, fewer_come, of_admitted, come_here, numbers, slot_err}
@@ -277,10 +277,6 @@ module _ {whole : Bool} {ms : List Machine} {came : List Arrival} {first : Engin
       (rw (← quiet slot (omega arith) (omega arith)) at passed) in
       crossing_rest k (slot + 1) next n (k + n) (idled ms ports ranks) marks middle after (omega arith) refl after_one
       (search (arith, rules, quiet)) (λ is lt. more is (omega arith)) ran.2 figures at running refused (search rules)
-
-pub goes_on : (b : Bool) (end slot : ℕ) (Empty : Type 0) → b ≡ false → (IsTrue b ↔ ((end ≤ slot) × Empty)) →
-    end ≤ slot → Empty → ⊥
-goes_on b end slot Empty going iff le none = let over : b ≡ true = iff.1 (le, none) in let P : ⊥ = cc in P
 
 -- where no slot is skipped nothing comes either
 pub quiet_if : {came : List Arrival} {slot next : ℕ} → slot ≤ next → (slot < next → IsQuiet came slot next) →

@@ -1,5 +1,5 @@
 -- What each step of the loop over the slots asks for, where so many slots are left as are not yet over.
-use Rattle.cq_simulate.proofs.Terms.{common_steps, rules, ◌≡◌, ◌↔◌, ℕ, suc, ◌+◌, ◌-◌, ◌<◌, ◌≤◌, ◌^◌, Bool, false, List, [], ◌++◌, length, map, replicate, Option, Result, Ok, Err, refl, sym, ap, ◌∙◌, arith, zero, None, ◌∷◌, IsTrue, All, IfOk, slice_index_or, cases_lt, IfOk-weaker, Cell, Departure, Queued, TagFault, no_arrivals, Arrival, arriving, end_of, enough, traffic_of, RoomView, Machine, Marked, nothing_refused, admission, admitted, refused, IdealSwitch, HasRoomFor, HaveLeft, marked_state, count_for, IdealState, departures_in, ideal_slot, departures_limited, LimitedSent, limited_run, limited_slot, ideal_admission, with_admission, CanCount, IsReady, waiting, counted, arriving_from, slots_of, none_waits, nothing_left, all_slots, arrivals_for, for_here, from_here, some_one, come_for, come_for-traffic_of, IsQuiet, come_count, arriving_parts, departures_of, no_departures, quiet_slots, length-replicate, append-nil, length-append, get_or-replicate, number_of, is_to, refused_counts, with_refused, counts_fit, zero_fits, present, come_count-traffic_of, none_after, run_fault, run_step, counts_more, each_once, waiting-empty, CanHaveSlot, HasHadSlot, IsSameSwitch, arriving_length, first_slots, departures_append, slots_within, first_more, LimitedRan, marked}
+use Rattle.cq_simulate.proofs.Terms.{common_steps, rules, ◌≡◌, ◌↔◌, ℕ, suc, ◌+◌, ◌-◌, ◌<◌, ◌≤◌, ◌^◌, Bool, true, false, List, [], ◌++◌, length, map, replicate, Option, Result, Ok, Err, refl, sym, ap, arith, zero, None, ◌∷◌, IsTrue, All, IfOk, slice_index_or, cases_lt, IfOk-weaker, Cell, Departure, Queued, TagFault, no_arrivals, Arrival, arriving, end_of, enough, traffic_of, RoomView, Machine, Marked, nothing_refused, admission, admitted, refused, IdealSwitch, HasRoomFor, HaveLeft, marked_state, count_for, IdealState, departures_in, ideal_slot, departures_limited, LimitedSent, limited_run, limited_slot, ideal_admission, with_admission, CanCount, IsReady, waiting, counted, arriving_from, slots_of, none_waits, nothing_left, all_slots, arrivals_for, for_here, from_here, some_one, come_for, come_for-traffic_of, IsQuiet, come_count, arriving_parts, departures_of, no_departures, quiet_slots, length-replicate, append-nil, length-append, get_or-replicate, number_of, is_to, refused_counts, with_refused, counts_fit, zero_fits, present, come_count-traffic_of, none_after, run_fault, run_step, counts_more, each_once, waiting-empty, CanHaveSlot, HasHadSlot, IsSameSwitch, arriving_length, first_slots, departures_append, slots_within, first_more, LimitedRan, marked}
 use Rattle.cq_ideal.specs.Ideal.{answer_to, its_slot}
 use Rattle.cq_ideal.specs.IdealSlot.{Sent}
 use Rattle.cq_ideal.proofs.Waiting.{Counted}
@@ -127,6 +127,9 @@ pub ruleset numbers =
 
 module _ {ms : List Machine} {came : List Arrival} {first : IdealSwitch} {first_sent sent : RoomView Departure}
     {slot n : ℕ} {now : IdealSwitch} (r : Running ms came first first_sent slot (suc n) now sent) where
+  room_left : (cells : List (Option Cell)) → cells ≡ arriving came slot → HasRoomFor cells now
+  room_left cells are j inside = grind (arith, common_steps, for_here j came slot n)
+
   pub running_next : {after : IdealSwitch} {sent_new : RoomView Departure} {of_slot : LimitedSent} →
       limited_slot first.limits ms slot (arriving came slot) (marked_state now) ≡ Ok of_slot →
       marked_state after ≡ of_slot.after → after.refused ≡ with_refused of_slot.admission.refused now.refused →
@@ -223,9 +226,9 @@ module _ (M : List ℕ → Machine) {came : List Arrival} {first : IdealSwitch} 
 
 -- ## The test
 
-pub not_over : (b : Bool) (end slot : ℕ) (lists : List (List Queued)) → b ≡ false →
-    (IsTrue b ↔ ((end ≤ slot) × All (λ cells. cells ≡ []) lists)) → end ≤ slot → waiting lists ≡ 0 → ⊥
-not_over b end slot lists going iff le none = grind (arith, common_steps, nothing_left)
+pub goes_on : (b : Bool) (end slot : ℕ) (Empty : Type 0) → b ≡ false → (IsTrue b ↔ ((end ≤ slot) × Empty)) →
+    end ≤ slot → Empty → ⊥
+goes_on b end slot Empty going iff le none = let over : b ≡ true = iff.1 (le, none) in let P : ⊥ = cc in P
 
 -- ## The steps
 
@@ -258,12 +261,12 @@ module _ {ms : List Machine} {slot ports : ℕ} {cells : List (Option Cell)} {ol
 pub record Standing (M : List ℕ → Machine) (came : List Arrival) (first : IdealSwitch)
     (first_sent : RoomView Departure) (slot : ℕ) (now : IdealSwitch) (sent : RoomView Departure) : Type 0 where
   pub runs : Running (map M first.fixed) came first first_sent slot (enough came - slot) now sent
-  pub more : end_of came ≤ slot → waiting now.state.lists ≡ 0 → ⊥
+  pub more : end_of came ≤ slot → All (λ cells. cells ≡ []) now.state.lists → ⊥
 
 module _ {M : List ℕ → Machine} {came : List Arrival} {first : IdealSwitch} {first_sent sent : RoomView Departure}
     {slot : ℕ} {now : IdealSwitch} (here : Standing M came first first_sent slot now sent) where
   pub a_slot_left : slot < enough came
-  a_slot_left = search (arith, rules, here.more, cases_lt slot (enough came))
+  a_slot_left = search (arith, rules, here.more, cases_lt slot (enough came), nothing_left)
 
   r_next : Running (map M first.fixed) came first first_sent slot (suc (enough came - (slot + 1))) now sent
   r_next = search (arith, rules, Running, a_slot_left)
@@ -271,23 +274,19 @@ module _ {M : List ℕ → Machine} {came : List Arrival} {first : IdealSwitch} 
   early : slot < 2 ^ 64 - 1
   early = let l = a_slot_left in let short : enough came ≤ 2 ^ 63 + 2 ^ 35 = here.runs.ready.short in omega arith
 
-  room_left : (cells : List (Option Cell)) → cells ≡ arriving came slot → HasRoomFor cells now
-  room_left cells are j inside = grind (arith, common_steps, for_here j came slot (enough came - (slot + 1)))
-
   -- no count of refused cells and packets is near its type's end
   room_to_count : CanCount (length now.fixed) now.refused
   room_to_count =
       let short : enough came ≤ 2 ^ 63 + 2 ^ 35 = here.runs.ready.short in
-      let are = enough_are came in
-      let p = length first.fixed in
       let lost = here.runs.lost in
-      rw (here.runs.same.fixed, here.runs.refused ∙ counts_more first.limits [] lost) (counts_fit lost p (length lost)
-      (refused_counts first.limits []) (zero_fits (p + length lost) first.limits (omega arith)) (omega arith))
+      let fits = counts_fit lost (length first.fixed) (length lost) (refused_counts first.limits []) in
+      let none = zero_fits (length first.fixed + length lost) first.limits in
+      search (arith, rules, fits, none, enough_are, counts_more first.limits [] lost)
 
   -- the slot finds all that it asks for, with a free list for what is sent
   pub can_have : {cells : List (Option Cell)} {leaving : RoomView Departure} → cells ≡ arriving came slot →
       IsFree (length first.fixed) leaving → CanHaveSlot (map M now.fixed) slot cells now leaving
-  can_have {cells} are free = search (arith, rules, early, room_left, room_to_count, arrivals_for)
+  can_have {cells} are free = search (arith, rules, early, room_left r_next, room_to_count, arrivals_for)
 
   -- and the departures of the run can take over what leaves there
   pub can_take_over : {cells : List (Option Cell)} {after : IdealSwitch} {leaving left : RoomView Departure} →
@@ -310,11 +309,12 @@ module _ (M : List ℕ → Machine) {came : List Arrival} {first : IdealSwitch} 
     {slot n : ℕ} {now : IdealSwitch} (r : Running (map M first.fixed) came first first_sent slot n now sent) where
   -- a stretch is skipped
   pub stands : {next : ℕ} {new : IdealSwitch} → IsQuiet came slot next →
-      HasRested (map M now.fixed) slot next now new → (end_of came ≤ slot → waiting now.state.lists ≡ 0 → ⊥) →
+      HasRested (map M now.fixed) slot next now new →
+      (end_of came ≤ slot → All (λ cells. cells ≡ []) now.state.lists → ⊥) →
       Standing M came first first_sent next new sent
   stands {next} {new} quiet rested more =
       let rest = running_rest M r quiet rested (enough came - next) in
-      search (arith, rules, rest, enough_are, waiting, cases_lt, quiet.more)
+      search (arith, rules, rest, enough_are, cases_lt, quiet.more)
 
   pub at_end : (end_of came ≤ slot) × All (λ cells. cells ≡ []) now.state.lists →
       departures_limited (limited_run first.limits (map M first.fixed) 0 (traffic_of came) (marked_state first))

@@ -1,6 +1,6 @@
 use Rattle.cq_simulate.proofs.Terms.{ap, is_err, ◌+◌, ◌-◌, true, zero, ◌∙◌, arith, rules, ◌<◌, sym, err_from_is_err_and, end_of, IsEmptyFabric, quiet_of}
-use Rattle.cq_simulate.proofs.FabricSteps.{over_by, Stands, can_run_here, can_take_over, crossing_first, crossing_over, fault_here, goes_on, left_here, next_here, places_here, quiet_if, run_stands}
-use Rattle.cq_simulate.proofs.Steps.{enough_are, free_again, left_with_all}
+use Rattle.cq_simulate.proofs.FabricSteps.{over_by, Stands, can_run_here, can_take_over, crossing_first, crossing_over, fault_here, left_here, next_here, places_here, quiet_if, run_stands}
+use Rattle.cq_simulate.proofs.Steps.{enough_are, free_again, goes_on, left_with_all}
 use Rattle.cq_simulate.proofs.fabric_run.run_slots.Given as given
 use Rattle.cq_simulate.proofs.fabric_run.run_slots.Goals as goal
 use Rattle.cq_simulate.proofs.fabric_run.run_slots.Goals.{After-arrivals}

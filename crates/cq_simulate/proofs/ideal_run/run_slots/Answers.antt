@@ -1,5 +1,5 @@
-use Rattle.cq_simulate.proofs.Terms.{rules, map, sym, ◌∙◌, arith, err_from_is_err_and, end_of}
-use Rattle.cq_simulate.proofs.Steps.{HasHad, Standing, a_slot_left, at_end, at_fault, at_next, can_have, can_take_over, early_at_end, free_again, handed, left_here, not_over, running_first, stands as stands_at}
+use Rattle.cq_simulate.proofs.Terms.{◌≡◌, All, [], rules, map, sym, ◌∙◌, arith, err_from_is_err_and, end_of}
+use Rattle.cq_simulate.proofs.Steps.{HasHad, Standing, a_slot_left, at_end, at_fault, at_next, can_have, can_take_over, early_at_end, free_again, goes_on, handed, left_here, running_first, stands as stands_at}
 use Rattle.cq_simulate.proofs.ideal_run.run_slots.Given as given
 use Rattle.cq_simulate.proofs.ideal_run.run_slots.Goals as goal
 use Rattle.cq_simulate.proofs.ideal_run.run_slots.Goals.{After-arrivals, In_ok-slot}
@@ -11,8 +11,8 @@ stands : (g : given.Over) (c : After-arrivals g) →
     Standing g.R.Rank.machine c.args.schedule.now.came c.args.ideal.now c.args.sent.now c.skip-slot.result
     c.skip-slot.new.ideal c.slots.sent
 stands g c = stands_at g.R.Rank.machine c.slots.invariant.runs c.skip-slot.ensures.quiet c.skip-slot.ensures.rested
-    (not_over c.is_over.result (end_of c.args.schedule.now.came) c.slots.slot c.slots.ideal.state.lists
-    c.slots-test.true c.is_over.ensures)
+    (goes_on c.is_over.result (end_of c.args.schedule.now.came) c.slots.slot
+    (All (λ cells. cells ≡ []) c.slots.ideal.state.lists) c.slots-test.true c.is_over.ensures)
 
 -- what the switch says of the slot
 had : (g : given.Over) (c : In_ok-slot g) →
