@@ -43,17 +43,15 @@ module _ (t : Tables) (captures : List (List Captured)) where
         ≡ tally (λ i. p (cell_of t captures input k i)) (range_with_len 0 (cells t captures input k))
     unfolding arrivals_at cell_of
     of_packet p =
-        let many = length (packets_of captures input) in
-        let ks = range_with_len 0 many in
+        let one = one_is k 0 (length (packets_of captures input)) (omega arith) (omega arith) in
+        let ks = range_with_len 0 (length (packets_of captures input)) in
         let line = flat_map (arrivals_of t captures input) ks in
         let own : Cell → Bool = λ cell. cell.id.packet == k in
-        let one = one_is k 0 many (omega arith) (omega arith) in
         let here = by_packet t captures input own (λ n. n == k) (λ n m. refl) ks in
         let both = tally_both p own (map (λ (a : Arrival). a.cell) line) in
         let images = tally-map (λ cell. own cell && p cell) (λ (a : Arrival). a.cell) line in
-        let all = line_cells t captures input ks in
         let its = tally-map p (cell_of t captures input k) (range_with_len 0 (cells t captures input k)) in
-        grind (arith, common_steps, append-nil)
+        grind (arith, common_steps, append-nil, line_cells)
 
     -- of its cells for an output the one at this place: there is one, if the packet goes there
     pub one_cell : (own : Cell → Bool) (place j : ℕ) → place < cells t captures input k →
@@ -79,15 +77,8 @@ module _ (t : Tables) (captures : List (List Captured)) (sent : List Departure) 
     (lost : AllByRecursion (IsOfPacket t captures) refused) where
   module _ (input k j : ℕ) (in_captures : input < length captures)
       (in_packets : k < length (packets_of captures input)) where
-    abbrev arrived : List Arrival
-    arrived = arrivals t captures
-
     abbrev class : ℕ
     class = class_of t captures input k
-
-    -- whether the packet is taken in
-    abbrev taken : Bool
-    taken = (parted input in_captures).is_taken k
 
     -- whether it goes to this output
     abbrev goes : Bool
@@ -107,36 +98,37 @@ module _ (t : Tables) (captures : List (List Captured)) (sent : List Departure) 
     flow_test here cell of = grind (arith, common_steps)
 
     -- its last cell came in its flow, if it goes here
-    came_last : tally ends (came_in_flow input class j arrived) ≡ bit goes
+    came_last : tally ends (came_in_flow input class j (arrivals t captures)) ≡ bit goes
     unfolding cell_of cells
     came_last =
         let some : 0 < cells t captures input k = cells_above (length (packet_at captures input k).body) t.cell_bytes in
         let in_line : Arrival → Bool = λ a. a.cell.id.packet == k && (a.cell.output == j && a.cell.last) in
-        tally-map ends (λ (a : Arrival). a.cell) (filter (comes_in_flow input class j) arrived)
-        ∙ tally_both (λ (a : Arrival). ends a.cell) (comes_in_flow input class j) arrived
-        ∙ tally_same (λ a. comes_in_flow input class j a && ends a.cell) (λ a. is_from input a && in_line a) arrived
-        (search (arith, rules, all_weaker, flow_test, input_first, all_of_packets))
-        ∙ sym (tally_both in_line (is_from input) arrived) ∙ ap (tally in_line) (at_input t captures input in_captures)
+        tally-map ends (λ (a : Arrival). a.cell) (filter (comes_in_flow input class j) (arrivals t captures))
+        ∙ tally_both (λ (a : Arrival). ends a.cell) (comes_in_flow input class j) (arrivals t captures)
+        ∙ tally_same (λ a. comes_in_flow input class j a && ends a.cell) (λ a. is_from input a && in_line a)
+        (arrivals t captures) (search (arith, rules, all_weaker, flow_test, input_first, all_of_packets))
+        ∙ sym (tally_both in_line (is_from input) (arrivals t captures))
+        ∙ ap (tally in_line) (at_input t captures input in_captures)
         ∙ one_cell t captures input k in_packets (λ cell. cell.last) (cells t captures input k - 1) j (omega arith)
         (λ i. search (arith, rules, cases_eq i (cells t captures input k - 1), eq-eqb, ne_eqb))
 
     -- and so did its first
-    came_first : tally begins (came_at input arrived) ≡ bit goes
+    came_first : tally begins (came_at input (arrivals t captures)) ≡ bit goes
     unfolding cell_of cells
     came_first =
         let one = one_cell t captures input k in_packets is_first 0 j in
         search (arith, rules, tally-map, at_input, one, cells_above)
 
-    leaves : times_left input k j sent ≡ cond taken (bit goes) 0
+    leaves : times_left input k j sent ≡ cond ((parted input in_captures).is_taken k) (bit goes) 0
     leaves =
         let p = parted input in_captures in
         sym
         (search (arith, rules, tally-map, tally_both, tally_same, all_weaker, flow_test))
         ∙ ap (tally ends) (p.left class j)
         ∙ tally_of_kind (λ (cell : Cell). cell.id.packet) k p.is_taken (λ cell. cell.last)
-        (came_in_flow input class j arrived) ∙ ap (λ (n : ℕ). cond taken n 0) came_last
+        (came_in_flow input class j (arrivals t captures)) ∙ ap (λ (n : ℕ). cond (p.is_taken k) n 0) came_last
 
-    is_refused : times_refused input k j refused ≡ cond (not taken) (bit goes) 0
+    is_refused : times_refused input k j refused ≡ cond (not ((parted input in_captures).is_taken k)) (bit goes) 0
     is_refused =
         let p = parted input in_captures in
         let at = λ (cell : Cell). cell.id.input == input in
@@ -144,54 +136,55 @@ module _ (t : Tables) (captures : List (List Captured)) (sent : List Departure) 
         let same = tally_same (λ cell. here cell && (at cell && cell.id.packet == k)) (λ cell. at cell && begins cell)
         refused (search (arith, rules, all_weaker, input_first)) in
         let its = tally_of_kind (λ (cell : Cell). cell.id.packet) k (λ n. not (p.is_taken n)) here
-        (came_at input arrived) in
+        (came_at input (arrivals t captures)) in
         cc (tally_both begins at refused, p.others, came_first)
 
     pub each_once : times_left input k j sent + times_refused input k j refused ≡ bit goes
     each_once = search (arith, rules, leaves, is_refused, bit)
 
   module _ (j : ℕ) where
-    -- how many packets each input has
-    abbrev many : ℕ → ℕ
-    many input = length (packets_of captures input)
-
-    abbrev inputs : List ℕ
-    inputs = range_with_len 0 (length captures)
-
     abbrev packets : ℕ → List ℕ
-    packets input = range_with_len 0 (many input)
+    packets input = range_with_len 0 (length (packets_of captures input))
 
-    abbrev lefts : ℕ → ℕ
-    lefts input = sum_by (λ k. times_left input k j sent) (packets input)
+    -- these numbers of all packets of all inputs
+    abbrev summed : (ℕ → ℕ → ℕ) → ℕ
+    summed f = sum_by (λ input. sum_by (f input) (packets input)) (range_with_len 0 (length captures))
 
-    abbrev refusals : ℕ → ℕ
-    refusals input = sum_by (λ k. times_refused input k j refused) (packets input)
+    abbrev lefts : ℕ → ℕ → ℕ
+    lefts input k = times_left input k j sent
 
-    written : length (packets_out t captures sent j) ≡ sum_by lefts inputs
+    abbrev refusals : ℕ → ℕ → ℕ
+    refusals input k = times_refused input k j refused
+
+    written : length (packets_out t captures sent j) ≡ summed lefts
     unfolding packets_out
     written = length-map (filter (ends_packet_at j) sent) (leaving t captures)
         ∙ tally_by_parts (ends_packet_at j) (λ d. d.queued.cell.id.input) (λ d. d.queued.cell.id.packet)
-        (length captures) many sent (search (arith, rules, all_weaker))
+        (length captures) (λ i. length (packets_of captures i)) sent (search (arith, rules, all_weaker))
 
-    counted : packets_refused j refused ≡ sum_by refusals inputs
+    counted : packets_refused j refused ≡ summed refusals
     unfolding packets_refused
     counted = tally_by_parts (λ cell. cell.output == j && is_first cell) (λ cell. cell.id.input)
-        (λ cell. cell.id.packet) (length captures) many refused (search (arith, rules, all_weaker))
+        (λ cell. cell.id.packet) (length captures) (λ i. length (packets_of captures i)) refused
+        (search (arith, rules, all_weaker))
 
-    from_input : (input : ℕ) → input < length captures → lefts input + refusals input ≡ number_from t captures j input
+    from_input : (input : ℕ) → input < length captures →
+        sum_by (lefts input) (packets input) + sum_by (refusals input) (packets input) ≡ number_from t captures j input
     from_input input inside =
-        let times : ℕ → ℕ = λ k. times_left input k j sent + times_refused input k j refused in
         let goes : ℕ → ℕ = λ k. bit (output_of t captures input k == j) in
-        sym (search (arith, rules, sum_by_both))
-        ∙ sum_by_same times goes (packets input)
-        (all_in_row _ 0 (many input) (λ k less. each_once input k j inside (omega arith)))
+        sym (sum_by_both (lefts input) (refusals input) (packets input))
+        ∙ sum_by_same (λ k. lefts input k + refusals input k) goes (packets input)
+        (all_in_row _ 0 (length (packets_of captures input)) (λ k less. each_once input k j inside (omega arith)))
         ∙ sym (length-filter (λ k. output_of t captures input k == j) (packets input))
 
     pub all_once : length (packets_out t captures sent j) + packets_refused j refused ≡ number_for t captures j
     all_once =
-        let same = sum_by_same (λ input. lefts input + refusals input) (number_from t captures j) inputs
+        let left : ℕ → ℕ = λ input. sum_by (lefts input) (packets input) in
+        let lost : ℕ → ℕ = λ input. sum_by (refusals input) (packets input) in
+        let inputs = range_with_len 0 (length captures) in
+        let same = sum_by_same (λ input. left input + lost input) (number_from t captures j) inputs
         (all_in_row _ 0 (length captures) (λ input less. from_input input (omega arith))) in
-        cc (written, counted, sum_by_both lefts refusals inputs, sum-map (number_from t captures j) inputs)
+        cc (written, counted, sum_by_both left lost inputs, sum-map (number_from t captures j) inputs)
 
 -- What is refused has come: slot by slot the refused cells are some of those that arrive, and these are some of the
 -- arrivals. So what holds of each cell that comes holds of each that is refused.
