@@ -53,17 +53,13 @@ longer_one f came cell xs is = grind (arith, common_steps, is, length-insert)
 
 -- ## A transfer
 
--- one where a cell crosses
-abbrev one_crosses : Option Transfer → ℕ
-one_crosses None = 0
-one_crosses (Some t) = 1
-
-length-cons_option : (o : Option Transfer) (ts : List Transfer) → length (cons_option o ts) ≡ one_crosses o + length ts
+length-cons_option : (o : Option Transfer) (ts : List Transfer) → length (cons_option o ts) ≡ length
+    (cons_option o []) + length ts
 length-cons_option o ts = grind (arith, common_steps)
 
 module _ (slot phase : ℕ) where
-  one_taken : (i : ℕ) (p : Option ℕ) (xs : List Queued) → one_crosses (noted slot phase i xs p) + length
-      (list_taken p xs) ≤ length xs
+  one_taken : (i : ℕ) (p : Option ℕ) (xs : List Queued) → length
+      (cons_option (noted slot phase i xs p) []) + length (list_taken p xs) ≤ length xs
   one_taken i None xs = omega arith
   one_taken i (Some j) [] = omega arith
   one_taken i (Some j) (x ∷ xs) = search (arith, rules, one_taken i (Some j) xs)
@@ -102,9 +98,7 @@ module _ (f : Fabric) (m : Partners) (is : IsMatching (orders_of f.inputs) m) wh
       rw (← length-map f.inputs output_order) (proposals_within (orders_of f.inputs) m is _ few)
 
   pub proposals_none : ((i : ℕ) → length (input f i) ≡ 0) → proposals (orders_of f.inputs) m ≡ 0
-  proposals_none none =
-      let o = orders_of f.inputs in
-      search (arith, rules, proposals_within o m is 0, outputs_at f.inputs, nil_from_length)
+  proposals_none none = search (arith, rules, proposals_within (orders_of f.inputs) m is 0, outputs_at, nil_from_length)
 
 -- ## A slot
 
@@ -112,10 +106,8 @@ module _ (ms : List Machine) (slot : ℕ) (cells : List (Option Cell)) (f g : Fa
     (step : FabricSlot IsInputBest ms slot cells f r g) where
   arrived_one : (i : ℕ) → length (input r.arrived i) ≤ length (input f i) + one_if (arrival_at cells i)
   arrived_one i =
-      let e = ap length (step.arrive.lists i) in
-      let from = came_from ms slot 0 cells f.ranks (record { came = r.came; ranks = r.arrived.ranks })
-      step.arrive.ranked i in
-      search (arith, rules, longer_one f (came_to r.came i) (arrival_at cells i) (input f i), from)
+      let from = came_from ms slot 0 cells f.ranks (record { came = r.came; ranks = r.arrived.ranks }) in
+      search (arith, rules, longer_one f (came_to r.came i) (arrival_at cells i) (input f i), from, step.arrive)
 
   arrived_all : (n : ℕ) → at_inputs r.arrived n ≤ at_inputs f n + length (present cells)
   unfolding at_inputs
@@ -138,10 +130,8 @@ module _ (ms : List Machine) (slot : ℕ) (cells : List (Option Cell)) (f g : Fa
   pub none_proposed : ((i : ℕ) → length (input f i) ≡ 0) → length (present cells) ≡ 0 → sum (proposals_in r) ≡ 0
   unfolding proposals_in
   none_proposed none quiet =
-      let before : (i : ℕ) → length (input r.arrived i) ≡ 0 =
-      λ i. omega (arith, arrived_one i, none i, one_present cells i) in
       let fewer = shorter r.first r.arrived r.filled step.fill in
-      search (arith, rules, before, fewer, step.depart.inputs, proposals_none)
+      search (arith, rules, arrived_one, one_present cells, fewer, step.depart.inputs, proposals_none)
 
 pub square_few : (n : ℕ) → n ≤ most_ports → n * n ≤ 4096
 square_few n few = let square : n * n ≤ most_ports * most_ports = mul-le-mul few few in omega arith
