@@ -2,7 +2,7 @@
 -- at any moment of it: so both its matchings are chosen of orders by first cells. After the slot both agree again. So
 -- it is of a run from the empty fabric on, and of one that goes on from a sound state, whichever stable matchings may
 -- be chosen; and after the arrivals of each slot no slack is below 0.
-use Rattle.cq_simulate.proofs.Terms.{common_steps, rules, ◌≡◌, ℕ, ◌+◌, List, [], ◌∷◌, length, arith, take_all, Option, Arrival, IsTraffic, traffic_is, schedule_of, Cell, Machine, Marked, empty_limited, first_slots, arriving_from, IdealState, AreForPorts, admission_for_ports, agrees_of, after_sent, arrived, orders_are, same_limited_slot, slots_fit, Fabric, ideal_of, LimitedFabricRun, LimitedFabricSlot, LimitedRecord, empty_limited_fabric, Partners, IsInputBest, IsStable, Captured, IsResumed, Kept, Switch, switch_of, Taken, AreTables, classes_of, ports_of, openings_of, Tables, AlwaysHasSlack, AreChosen, AreInputBest, CanBeTakenUp, GoesOn, each_run, fabric_in, marked_in, Orders, IsParted}
+use Rattle.cq_simulate.proofs.Terms.{common_steps, rules, ◌≡◌, ℕ, ◌+◌, List, [], ◌∷◌, length, arith, take_all, Option, Arrival, IsTraffic, traffic_is, schedule_of, Cell, Machine, Marked, empty_limited, first_slots, arriving_from, IdealState, AreForPorts, admission_for_ports, agrees_of, after_sent, arrived, orders_are, same_limited_slot, slots_fit, Fabric, ideal_of, LimitedFabricRun, LimitedFabricSlot, LimitedRecord, empty_limited_fabric, Partners, IsInputBest, IsStable, Captured, IsResumed, Kept, Switch, switch_of, Taken, AreTables, classes_of, ports_of, openings_of, Tables, AlwaysHasSlack, AreChosen, AreInputBest, CanBeTakenUp, GoesOn, each_run, stable_limited_too, fabric_in, marked_in, Orders, IsParted}
 use Rattle.cq_laws.proofs.LimitedWhole.{Stands, begin, limited_run_slack}
 use Rattle.cq_simulate.proofs.TakenUp.{goes_of, machines_many}
 
@@ -22,18 +22,10 @@ module _ (MayChoose : Orders → Partners → Type 0)
       let one = same_limited_slot limits ms slot class_count cells f next ideal r s.agrees s.come.0 step in
       let come : AreForPorts (length f.state.inputs) class_count r.admission.cells =
       search (arith, rules, admission_for_ports) in
-      let before = (arrived ms slot class_count r.admission.cells f.state next.state ideal.state r.of_slot
-      s.agrees.states come step.runs).apart in
-      let after = (after_sent ms slot class_count r.admission.cells f.state next.state ideal.state r.of_slot
-      s.agrees.states come step.runs).apart in
+      let before = arrived ms slot class_count _ f.state next.state ideal.state _ s.agrees.states come step.runs in
+      let after = after_sent ms slot class_count _ f.state next.state ideal.state _ s.agrees.states come step.runs in
       search (arith, rules, orders_are, each_chosen (slot + 1) traffic next g one.next rs)
   each_chosen slot traffic f g ideal rs s run = absurd run
-
-  pub each_slack : (slot : ℕ) (traffic : List (List (Option Cell))) (f g : Marked Fabric) (ideal : Marked IdealState)
-      (rs : List LimitedRecord) → Stands limits ms class_count slot traffic f ideal →
-      LimitedFabricRun MayChoose limits ms slot traffic f rs g → AlwaysHasSlack rs
-  each_slack slot traffic f g ideal rs s run = limited_run_slack limits ms class_count slot traffic f g ideal rs s
-      (search (arith, rules, each_run, stable_step))
 
   -- ## From the empty fabric on
 
@@ -48,7 +40,8 @@ module _ (MayChoose : Orders → Partners → Type 0)
     first_chosen = each_chosen 0 _ _ end (empty_limited ports ranks) rs stands run
 
     pub first_slack : AlwaysHasSlack rs
-    first_slack = each_slack 0 _ _ end (empty_limited ports ranks) rs stands run
+    first_slack = limited_run_slack limits ms class_count 0 _ _ end (empty_limited ports ranks) rs stands
+        (search (arith, rules, each_run, stable_step))
 
 -- ## A run in parts
 
@@ -91,9 +84,8 @@ module _ (t : Tables) (captures : List (List Captured)) (are : AreTables t)
     run_there = rw (take_all (length rs) rs (omega arith)) at resumed.runs.after
 
     pub resumed_best : AreInputBest rs
-    resumed_best = each_chosen IsInputBest (λ o m h. h.stable) w.limits w.machines (classes_of t.setup) _ to_run _ _
-        beside rs stands_on run_there
+    resumed_best = each_chosen IsInputBest (λ o m h. h.stable) _ _ _ _ _ _ _ _ _ stands_on run_there
 
     pub resumed_slack : AlwaysHasSlack rs
-    resumed_slack = each_slack IsInputBest (λ o m h. h.stable) w.limits w.machines (classes_of t.setup) _ to_run _ _
-        beside rs stands_on run_there
+    resumed_slack = limited_run_slack w.limits w.machines (classes_of t.setup) _ to_run _ _ beside rs stands_on
+        ((stable_limited_too w.machines w.limits).run _ to_run _ _ rs run_there)

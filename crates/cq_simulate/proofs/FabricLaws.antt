@@ -2,8 +2,7 @@
 -- ports and classes in every slot, and the run begins where nothing waits and no mark is up, where the fabric and the
 -- ideal switch agree. Its matchings are the input-best ones, so it is a run with stable matchings too, and sends and
 -- refuses what the ideal switch does.
-use Rattle.cq_laws.proofs.InputBest.{stable_limited_too}
-use Rattle.cq_simulate.proofs.Terms.{common_steps, rules, ◌≡◌, ◌≤◌, List, Ok, refl, arith, All, length, Arrival, IsTraffic, Machine, Marked, NoLimits, admitted_in, first_slots, slots_of, one_limited_whole, recorded, Fabric, empty_fabric, FabricRun, LimitedFabricRun, LimitedRecord, LimitedWholeRun, admissions_in, empty_limited_fabric, slots_in, figures_of, IsInputBest, IsStable, classes_of, ports_of, IsSetup, Tables, machines_of, openings_of, AlwaysHasSlack, AreInputBest, IsFabricRun, IsKeptOf, SendsSlotBySlot, departures_in_run, ideal_departures, ideal_refusals, ran_ideal, slots_ran, slots_of_figures, run_of_whole}
+use Rattle.cq_simulate.proofs.Terms.{stable_limited_too, common_steps, rules, ◌≡◌, ◌≤◌, List, Ok, refl, arith, All, length, Arrival, IsTraffic, Machine, Marked, NoLimits, admitted_in, first_slots, slots_of, one_limited_whole, recorded, Fabric, empty_fabric, FabricRun, LimitedFabricRun, LimitedRecord, LimitedWholeRun, admissions_in, empty_limited_fabric, slots_in, figures_of, IsInputBest, IsStable, classes_of, ports_of, IsSetup, Tables, machines_of, openings_of, AlwaysHasSlack, AreInputBest, IsFabricRun, IsKeptOf, SendsSlotBySlot, departures_in_run, ideal_departures, ideal_refusals, ran_ideal, slots_ran, slots_of_figures, run_of_whole}
 use Rattle.cq_simulate.proofs.Chosen.{first_chosen}
 use Rattle.cq_simulate.proofs.Departed.{last_departs_without_limits, slots_are}
 use Rattle.cq_simulate.proofs.OnceASlot.{once_a_slot}

@@ -62,7 +62,7 @@ pub use Rattle.cq_state.specs.{State.IsInRange, declared.state.Sent.Sent, declar
 pub use Rattle.cq_prefs.specs.FirstCells.{list_of, orders_of, output_order}
 pub use Rattle.cq_prefs.specs.Pairing.{IsInputBest, IsMatching, IsStable, Partners, partner_of, proposals, spent}
 pub use Rattle.cq_laws.proofs.{IdealOf.agrees_of, Recorded.recorded}
-pub use Rattle.cq_laws.proofs.InputBest.{each_run, stable_limited_slot}
+pub use Rattle.cq_laws.proofs.InputBest.{each_run, stable_limited_slot, stable_limited_too}
 pub use Rattle.cq_laws.proofs.LimitedEnds.{limited_ends, one_limited_whole}
 pub use Rattle.cq_laws.proofs.LimitedSlots.{admission_for_ports, limited_ports_kept, same_limited_slot}
 pub use Rattle.cq_laws.proofs.OneRun.{only_limited_run, outputs_at}
