@@ -103,8 +103,7 @@ module _ (t : Tables) (s : Scheduled) (first : EngineView) (taken : Taken)
       note.items ≡ taken.note → IsResumed (switch_of t s) taken (kept_of (unpacked_run run))
   resumed_of sent note run kept sent_was note_was =
       let limits = ap (λ (e : EngineView). e.limits) is.stands in
-      let all = resumes machine_from t s first sent note is.machines limits run kept in
-      rw (← ap frozen_of is.stands, ← sent_was, ← note_was) all
+      search (arith, rules, resumes machine_from t s first sent note is.machines limits run kept, is.stands)
 
   pub resumed_fault : (why : RunRefusal) → IsRefusalOn (map machine_from first.fixed) s.came first why →
       IsResumeFault (switch_of t s) taken why
@@ -121,8 +120,7 @@ module _ (t : Tables) (s : Scheduled) {first : EngineView} {first_sent : RoomVie
       (record { frozen = frozen; sent = sent.items; note = note.items })
   parted_of slots last sent note frozen has is =
       let all = rw made.fresh.fresh at has in
-      let long : length all.records ≡ slots = omega arith in
-      let runs = rw (made.fresh.machines, long) at all.went.runs in
+      let runs = rw made.fresh.machines at all.went.runs in
       rw is (search (arith, rules, machines_many))
 
   pub part_fault : (slots : ℕ) (fault : TagFault) →

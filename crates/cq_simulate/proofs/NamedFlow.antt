@@ -3,7 +3,7 @@
 -- have the same cells: of a flow there arrives one cell in a slot at most.
 -- What waits for an output in a sound state stands there as in a run: in the order of the keys, each cell with the
 -- level of its class and a rank below the floor, and each arrived in an earlier slot.
-use Rattle.cq_simulate.proofs.Terms.{common_steps, rules, map-append, ◌≡◌, ℕ, ◌<◌, Bool, true, false, List, [], ◌∷◌, ◌++◌, length, map, filter, Option, Some, refl, sym, ap, ◌∙◌, inl, ⊎_elim, arith, ◌⊎◌, ◌+◌, ◌≤◌, not, cond, fold, ◌&&◌, ◌==◌, All, slice_index_or, nat_lt, if◌then◌else◌, AllByRecursion, AllPairs, and_from, and_parts, cases_lt, eq-eqb, eqb-true, lt-ltb, ltb-true, cases_eq, cond-false, cond-true, le-ltb, ne_eqb, Arrival, IsBefore, Departure, Queued, IsLater, IsTraffic, comes_in_flow, leaves_in_flow, left_in_flow, is_kind, shown, HasWaited, Stands, line_at, rest_of, Agrees, Fabric, ideal_of, list_of, departure_of, sent_told, firsts_at, is_refused, latest, IsSound, OfOneFlow, IsBelowFloor, AllNamed, AreWholePackets, NoneNamed, HasShape, Switch, HasLimit, arriving_cell, class_of, fabric_told, is_ahead, is_named, key_of, named_in, output_of, queued_in, queued_of, packet_before, EachPair, each_pair, buffer_is, comes, found_at, in_buffer, in_list, in_order, is_cell_of, its_output, its_slot, list_is, of_traffic, ports_are, queued_differ, queued_named, some_cell, Has, all_from_has, all_of_has, has_cases, has_image, has_kept, has_left, has_right, image_has, kept_has, pair_of_has, IsInRange, Sent, State, NoLater, all_weaker, Machine, machine_at, AreOfPackets, key_laws, HasFor, all_has, looked_up, pairs_kept, pairs_kept_with, pairs_looked_up, pairs_with, Named, any_has, has_any, any_alike, pairs_mapped, pairs_joined, has_looked_up, same_pairs, filter_none, filter_all}
+use Rattle.cq_simulate.proofs.Terms.{common_steps, rules, map-append, ◌≡◌, ℕ, ◌<◌, Bool, true, false, List, [], ◌∷◌, ◌++◌, length, map, filter, Option, Some, refl, sym, ap, ◌∙◌, ⊎_elim, arith, ◌⊎◌, ◌+◌, ◌≤◌, not, cond, fold, ◌&&◌, ◌==◌, All, slice_index_or, nat_lt, if◌then◌else◌, AllByRecursion, AllPairs, and_from, and_parts, cases_lt, eq-eqb, eqb-true, lt-ltb, ltb-true, cases_eq, cond-false, cond-true, le-ltb, ne_eqb, Arrival, IsBefore, Departure, Queued, IsLater, IsTraffic, comes_in_flow, leaves_in_flow, left_in_flow, is_kind, shown, HasWaited, Stands, line_at, rest_of, Agrees, Fabric, ideal_of, list_of, departure_of, sent_told, firsts_at, is_refused, latest, IsSound, OfOneFlow, IsBelowFloor, AllNamed, AreWholePackets, NoneNamed, HasShape, Switch, HasLimit, arriving_cell, class_of, fabric_told, is_ahead, is_named, key_of, named_in, output_of, queued_in, queued_of, packet_before, EachPair, each_pair, buffer_is, comes, found_at, in_buffer, in_list, in_order, is_cell_of, its_output, its_slot, list_is, of_traffic, ports_are, queued_differ, queued_named, some_cell, Has, all_from_has, all_of_has, has_cases, has_image, has_kept, has_left, has_right, image_has, kept_has, pair_of_has, IsInRange, Sent, State, NoLater, all_weaker, Machine, machine_at, AreOfPackets, key_laws, HasFor, all_has, looked_up, pairs_kept, pairs_kept_with, pairs_looked_up, pairs_with, Named, any_has, has_any, any_alike, pairs_mapped, pairs_joined, has_looked_up, same_pairs, filter_none, filter_all}
 use Rattle.std.proofs.lemmas.Simd.{map-map}
 use Rattle.cq_ideal.proofs.RestAtInput.{cells_of}
 
@@ -78,8 +78,7 @@ latest_on : (x : Arrival) (xs : List Arrival) → IsLatest (x ∷ xs) (fold late
 latest_on x [] = grind (arith, common_steps, same_slot)
 latest_on x (z ∷ zs) =
     let it = latest_on (later_one x z) zs in
-    let most = it.after (later_one x z) (inl refl) in
-    grind (arith, common_steps, same_slot, lt-ltb, le-ltb, cases_lt)
+    grind (arith, common_steps, same_slot, lt-ltb, le-ltb, cases_lt, it.after (later_one x z))
 
 pub latest_is : (xs : List Arrival) (y : Arrival) → Has xs y → (g : Arrival) × (latest xs ≡ Some g) × IsLatest xs g
 latest_is [] y has = absurd has

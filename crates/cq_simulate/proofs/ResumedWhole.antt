@@ -186,8 +186,7 @@ module _ (t : Tables) (captures : List (List Captured)) (are : AreTables t) (man
 
       late_taken : filter takes_cell later ≡ filter taken_cell later
       late_taken =
-          let same = all_filter (λ b. takes (packet b) ≡ taken (packet b)) flow late
-          (taken_behind w s i sound.packets rises line_is.0 taken goes_as_marked) in
+          let same = all_filter _ flow late (taken_behind w s i sound.packets rises line_is.0 taken goes_as_marked) in
           cells_kept takes_cell (λ a. taken (packet a)) (filter flow late) same
           ∙ sym (cells_kept taken_cell (λ a. taken (packet a)) (filter flow late) (all_from_has _ _ (λ _ _. refl)))
 
