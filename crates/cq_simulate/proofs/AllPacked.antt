@@ -2,7 +2,7 @@
 -- are the others, and each output stands where a walk over its own departures would stand (`SoFar`), with the packets
 -- of that walk in its bytes (`Walked`). One departure more goes on with the walk at its output, and passes by those
 -- at all others.
-use Rattle.cq_simulate.proofs.Terms.{cons_option, Has, has_right, inl, append_assoc, all_from_has, rules, ◌≡◌, ◌≢◌, ℕ, ◌+◌, ◌<◌, ◌≤◌, All, List, [], ◌∷◌, ◌++◌, length, map, drop, get_or, set, Option, Some, None, refl, ap, ◌∙◌, arith, suc, true, false, take, zero, cond, common_steps, IfSome, cases_eq, cond-true, cond-false, eq-eqb, ne_eqb, and_from, and_left, and_right, append-nil, drop_more, get_or-set_other, get_or-set_same, length-set, map-append, take-append-drop, get_or_default, unpacked, Departure, Captured, longest_body, rows_from, ports_of, Tables, ArePacked, HaveLeftOf, ends_packet_at, leaving, packets_out, CanBeJoined, IsEmptied, Took, left_with, records_of, Fits, opened, piece_at, filter, filter-append, All-push, leaves_in_flow, left_in_flow, JoinerView, open_after, open_at, packet_at, packets_of, length-rows_from, PackedDeparture, written_with, OutPacket, PacketRow, length-map-range_with_len, ◌-◌, ◌*◌, flat_map, min, ◌==◌, range_with_len, flat_map-append, Cell, cells, cell_of, arrivals, came_in_flow, AreTables, of_packet, AreCutFrom, Piece, Open, pieces_give_frame, range_more, filter_none, JoinsOn, cells_above, length-append}
+use Rattle.cq_simulate.proofs.Terms.{cons_option, Has, has_right, inl, append_assoc, all_from_has, rules, ◌≡◌, ◌≢◌, ℕ, ◌+◌, ◌<◌, ◌≤◌, All, List, [], ◌∷◌, ◌++◌, length, map, drop, get_or, set, Option, Some, None, refl, ap, arith, suc, true, false, take, zero, cond, common_steps, IfSome, cases_eq, cond-true, cond-false, eq-eqb, ne_eqb, and_from, and_left, and_right, append-nil, drop_more, get_or-set_other, get_or-set_same, length-set, map-append, take-append-drop, unpacked, Departure, Captured, longest_body, rows_from, ports_of, Tables, ArePacked, HaveLeftOf, ends_packet_at, leaving, packets_out, CanBeJoined, IsEmptied, Took, left_with, records_of, Fits, opened, piece_at, filter, filter-append, All-push, leaves_in_flow, left_in_flow, JoinerView, open_after, open_at, packet_at, PackedDeparture, written_with, OutPacket, PacketRow, length-map-range_with_len, ◌-◌, ◌*◌, flat_map, min, ◌==◌, range_with_len, flat_map-append, Cell, cells, cell_of, arrivals, came_in_flow, AreTables, of_packet, AreCutFrom, Piece, Open, pieces_give_frame, range_more, filter_none, JoinsOn, cells_above, length-append}
 use Rattle.cq_pcap.specs.Written.{written}
 use Rattle.cq_simulate.specs.declared.packing.Packing.{Packing}
 use Rattle.cq_simulate.proofs.Departed.{departed_captured, departed_class, departed_output}
@@ -110,24 +110,11 @@ module _ (t : Tables) (captures : List (List Captured)) (input : ℕ) (some : 0 
 
 -- ## One packet
 
-original_at : (place : ℕ) (ps : List Captured) (k : ℕ) (d : PacketRow) (e : Captured) → k < length ps →
+pub original_at : (place : ℕ) (ps : List Captured) (k : ℕ) (d : PacketRow) (e : Captured) → k < length ps →
     (get_or (rows_from place ps) k d).original ≡ (get_or ps k e).original
 original_at place [] k d e inside = absurd (omega arith)
 original_at place (p ∷ ps) zero d e inside = refl
 original_at place (p ∷ ps) (suc k) d e inside = original_at (place + 16 + length p.body) ps k d e (omega arith)
-
-module _ (captures : List (List Captured)) (input k : ℕ) (capture : List Captured)
-    (in_captures : input < length captures) (is : capture ≡ get_or captures input capture)
-    (in_packets : k < length (packets_of captures input)) where
-  capture_is : capture ≡ packets_of captures input
-  capture_is = is ∙ get_or_default captures input capture [] in_captures
-
-  pub in_rows : (rows : List PacketRow) → rows ≡ rows_from 24 capture → k < length rows
-  in_rows rows e = search (arith, rules, length-rows_from, capture_is)
-
-  pub original_is : (rows : List PacketRow) (d : PacketRow) → rows ≡ rows_from 24 capture →
-      (get_or rows k d).original ≡ (packet_at captures input k).original
-  original_is rows d e = rw e (search (arith, rules, original_at, capture_is))
 
 -- ## One after another
 
