@@ -1,14 +1,7 @@
-use Rattle.cq_simulate.proofs.Terms.{rules, ◌≡◌, map, arith, err_from_is_err_and, traffic_of, marked_state, departures_limited, limited_run, machine_from, ideal_departures}
+use Rattle.cq_simulate.proofs.Terms.{rules, arith, err_from_is_err_and}
 use Rattle.cq_simulate.proofs.FabricOpening.{ready_ideal, run_of_tables}
 use Rattle.cq_simulate.proofs.TakenUp.{machine_count}
 use Rattle.cq_simulate.proofs.ideal_run.run_ideal_packed.Goals as goal
-use Rattle.cq_simulate.proofs.ideal_run.run_ideal_packed.Goals.{In_ok-ideal}
-
--- the run of the switch is that of the tables
-run_of : (c : In_ok-ideal) → departures_limited (limited_run c.in_ok-ideal.ideal.limits
-    (map machine_from c.in_ok-ideal.ideal.fixed) 0 (traffic_of c.args.schedule.now.came)
-    (marked_state c.in_ok-ideal.ideal)) ≡ ideal_departures c.args.tables.now c.args.schedule.now.came
-run_of c = run_of_tables c.in_ok-ideal.ensures
 
 pub run_slots-ran-requires-clause-ready : goal.run_slots-ran-requires-clause-ready
 run_slots-ran-requires-clause-ready c =
@@ -18,7 +11,7 @@ pub run_slots-ran-requires-clause-ports : goal.run_slots-ran-requires-clause-por
 run_slots-ran-requires-clause-ports c = search (arith, rules, machine_count)
 
 pub returns-in_err-ran-clause-refused : goal.returns-in_err-ran-clause-refused
-returns-in_err-ran-clause-refused c = search (arith, rules, err_from_is_err_and, run_of)
+returns-in_err-ran-clause-refused c = search (arith, rules, err_from_is_err_and, run_of_tables)
 
 pub returns-clause-sent : goal.returns-clause-sent
-returns-clause-sent c = search (arith, rules, run_of)
+returns-clause-sent c = search (arith, rules, run_of_tables)

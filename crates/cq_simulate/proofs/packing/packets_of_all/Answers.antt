@@ -1,4 +1,4 @@
-use Rattle.cq_simulate.proofs.Terms.{rules, length, map, ap, arith, unpacked}
+use Rattle.cq_simulate.proofs.Terms.{rules, length, ap, arith}
 use Rattle.cq_simulate.proofs.AllPacked.{all_packed, at_port, can_take, none_yet, one_more}
 use Rattle.cq_simulate.proofs.packing.packets_of_all.Goals as goal
 
@@ -24,5 +24,4 @@ departures-preserved c =
     c.index_mut.ensures.value c.take.new.self c.in_ok-take.ensures
 
 pub returns : goal.returns
-returns c = all_packed c.args.tables.now c.args.captures.now c.args.sent.items (map unpacked c.departures.left)
-    c.departures.places.items c.departures.invariant (ap (map unpacked) c.in_default.ensures.0)
+returns c = search (arith, rules, all_packed)
