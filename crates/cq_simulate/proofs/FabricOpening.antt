@@ -1,6 +1,6 @@
 -- How the run of a fabric that is made for tables begins, and what its end says of the tables. What the calls say that
 -- made it is one record. From it the engine can begin.
-use Rattle.cq_simulate.proofs.Terms.{refl, common_steps, rules, ◌≡◌, ℕ, ◌+◌, ◌*◌, ◌≤◌, ◌^◌, List, [], length, map, ap, arith, take_all, length-map, length-map-range_with_len, Arrival, traffic_of, RoomView, Departure, Transfer, Scheduled, EngineView, fresh_engine, frozen_of, Frozen, GoesOnFrom, marked_fabric, departures_limited, limited_run, counts_more, ports_of, IsSetup, classes_of, Tables, fixed_of, machine_from, machines_of, openings_of, IsKeptOf, unpacked_run, kept_of, IsFreshFor, IsIdealFor, HasKept, IsReadyOn, IsRefusalOn, IsRefusalOf, ideal_departures, ran_ideal, limited_same_sent, limited_whole_fault, slots_fit, IsScheduleFor, PackedFabricRun, RunRefusal, IsShort, IsTraffic, is_from, is_to, IdealSwitch, marked_state, Machine, IsReady, IsResumed, RunsOn, Switch, switch_of, Taken, best_act_alike_from_empty, figures_fold, Discipline, ◌-◌, TagFault, HasPartedTo, StopsWithin, IsPartFault, IsResumeFault, IsParted}
+use Rattle.cq_simulate.proofs.Terms.{refl, common_steps, rules, ◌≡◌, ℕ, ◌+◌, ◌*◌, ◌≤◌, ◌^◌, List, [], length, map, ap, arith, take_all, length-map-range_with_len, Arrival, RoomView, Departure, Transfer, Scheduled, EngineView, fresh_engine, frozen_of, Frozen, GoesOnFrom, marked_fabric, departures_limited, counts_more, ports_of, IsSetup, classes_of, Tables, machine_from, machines_of, openings_of, IsKeptOf, unpacked_run, kept_of, IsFreshFor, IsIdealFor, HasKept, IsReadyOn, IsRefusalOn, IsRefusalOf, ideal_departures, ran_ideal, limited_whole_fault, slots_fit, IsScheduleFor, PackedFabricRun, RunRefusal, IsShort, IsTraffic, is_from, is_to, IdealSwitch, Machine, IsReady, IsResumed, RunsOn, Switch, switch_of, Taken, best_act_alike_from_empty, figures_fold, ◌-◌, TagFault, HasPartedTo, StopsWithin, IsPartFault, IsResumeFault, IsParted}
 use Rattle.cq_simulate.proofs.TakenUp.{goes_from, holds_none, machine_count, room_at, machines_many}
 use Rattle.cq_simulate.specs.ScheduleFor.{by_port}
 use Rattle.cq_simulate.specs.declared.refusal.RunRefusal.TheVariants as refusal
@@ -11,26 +11,12 @@ use Rattle.cq_simulate.specs.declared.refusal.RunRefusal.TheVariants as refusal
 -- ## A new switch
 
 module _ {t : Tables} {came : List Arrival} {first : IdealSwitch} (fresh : IsIdealFor t came first) where
-  -- its run is the tables' run
-  pub run_of_tables :
-      departures_limited (limited_run first.limits (map machine_from first.fixed) 0 (traffic_of came)
-      (marked_state first)) ≡ ideal_departures t came
-  unfolding ideal_departures ran_ideal
-  run_of_tables = grind (arith, common_steps, limited_same_sent)
-
   pub ready_ideal : (sent : RoomView Departure) → IsSetup t.setup →
       IsTraffic (ports_of t.setup) (classes_of t.setup) came → IsShort came → sent.items ≡ [] →
       sent.spare ≡ length came + ports_of t.setup → IsReady (map machine_from first.fixed) came first sent
   ready_ideal sent setup traffic short nothing spare =
       let many = machine_count machine_from first.fixed t.setup fresh.machines in
       rw fresh.fresh (search (arith, rules, length-map-range_with_len, room_at))
-
--- ## What an engine is made of
-
--- as many ranks as ports
-pub ranks_many : (t : Tables) (ranks : List Discipline) → map machine_from (map fixed_of ranks) ≡ machines_of t.setup →
-    length ranks ≡ ports_of t.setup
-ranks_many t ranks machines = grind (arith, common_steps, length-map, machine_count)
 
 -- ## What it runs
 

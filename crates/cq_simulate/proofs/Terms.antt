@@ -116,7 +116,6 @@ pub use Rattle.cq_base.proofs.Having.{all_from_has, all_has, all_of_has, any_ali
 pub use Rattle.cq_base.proofs.Pooled.{each_pair, has_looked_up, looked_up, pairs_joined, pairs_kept, pairs_kept_with, pairs_looked_up, pairs_mapped, pairs_with, same_pairs}
 pub use Rattle.cq_cells.proofs.Stamps.{length-rows_from}
 pub use Rattle.cq_cells.proofs.Ranges.{range_more}
-pub use Rattle.cq_scfq.specs.declared.discipline.Discipline.{Discipline}
 pub use Rattle.cq_ideal.proofs.EnoughSlots.{waiting-empty}
 pub use Rattle.cq_ideal.proofs.{LimitedParts.no_departures, EachLeaves.each_leaves_or_is_refused, EachLeaves.refuses_none_elsewhere, FlowLaw.all_in_range, FlowLaw.class_in_slot, FlowLaw.none_came, FlowOn.flow_on, FlowOn.flows_leave_in_packets, FlowOn.whole_on, LastSlot.slots_within, LimitedLast.last_departs, LimitedLast.limited_slots, Standing.StandAt, Standing.stand_in}
 pub use Rattle.cq_ideal.specs.{EachOnce.KeepTheirOutput, EachOnce.LeaveOrAreRefused, OneSlot.CanHaveSlot, OneSlot.HasHadSlot, OneSlot.IsSameSwitch}

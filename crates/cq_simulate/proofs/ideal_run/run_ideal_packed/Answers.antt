@@ -1,5 +1,5 @@
-use Rattle.cq_simulate.proofs.Terms.{rules, arith, err_from_is_err_and}
-use Rattle.cq_simulate.proofs.FabricOpening.{ready_ideal, run_of_tables}
+use Rattle.cq_simulate.proofs.Terms.{rules, arith, err_from_is_err_and, ideal_departures, ran_ideal, limited_same_sent}
+use Rattle.cq_simulate.proofs.FabricOpening.{ready_ideal}
 use Rattle.cq_simulate.proofs.TakenUp.{machine_count}
 use Rattle.cq_simulate.proofs.ideal_run.run_ideal_packed.Goals as goal
 
@@ -11,7 +11,9 @@ pub run_slots-ran-requires-clause-ports : goal.run_slots-ran-requires-clause-por
 run_slots-ran-requires-clause-ports c = search (arith, rules, machine_count)
 
 pub returns-in_err-ran-clause-refused : goal.returns-in_err-ran-clause-refused
-returns-in_err-ran-clause-refused c = search (arith, rules, err_from_is_err_and, run_of_tables)
+unfolding ideal_departures ran_ideal
+returns-in_err-ran-clause-refused c = search (arith, rules, err_from_is_err_and, limited_same_sent)
 
 pub returns-clause-sent : goal.returns-clause-sent
-returns-clause-sent c = search (arith, rules, run_of_tables)
+unfolding ideal_departures ran_ideal
+returns-clause-sent c = search (arith, rules, limited_same_sent)
