@@ -116,8 +116,7 @@ module _ (t : Tables) (captures : List (List Captured)) (sent : List Departure) 
     came_first : tally begins (came_at input (arrivals t captures)) ≡ bit goes
     unfolding cell_of cells
     came_first =
-        let one = one_cell t captures input k in_packets is_first 0 j in
-        search (arith, rules, tally-map, at_input, one, cells_above)
+        search (arith, rules, tally-map, at_input, one_cell t captures input k in_packets is_first 0 j, cells_above)
 
     leaves : times_left input k j sent ≡ cond ((parted input in_captures).is_taken k) (bit goes) 0
     leaves =

@@ -46,8 +46,7 @@ pub both_rise : (n : ℕ) (xs : List Arrival) → EachPair (λ x y. x.slot < y.s
     EachPair Rises xs
 both_rise n [] rising are = tt
 both_rise n (x ∷ xs) rising are =
-    let on = within (packet x + 1) (packet x + 1) xs (omega arith) are.1 in
-    grind (arith, common_steps, all_from_has, all_of_has, both_rise (packet x + 1) xs rising.1 are.1)
+    grind (arith, common_steps, within (packet x + 1), all_from_has, all_of_has, both_rise (packet x + 1) xs rising.1)
 
 -- the first cell of a packet
 pub record Begins (xs : List Arrival) (a : Arrival) : Type 0 where
@@ -460,10 +459,9 @@ module _ (w : Switch) (s : State) (in_range : IsInRange s) (shape : HasShape w s
         let name = has_any (is_name_of x) names one.own in
         let n = name.0 in
         let some = some_cell (arriving_cell w.came n) (comes w s in_range shape sound traffic n name.1).1 in
-        let it = found_at w.came n.slot n.input some.0 some.1 in
-        let same : it.arrival ≡ x = search (arith, rules, one_arrival) in
+        let same = one_arrival (found_at w.came n.slot n.input some.0 some.1).arrival x in
         let q : Queued = record { cell = x.cell; key = key_of n } in
-        let of : InFlow n q = search (arith, rules, and_parts, eqb-true, is_kind) in
+        let of : InFlow n q = search (arith, rules, and_parts, eqb-true, is_kind, same) in
         let is = has_image as_arrival (gone ++ waiting) q in
         search (arith, rules, is, arrival_is, has_right, among_listed, among_buffered, has_cases, has_left, among_gone)
 

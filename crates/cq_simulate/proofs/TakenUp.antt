@@ -74,8 +74,7 @@ goes_from {t} {s} e sent note fit has machines classes from to running few sent_
 pub holds_none : (came : List Arrival) (ports : ℕ) (fixed states : List (List ℕ)) (from to : List ℕ)
     (limits : List (Option ℕ)) → length fixed ≡ ports → HoldsSome came (fresh_engine ports fixed states from to limits)
 holds_none came ports fixed states from to limits many =
-    let lost = zero_fits (2 ^ 64 - 1) limits in
-    search (arith, rules, length-replicate, empty_list, nothing_for)
+    search (arith, rules, length-replicate, empty_list, nothing_for, zero_fits (2 ^ 64 - 1) limits)
 
 -- ## One that was taken up
 
