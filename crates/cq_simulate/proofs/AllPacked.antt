@@ -2,7 +2,7 @@
 -- are the others, and each output stands where a walk over its own departures would stand (`SoFar`), with the packets
 -- of that walk in its bytes (`Walked`). One departure more goes on with the walk at its output, and passes by those
 -- at all others.
-use Rattle.cq_simulate.proofs.Terms.{cons_option, Has, has_right, inl, append_assoc, all_from_has, rules, ◌≡◌, ◌≢◌, ℕ, ◌+◌, ◌<◌, ◌≤◌, All, List, [], ◌∷◌, ◌++◌, length, map, drop, get_or, set, Option, Some, None, refl, ap, arith, suc, true, false, take, zero, cond, common_steps, IfSome, cases_eq, cond-true, cond-false, eq-eqb, ne_eqb, and_from, and_left, and_right, append-nil, drop_more, get_or-set_other, get_or-set_same, length-set, map-append, take-append-drop, unpacked, Departure, Captured, longest_body, rows_from, ports_of, Tables, ArePacked, HaveLeftOf, ends_packet_at, leaving, packets_out, CanBeJoined, IsEmptied, Took, left_with, records_of, Fits, opened, piece_at, filter, filter-append, All-push, leaves_in_flow, left_in_flow, JoinerView, open_after, open_at, packet_at, PackedDeparture, written_with, OutPacket, PacketRow, length-map-range_with_len, ◌-◌, ◌*◌, flat_map, min, ◌==◌, range_with_len, flat_map-append, Cell, cells, cell_of, arrivals, came_in_flow, AreTables, of_packet, AreCutFrom, Piece, Open, pieces_give_frame, range_more, filter_none, JoinsOn, cells_above, length-append}
+use Rattle.cq_simulate.proofs.Terms.{cons_option, Has, has_right, inl, append_assoc, all_from_has, rules, ◌≡◌, ◌≢◌, ℕ, ◌+◌, ◌<◌, ◌≤◌, All, List, [], ◌∷◌, ◌++◌, length, map, drop, get_or, set, Option, Some, None, refl, ap, arith, suc, true, false, take, zero, cond, common_steps, IfSome, cases_eq, cond-true, cond-false, eq-eqb, ne_eqb, and_from, and_left, and_right, append-nil, get_or-set_other, get_or-set_same, length-set, map-append, unpacked, Departure, Captured, longest_body, rows_from, ports_of, Tables, ArePacked, HaveLeftOf, ends_packet_at, leaving, packets_out, CanBeJoined, IsEmptied, Took, left_with, records_of, Fits, opened, piece_at, filter, filter-append, All-push, leaves_in_flow, left_in_flow, JoinerView, open_after, open_at, packet_at, PackedDeparture, written_with, OutPacket, PacketRow, length-map-range_with_len, ◌-◌, ◌*◌, flat_map, min, ◌==◌, range_with_len, flat_map-append, Cell, cells, cell_of, arrivals, came_in_flow, AreTables, of_packet, AreCutFrom, Piece, Open, pieces_give_frame, range_more, filter_none, JoinsOn, cells_above, length-append}
 use Rattle.cq_pcap.specs.Written.{written}
 use Rattle.cq_simulate.specs.declared.packing.Packing.{Packing}
 use Rattle.cq_simulate.proofs.Departed.{departed_captured, departed_class, departed_output}
@@ -202,15 +202,6 @@ pub at_first : (t : Tables) (captures : List (List Captured)) (output : ℕ) (jo
     ((i c : ℕ) → open_at joiner i c ≡ None) → packets ≡ [] → SoFar t captures output [] joiner packets
 unfolding packets_out
 at_first t captures output joiner packets inputs classes none nothing = search (arith, rules)
-
--- the cell of the departure at a place is the next when those before it were gone through
-pub next_at : {t : Tables} {captures : List (List Captured)} {sent : List Departure} {stamp output : ℕ}
-    {joiner : JoinerView} {packets : List OutPacket} → HaveLeftOf t captures sent stamp → (k : ℕ) (e : Departure) →
-    k < length sent → (get_or sent k e).output ≡ output → SoFar t captures output (take k sent) joiner packets →
-    CanBeJoined captures joiner (get_or sent k e)
-next_at {t} {captures} {sent} {output = output} of_run k e inside here so_far =
-    can_join t captures output (take k sent) (get_or sent k e) here (drop (k + 1) sent) so_far of_run
-    (cc (drop_more sent k e inside, take-append-drop k sent))
 
 -- at what is no port nothing departs
 pub nowhere : {t : Tables} {captures : List (List Captured)} {sent : List Departure} {stamp : ℕ} (output : ℕ) →

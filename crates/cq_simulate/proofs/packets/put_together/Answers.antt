@@ -1,5 +1,5 @@
-use Rattle.cq_simulate.proofs.Terms.{rules, arith, append-nil, None, Some, sym, ◌∙◌, take_more}
-use Rattle.cq_simulate.proofs.AllPacked.{at_first, at_other, next_at, went_on}
+use Rattle.cq_simulate.proofs.Terms.{ap, drop, take, List, ◌+◌, ◌++◌, Departure, drop_more, take-append-drop, rules, arith, append-nil, None, Some, sym, ◌∙◌, take_more}
+use Rattle.cq_simulate.proofs.AllPacked.{at_first, at_other, can_join, went_on}
 use Rattle.cq_simulate.proofs.packets.put_together.Goals as goal
 use Rattle.cq_simulate.proofs.packets.put_together.Goals.{then-departure-output+in_ok-left+in-Some+in_ok-push-in-Some, then-departure-output+in_ok-left+in-None, else-departure-output}
 
@@ -8,8 +8,11 @@ departures-init c = search (arith, rules, at_first)
 
 pub take-requires : goal.take-requires
 take-requires c =
-    let can = next_at c.requires.of c.departures.departure-index _ c.departures-test.true c.if-departure-output.true
-    c.departures.invariant in
+    let k = c.departures.departure-index in
+    let sent = c.args.sent.now in
+    let can = can_join c.args.tables.now c.args.captures.now c.args.output (take k sent) _ c.if-departure-output.true
+    (drop (k + 1) sent) c.departures.invariant c.requires.of (ap (λ (l : List Departure). take k sent ++ l)
+    (sym (drop_more sent k _ c.departures-test.true)) ∙ take-append-drop k sent) in
     search (arith, rules)
 
 pub departures-preserved : goal.departures-preserved
