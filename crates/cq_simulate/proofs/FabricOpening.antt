@@ -1,22 +1,12 @@
 -- How the run of a fabric that is made for tables begins, and what its end says of the tables. What the calls say that
 -- made it is one record. From it the engine can begin.
-use Rattle.cq_simulate.proofs.Terms.{refl, common_steps, rules, ◌≡◌, ℕ, ◌+◌, ◌*◌, ◌≤◌, ◌^◌, List, [], length, map, ap, arith, take_all, length-map-range_with_len, Arrival, RoomView, Departure, Transfer, Scheduled, EngineView, fresh_engine, frozen_of, Frozen, GoesOnFrom, marked_fabric, departures_limited, counts_more, ports_of, IsSetup, classes_of, Tables, machine_from, machines_of, openings_of, IsKeptOf, unpacked_run, kept_of, IsFreshFor, IsIdealFor, HasKept, IsReadyOn, IsRefusalOn, IsRefusalOf, ideal_departures, ran_ideal, limited_whole_fault, slots_fit, IsScheduleFor, PackedFabricRun, RunRefusal, IsShort, IsTraffic, is_from, is_to, IdealSwitch, Machine, IsReady, IsResumed, RunsOn, Switch, switch_of, Taken, best_act_alike_from_empty, figures_fold, ◌-◌, TagFault, HasPartedTo, StopsWithin, IsPartFault, IsResumeFault, IsParted}
-use Rattle.cq_simulate.proofs.TakenUp.{goes_from, holds_none, machine_count, room_at, machines_many}
+use Rattle.cq_simulate.proofs.Terms.{refl, common_steps, rules, ◌≡◌, ℕ, ◌+◌, ◌*◌, ◌≤◌, ◌^◌, List, [], length, map, ap, arith, take_all, RoomView, Departure, Transfer, Scheduled, EngineView, fresh_engine, frozen_of, Frozen, GoesOnFrom, marked_fabric, departures_limited, counts_more, ports_of, Tables, machine_from, machines_of, openings_of, IsKeptOf, unpacked_run, kept_of, IsFreshFor, HasKept, IsReadyOn, IsRefusalOn, IsRefusalOf, ideal_departures, ran_ideal, limited_whole_fault, slots_fit, IsScheduleFor, PackedFabricRun, RunRefusal, is_from, is_to, Machine, IsResumed, RunsOn, Switch, switch_of, Taken, best_act_alike_from_empty, figures_fold, ◌-◌, TagFault, HasPartedTo, StopsWithin, IsPartFault, IsResumeFault, IsParted}
+use Rattle.cq_simulate.proofs.TakenUp.{goes_from, holds_none, machine_count, machines_many}
 use Rattle.cq_simulate.specs.ScheduleFor.{by_port}
 use Rattle.cq_simulate.specs.declared.refusal.RunRefusal.TheVariants as refusal
 
 -- How a run of tables begins: the machines are those of the setup's disciplines, each in its opening state, all
 -- marks are down, and there is room for all cells that arrive.
-
--- ## A new switch
-
-module _ {t : Tables} {came : List Arrival} {first : IdealSwitch} (fresh : IsIdealFor t came first) where
-  pub ready_ideal : (sent : RoomView Departure) → IsSetup t.setup →
-      IsTraffic (ports_of t.setup) (classes_of t.setup) came → IsShort came → sent.items ≡ [] →
-      sent.spare ≡ length came + ports_of t.setup → IsReady (map machine_from first.fixed) came first sent
-  ready_ideal sent setup traffic short nothing spare =
-      let many = machine_count machine_from first.fixed t.setup fresh.machines in
-      rw fresh.fresh (search (arith, rules, length-map-range_with_len, room_at))
 
 -- ## What it runs
 

@@ -15,7 +15,7 @@ pub use Rattle.cq_cells.proofs.Rising.{at_input, traffic_is}
 pub use Rattle.cq_cells.specs.Schedule.{arrivals_of, packet_at, packets_of, start}
 unfoldable pub use Rattle.cq_cells.specs.Schedule.{arrivals, arrivals_at, cell_of, cells}
 pub use Rattle.cq_cells.specs.Scheduled.{Scheduled, schedule_of}
-pub use Rattle.cq_cells.specs.Traffic.{IsLater, IsShort, IsTraffic, is_from, is_to, number_of}
+pub use Rattle.cq_cells.specs.Traffic.{IsLater, IsTraffic, is_from, is_to, number_of}
 pub use Rattle.cq_rank.specs.Machine.{KeepsLaws, Machine, first_come, machine_at}
 pub use Rattle.cq_rank.specs.Switch.{class_count}
 pub use Rattle.cq_scfq.specs.Discipline.{fixed_of, machine_from}
@@ -106,7 +106,7 @@ pub use Rattle.cq_simulate.specs.Packets.{ArePacked, HaveLeftOf, LeaveInOrder, L
 unfoldable pub use Rattle.cq_simulate.specs.Packets.{packets_out}
 pub use Rattle.cq_simulate.specs.Pieces.{CanBeJoined, Fits, IsCaptured, IsEmptied, JoinsOn, Took, left_with, opened, piece_at, records_of}
 pub use Rattle.cq_simulate.specs.{declared.fabric_run.PackedFabricRun.PackedFabricRun, declared.ports.Ports.Ports, declared.refusal.RunRefusal.RunRefusal}
-pub use Rattle.cq_simulate.specs.Terms.{ArePortsFor, AreTables, CanBeTakenUp, Cell, FabricRun, GoesOnFrom, IsFreshFor, IsIdealFor, IsPartFault, IsQuiet, IsReady, IsResumeFault, IsScheduleFor, IsSetup, NoneCome, Tables, classes_of, kept_of, ports_of}
+pub use Rattle.cq_simulate.specs.Terms.{ArePortsFor, AreTables, CanBeTakenUp, Cell, FabricRun, GoesOnFrom, IsFreshFor, IsPartFault, IsQuiet, IsReady, IsResumeFault, IsScheduleFor, IsSetup, NoneCome, Tables, classes_of, kept_of, ports_of}
 pub use Rattle.cq_base.proofs.Each.{all_filter, all_weaker, all_flat, all_made, filter_all, filter_none}
 pub use Rattle.cq_base.specs.{declared.figures.OutputFigures.OutputFigures, declared.packed.PackedDeparture.PackedDeparture, declared.setup.Kind.Kind, declared.setup.Kind.TheVariants.FirstCome}
 pub use Rattle.cq_base.proofs.Keys.{key_laws}

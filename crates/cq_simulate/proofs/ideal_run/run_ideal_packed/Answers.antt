@@ -1,11 +1,9 @@
-use Rattle.cq_simulate.proofs.Terms.{rules, arith, err_from_is_err_and, ideal_departures, ran_ideal, limited_same_sent}
-use Rattle.cq_simulate.proofs.FabricOpening.{ready_ideal}
-use Rattle.cq_simulate.proofs.TakenUp.{machine_count}
+use Rattle.cq_simulate.proofs.Terms.{length-map-range_with_len, rules, arith, err_from_is_err_and, ideal_departures, ran_ideal, limited_same_sent}
+use Rattle.cq_simulate.proofs.TakenUp.{machine_count, room_at}
 use Rattle.cq_simulate.proofs.ideal_run.run_ideal_packed.Goals as goal
 
 pub run_slots-ran-requires-clause-ready : goal.run_slots-ran-requires-clause-ready
-run_slots-ran-requires-clause-ready c =
-    let ready = ready_ideal c.in_ok-ideal.ensures c.in_ok-sent.sent in search (arith, rules, ready)
+run_slots-ran-requires-clause-ready c = search (arith, rules, length-map-range_with_len, room_at, machine_count)
 
 pub run_slots-ran-requires-clause-ports : goal.run_slots-ran-requires-clause-ports
 run_slots-ran-requires-clause-ports c = search (arith, rules, machine_count)
