@@ -1,6 +1,6 @@
 -- How the run of a fabric that is made for tables begins, and what its end says of the tables. What the calls say that
 -- made it is one record. From it the engine can begin.
-use Rattle.cq_simulate.proofs.Terms.{refl, common_steps, rules, ◌≡◌, ℕ, ◌+◌, ◌*◌, ◌≤◌, ◌^◌, List, [], length, map, ap, arith, take_all, RoomView, Departure, Transfer, Scheduled, EngineView, fresh_engine, frozen_of, Frozen, GoesOnFrom, marked_fabric, departures_limited, counts_more, ports_of, Tables, machine_from, machines_of, openings_of, IsKeptOf, unpacked_run, kept_of, IsFreshFor, HasKept, IsReadyOn, IsRefusalOn, IsRefusalOf, ideal_departures, ran_ideal, limited_whole_fault, slots_fit, IsScheduleFor, PackedFabricRun, RunRefusal, is_from, is_to, Machine, IsResumed, RunsOn, Switch, switch_of, Taken, best_act_alike_from_empty, figures_fold, ◌-◌, TagFault, HasPartedTo, StopsWithin, IsPartFault, IsResumeFault, IsParted}
+use Rattle.cq_simulate.proofs.Terms.{refl, common_steps, rules, ◌≡◌, ℕ, ◌+◌, ◌*◌, ◌≤◌, ◌^◌, List, [], length, map, ap, arith, take_all, RoomView, Departure, Transfer, Scheduled, EngineView, fresh_engine, frozen_of, Frozen, GoesOnFrom, marked_fabric, departures_limited, counts_more, ports_of, Tables, machine_from, machines_of, openings_of, IsKeptOf, unpacked_run, kept_of, IsFreshFor, HasKept, IsReadyOn, IsRefusalOn, IsRefusalOf, ideal_departures, ran_ideal, limited_whole_fault, slots_fit, IsScheduleFor, PackedFabricRun, RunRefusal, is_from, is_to, Machine, IsResumed, RunsOn, Switch, switch_of, Taken, best_act_alike_from_empty, figures_fold, HasPartedTo, IsResumeFault, IsParted}
 use Rattle.cq_simulate.proofs.TakenUp.{goes_from, holds_none, machine_count, machines_many}
 use Rattle.cq_simulate.specs.ScheduleFor.{by_port}
 use Rattle.cq_simulate.specs.declared.refusal.RunRefusal.TheVariants as refusal
@@ -98,8 +98,3 @@ module _ (t : Tables) (s : Scheduled) {first : EngineView} {first_sent : RoomVie
       let all = rw made.fresh.fresh at has in
       let runs = rw made.fresh.machines at all.went.runs in
       rw is (search (arith, rules, machines_many))
-
-  pub part_fault : (slots : ℕ) (fault : TagFault) →
-      StopsWithin (map machine_from first.fixed) s.came first (slots - first.next) fault →
-      IsPartFault (switch_of t s) (openings_of t.setup) slots (refusal.Tag fault)
-  part_fault slots fault stop = grind (arith, common_steps, machines_many)

@@ -1,7 +1,7 @@
 -- A fabric can go on from where it stands, whether it is fresh or was taken up. What waits in it came before the slot
 -- that it stands at, and what is to come comes from that slot on, so both together are no more than what comes in all:
 -- at each input, for each output, and of all cells.
-use Rattle.cq_simulate.proofs.Terms.{length-filter_both, ◌≡◌, ℕ, ◌+◌, ◌-◌, ◌*◌, ◌≤◌, ◌<◌, ◌^◌, Bool, false, List, [], ◌∷◌, length, map, Option, refl, ◌∙◌, arith, rules, common_steps, ◌==◌, All, sum, range_with_len, slice_index, cases_lt, le-leb, le-ltb, lt-leb, lt-ltb, ne_eqb, length-map, length-replicate, get_or-map-range_with_len, Arrival, RoomView, Departure, Transfer, IsTraffic, is_from, is_to, number_of, Scheduled, Setup, CanGoOn, EngineView, fresh_engine, thawed_engine, zero_fits, input, fabric_held, held_for, empty_list, Machine, class_count, GoesOn, came_before, goes_on, switch_of, Taken, classes_of, ports_of, Tables, fixed_of, machine_from, machine_of, machines_of, ArePortsFor, GoesOnFrom, IsReadyOn, to_come, CanBeTakenUp, IsScheduleFor, Ports, All-from_recursion, IsSoundFabric, nothing_for, fabric_listed, zero, suc, filter, filter_both, filter_agree, not, cases_eq, sum_by-cons}
+use Rattle.cq_simulate.proofs.Terms.{length-filter_both, ◌≡◌, ℕ, ◌+◌, ◌-◌, ◌*◌, ◌≤◌, ◌<◌, ◌^◌, Bool, false, List, [], ◌∷◌, length, map, Option, refl, arith, rules, common_steps, ◌==◌, All, sum, range_with_len, slice_index, cases_lt, le-leb, le-ltb, lt-leb, lt-ltb, ne_eqb, length-map, length-replicate, get_or-map-range_with_len, Arrival, RoomView, Departure, Transfer, IsTraffic, is_from, is_to, number_of, Scheduled, Setup, CanGoOn, EngineView, fresh_engine, thawed_engine, zero_fits, input, fabric_held, held_for, empty_list, Machine, class_count, GoesOn, came_before, goes_on, switch_of, Taken, classes_of, ports_of, Tables, machine_from, machine_of, machines_of, GoesOnFrom, IsReadyOn, to_come, CanBeTakenUp, IsScheduleFor, All-from_recursion, IsSoundFabric, nothing_for, fabric_listed, zero, suc, filter, filter_both, filter_agree, not, cases_eq, sum_by-cons}
 use Rattle.cq_simulate.specs.ScheduleFor.{by_port}
 
 -- ## What came and what is to come
@@ -94,13 +94,7 @@ can_go_on {t} {s} {taken} sound fit classes same inputs outputs =
 
 module _ {t : Tables} {s : Scheduled} {taken : Taken} (sound : CanBeTakenUp (switch_of t s) taken)
     (fit : IsScheduleFor t s) where
-  pub can_thaw : (p : Ports) → ArePortsFor t s.came p → {from to : List ℕ} {limits : List (Option ℕ)} →
-      from ≡ p.from_inputs.items → to ≡ p.to_outputs.items → limits ≡ t.limits →
-      CanGoOn (map machine_from (map fixed_of p.ranks.items)) limits from to taken.frozen
-  can_thaw p are from to same =
-      rw are.machines (can_go_on sound fit are.classes same (from ∙ are.from_inputs) (to ∙ are.to_outputs))
-
-  -- and it runs on
+  -- it runs on
   pub runs_on : (engine : EngineView) → GoesOnFrom t s.came taken.frozen engine → (sent : RoomView Departure)
       (note : RoomView Transfer) {count total : ℕ} → count ≡ ports_of t.setup → total ≡ length s.came →
       total ≤ 2 ^ 34 → sent.spare ≡ total + count → note.spare ≡ total + 2 * count →

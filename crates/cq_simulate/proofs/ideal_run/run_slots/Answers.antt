@@ -1,5 +1,5 @@
-use Rattle.cq_simulate.proofs.Terms.{◌≡◌, All, [], rules, map, sym, ◌∙◌, arith, err_from_is_err_and, end_of}
-use Rattle.cq_simulate.proofs.Steps.{HasHad, Standing, a_slot_left, at_end, at_fault, at_next, can_have, can_take_over, early_at_end, free_again, goes_on, handed, left_here, running_first, stands as stands_at}
+use Rattle.cq_simulate.proofs.Terms.{slots_within, ◌≡◌, All, [], rules, map, sym, ◌∙◌, arith, err_from_is_err_and, end_of}
+use Rattle.cq_simulate.proofs.Steps.{HasHad, Standing, a_slot_left, at_end, at_fault, at_next, can_have, can_take_over, free_again, goes_on, handed, left_here, running_first, stands as stands_at}
 use Rattle.cq_simulate.proofs.ideal_run.run_slots.Given as given
 use Rattle.cq_simulate.proofs.ideal_run.run_slots.Goals as goal
 use Rattle.cq_simulate.proofs.ideal_run.run_slots.Goals.{After-arrivals, In_ok-slot}
@@ -60,4 +60,5 @@ returns-clause-sent g c =
     at_end g.R.Rank.machine c.slots.invariant.runs (c.is_over.ensures.0 c.slots-test.false)
 
 pub returns-clause-early : goal.returns-clause-early
-returns-clause-early g c = search (arith, rules, early_at_end)
+returns-clause-early g c =
+    search (arith, rules, slots_within 0 c.slots.invariant.runs.ran.gone, c.slots.invariant.runs.ready.short)

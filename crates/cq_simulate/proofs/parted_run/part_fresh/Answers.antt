@@ -1,6 +1,6 @@
-use Rattle.cq_simulate.proofs.Terms.{rules, ap, arith, err_from_is_err_and, EngineView}
-use Rattle.cq_simulate.proofs.FabricOpening.{IsMade, can_begin, part_fault, parted_of}
-use Rattle.cq_simulate.proofs.TakenUp.{machine_count}
+use Rattle.cq_simulate.proofs.Terms.{common_steps, rules, ap, arith, err_from_is_err_and, EngineView}
+use Rattle.cq_simulate.proofs.FabricOpening.{IsMade, can_begin, parted_of}
+use Rattle.cq_simulate.proofs.TakenUp.{machine_count, machines_many}
 use Rattle.cq_simulate.proofs.parted_run.part_fresh.Given as given
 use Rattle.cq_simulate.proofs.parted_run.part_fresh.Goals as goal
 use Rattle.cq_simulate.proofs.parted_run.part_fresh.Goals.{In_ok-note}
@@ -22,8 +22,7 @@ pub returns-in_err-run_before-clause-refused : goal.returns-in_err-run_before-cl
 returns-in_err-run_before-clause-refused g c =
     let begins = made g (goal.at.returns-in_err-run_before-clause-refused g c).In_ok-note in
     let p = err_from_is_err_and c.from_residual-in_err-run_before.result c.from_residual-in_err-run_before.ensures.1 in
-    rw (p.1, p.2)
-    (part_fault c.args.tables.now c.args.schedule.now begins c.args.slots _ c.in_err-run_before.ensures.fault)
+    rw (p.1, p.2) (grind (arith, common_steps, machines_many))
 
 pub returns-clause-parted : goal.returns-clause-parted
 returns-clause-parted g c =
