@@ -18,7 +18,7 @@ pub use Rattle.cq_cells.specs.Scheduled.{Scheduled, schedule_of}
 pub use Rattle.cq_cells.specs.Traffic.{IsLater, IsTraffic, is_from, is_to, number_of}
 pub use Rattle.cq_rank.specs.Machine.{KeepsLaws, Machine, first_come, machine_at}
 pub use Rattle.cq_rank.specs.Switch.{class_count}
-pub use Rattle.cq_scfq.specs.Discipline.{fixed_of, machine_from}
+pub use Rattle.cq_scfq.specs.Discipline.{machine_from}
 pub use Rattle.cq_scfq.specs.Disciplines.{machine_of, machines_of, openings_of}
 pub use Rattle.cq_ideal.proofs.AtInput.{come_in_order, comes_at_input}
 pub use Rattle.cq_ideal.proofs.Counting.{all_counted_both, counts_fit, none_counted, zero_fits}
@@ -105,8 +105,8 @@ unfoldable pub use Rattle.cq_simulate.specs.IdealRuns.{ideal_departures, ideal_r
 pub use Rattle.cq_simulate.specs.Packets.{ArePacked, HaveLeftOf, LeaveInOrder, LeaveWhole, LeftInOrder, LeftInPackets, ends_packet_at, leaving, of_packet}
 unfoldable pub use Rattle.cq_simulate.specs.Packets.{packets_out}
 pub use Rattle.cq_simulate.specs.Pieces.{CanBeJoined, Fits, IsCaptured, IsEmptied, JoinsOn, Took, left_with, opened, piece_at, records_of}
-pub use Rattle.cq_simulate.specs.{declared.fabric_run.PackedFabricRun.PackedFabricRun, declared.ports.Ports.Ports, declared.refusal.RunRefusal.RunRefusal}
-pub use Rattle.cq_simulate.specs.Terms.{ArePortsFor, AreTables, CanBeTakenUp, Cell, FabricRun, GoesOnFrom, IsFreshFor, IsPartFault, IsQuiet, IsReady, IsResumeFault, IsScheduleFor, IsSetup, NoneCome, Tables, classes_of, kept_of, ports_of}
+pub use Rattle.cq_simulate.specs.{declared.fabric_run.PackedFabricRun.PackedFabricRun, declared.refusal.RunRefusal.RunRefusal}
+pub use Rattle.cq_simulate.specs.Terms.{AreTables, CanBeTakenUp, Cell, FabricRun, GoesOnFrom, IsFreshFor, IsQuiet, IsReady, IsResumeFault, IsScheduleFor, IsSetup, NoneCome, Tables, classes_of, kept_of, ports_of}
 pub use Rattle.cq_base.proofs.Each.{all_filter, all_weaker, all_flat, all_made, filter_all, filter_none}
 pub use Rattle.cq_base.specs.{declared.figures.OutputFigures.OutputFigures, declared.packed.PackedDeparture.PackedDeparture, declared.setup.Kind.Kind, declared.setup.Kind.TheVariants.FirstCome}
 pub use Rattle.cq_base.proofs.Keys.{key_laws}
