@@ -1,7 +1,7 @@
--- A walk along the blocks, from the first on or from the last back. The places ahead of the block behind a block are
--- those ahead of it and its own; so what is counted grows by a block's numbers, or shrinks by them.
-use Rattle.cq_list.proofs.Terms.{take-append-add, cases_lt, rules, ◌≡◌, ℕ, ◌+◌, ◌-◌, ◌<◌, ◌≤◌, Bool, List, [], ◌∷◌, ◌++◌, length, get_or, take, drop, ap, arith, length-append, take-append-drop, common_steps, filter, concat, get_or_read, length-drop, length-take-le, take-append-le, drop_more, take_more, append-nil, filter-append, concat-append, place_of_nth, is_output, count_of, IsSpot, IsAhead, few_kept}
-use Rattle.std.proofs.lemmas.List.{same_from_push}
+-- A walk along the blocks from the first of a run on, and over the sums of runs from both ends. What stands ahead of the
+-- block behind a block is what stands ahead of it, and its own: what is counted grows by a block's numbers, or a sum's.
+use Rattle.cq_list.specs.Sums.{AreSums, IsBetween, SumView, own_in, run_blocks}
+use Rattle.cq_list.proofs.Terms.{take-append-add, rules, ◌≡◌, ℕ, ◌+◌, ◌-◌, ◌*◌, ◌<◌, ◌≤◌, Bool, List, [], ◌++◌, length, get_or, take, drop, ap, arith, length-append, take-append-drop, common_steps, filter, concat, take-append-le, drop_more, take_more, append-nil, filter-append, concat-append, place_of_nth, is_output, count_of, most_ports, IsSpot, IsAhead, few_kept}
 use Rattle.cq_list.proofs.Nth.{nth_inside, nth_in_front, nth_behind}
 use Rattle.cq_list.proofs.Blocks.{ahead_more, whole_is}
 
@@ -19,10 +19,7 @@ ahead_fits {blocks} {j} {i} ahead =
     grind (arith, common_steps, few_kept (is_output j) (concat (take i blocks)), whole_is blocks i)
 
 module _ (blocks : List (List ℕ)) (i : ℕ) {block : List ℕ} (inside : i < length blocks)
-    (is_read : block ≡ get_or blocks i block) where
-  block_is : block ≡ get_or blocks i []
-  block_is = get_or_read blocks i block inside is_read []
-
+    (block_is : block ≡ get_or blocks i []) where
   parts_are : concat blocks ≡ concat (take i blocks) ++ (block ++ concat (drop (i + 1) blocks))
   parts_are = rw block_is
       (cc (take-append-drop i blocks, concat-append (take i blocks) (drop i blocks), drop_more blocks i [] inside))
@@ -35,15 +32,14 @@ module _ (blocks : List (List ℕ)) (i : ℕ) {block : List ℕ} (inside : i < l
   count_next j =
       grind (arith, common_steps, take_more, concat-append, filter-append, length-append, append-nil, block_is)
 
-  -- what stands ahead of the block behind it, and of it by what stands ahead of that one
+  -- what stands ahead of the block behind it
   pub ahead_on : {j places own : ℕ} → IsAhead blocks j i places own →
       IsAhead blocks j (i + 1) (places + length block) (own + count_of j block)
   ahead_on ahead = search (arith, rules, ahead_next, count_next)
 
-  pub ahead_off : {j next places own : ℕ} → IsAhead blocks j next places own → next ≡ i + 1 →
-      (length block ≤ places) × (count_of j block ≤ own)
-      × IsAhead blocks j i (places - length block) (own - count_of j block)
-  ahead_off {j} ahead is = let more = ahead_next in let count = count_next j in grind (arith, common_steps)
+  pub block_fits : {j places own : ℕ} → IsAhead blocks j i places own →
+      (places + length block ≤ length (concat blocks)) × (own + count_of j block ≤ length (concat blocks))
+  block_fits ahead = ahead_fits (ahead_on ahead)
 
   -- how many of the places ahead of one of the block are an output's
   pub count_within : (j left place : ℕ) → left ≤ length block → length (concat (take i blocks)) + left ≡ place →
@@ -58,49 +54,14 @@ module _ (blocks : List (List ℕ)) (i : ℕ) {block : List ℕ} (inside : i < l
     pub nth_found : (place ≡ place_of_nth (is_output j) k (concat blocks)) × IsSpot blocks place at within
     nth_found = search (arith, rules, nth_behind, parts_are, nth_in_front, nth_inside, block_is)
 
--- ## From both ends at once
+-- ## Run by run
 
--- what two walks meet that have both come past so many blocks, and what is counted with it
-pub record AreMet (blocks : List (List ℕ)) (j i : ℕ) (front back : List ℕ) (left lent : List (List ℕ))
-    (places own later some : ℕ) : Type 0 where
-  pub inside : i < length blocks
-  pub first : front ≡ get_or blocks i front
-  pub last : back ≡ get_or blocks (length blocks - (i + 1)) back
-  pub ahead : left ≡ drop (i + 1) blocks
-  pub behind : lent ≡ take (length blocks - (i + 1)) blocks
-  pub on : IsAhead blocks j (i + 1) (places + length front) (own + count_of j front)
-  pub fits : length back ≤ later
-  pub few : count_of j back ≤ some
-  pub off : IsAhead blocks j (length blocks - (i + 1)) (later - length back) (some - count_of j back)
+module _ (blocks : List (List ℕ)) (sums : List SumView) (had : AreSums blocks sums) (run : ℕ) {sum : SumView}
+    (inside : run < length sums) (read : sum ≡ get_or sums run sum) {j : ℕ} (known : j < most_ports) where
+  between : IsBetween blocks (run_blocks * run) (run_blocks * (run + 1)) sum
+  between = rw read (had.each run sum inside)
 
-module _ (blocks : List (List ℕ)) (i : ℕ) {j later some : ℕ} {from to : List (List ℕ)} (ahead : from ≡ drop i blocks)
-    (behind : to ≡ take (length blocks - i) blocks) (rest : IsAhead blocks j (length blocks - i) later some) where
-  pub are_met : {front back : List ℕ} {left lent : List (List ℕ)} {places own : ℕ} → from ≡ front ∷ left →
-      to ≡ lent ++ back ∷ [] → IsAhead blocks j i places own →
-      AreMet blocks j i front back left lent places own later some
-  are_met {front} {back} {left} {lent} first last counted =
-      let next : drop i blocks ≡ front ∷ left = cc in
-      let inside : i < length blocks = omega (arith, length-drop i blocks, ap length next) in
-      let met = drop_more blocks i front inside in
-      let read : front ≡ get_or blocks i front = cc in
-      let same : length blocks - i ≡ length blocks - (i + 1) + 1 = omega arith in
-      let parts = same_from_push lent (take (length blocks - (i + 1)) blocks) back _
-      (cc (take_more blocks (length blocks - (i + 1)) back (omega arith), same)) in
-      let off = ahead_off blocks (length blocks - (i + 1)) (omega arith) parts.1 rest same in
-      search (rules, parts, off, ahead_on, read)
-
-  -- while there is more of an output ahead of what was passed from the end, neither is at its own
-  pub both_left : {k : ℕ} → k < some → (0 < length from) × (0 < length to)
-  both_left there = grind (arith, common_steps, cases_lt, length-drop, length-take-le)
-
--- ## From the last block back
-
-module _ (blocks : List (List ℕ)) (passed : ℕ) (block : List ℕ) (len end : ℕ) (left : passed < length blocks)
-    (is_read : block ≡ get_or blocks (length blocks - 1 - passed) block) (long : len ≡ length block)
-    (ends : end ≡ length (concat (take (length blocks - passed) blocks))) where
-  pub starts_back : length (concat (take (length blocks - 1 - passed) blocks)) + len ≡ end
-  starts_back = grind (arith, common_steps, ahead_next)
-
-  pub spot_back : (place : ℕ) → place < end → end - len ≤ place →
-      IsSpot blocks place (length blocks - 1 - passed) (place - (end - len))
-  spot_back place early late = grind (arith, common_steps, starts_back, block_is)
+  -- what stands ahead of the run behind it
+  pub run_on : {places own : ℕ} → IsAhead blocks j (run_blocks * run) places own →
+      IsAhead blocks j (run_blocks * (run + 1)) (places + sum.places) (own + own_in sum j)
+  run_on ahead = let more = between.places in let count = between.counts j known in grind (arith, common_steps)

@@ -44,10 +44,10 @@ remove_in (b ∷ bs) (suc i) o n inside lt place =
 -- ## Blocks split, and a place at the end
 
 pub split_in : (blocks : List (List ℕ)) (i : ℕ) (front back : List ℕ) → i < length blocks →
-    concat (insert (set blocks i front) (i + 1) back) ≡ concat (set blocks i (front ++ back))
-split_in [] i front back inside = absurd (omega arith)
-split_in (b ∷ bs) zero front back inside = grind (arith, common_steps, append_assoc)
-split_in (b ∷ bs) (suc i) front back inside = grind (arith, common_steps, split_in bs i front back)
+    front ++ back ≡ get_or blocks i [] → concat (insert (set blocks i front) (i + 1) back) ≡ concat blocks
+split_in [] i front back inside parts = absurd (omega arith)
+split_in (b ∷ bs) zero front back inside parts = grind (arith, common_steps, append_assoc)
+split_in (b ∷ bs) (suc i) front back inside parts = grind (arith, common_steps, split_in bs i)
 
 -- a place at the end of the last block, or in a block of its own
 pub append_in : (blocks : List (List ℕ)) (i y : ℕ) (block : List ℕ) → i + 1 ≡ length blocks →

@@ -15,3 +15,6 @@ pub mod Queues
 pub mod Split
 pub mod Told
 pub mod Walk
+pub mod Sums
+pub mod Runs_rc
+pub mod Runs_ra

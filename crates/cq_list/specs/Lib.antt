@@ -4,3 +4,4 @@ pub mod InputList
 pub mod Places
 pub mod Pool
 pub mod Split
+pub mod Sums

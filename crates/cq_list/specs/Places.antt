@@ -1,11 +1,9 @@
 -- The places of a list, in blocks, and what clauses see of them.
-use Rattle.std.specs.Prelude.{◌≡◌, ℕ, ◌+◌, ◌*◌, ◌<◌, ◌≤◌, List, [], ◌∷◌, ◌++◌, length, take, drop, insert, remove, slice_set, slice_index_or}
+use Rattle.std.specs.Prelude.{◌≡◌, ℕ, ◌+◌, ◌*◌, ◌^◌, ◌<◌, ◌≤◌, List, [], ◌∷◌, ◌++◌, length, take, drop, insert, remove, slice_set, slice_index_or}
 use Rattle.std.specs.List.{concat}
-use Rattle.std.specs.VecDeque.{deque_capacity}
-use Rattle.std.specs.declared.alloc.Global.{Global}
-use Rattle.std.specs.declared.collections.VecDeque.{VecDeque}
 use Rattle.cq_base.specs.Limits.{most_ports}
 use Rattle.cq_list.specs.Split.{count_of}
+use Rattle.cq_list.specs.Sums.{BlocksView}
 
 -- the least places of a block that is not the last
 abbrev pub least_places : ℕ
@@ -34,16 +32,17 @@ pub record AreBlocks (blocks : List (List ℕ)) (len room capacity : ℕ) : Type
   pub memory : HaveMemory room capacity
 
 -- an output can go into these blocks: they are filled, and there is memory for a block more
-pub record CanGrow (blocks : VecDeque (List ℕ) Global) (output : ℕ) : Type 0 where
-  pub filled : AreFilled blocks.items
-  pub memory : HaveMemory (length (concat blocks.items)) (deque_capacity blocks)
+pub record CanGrow (v : BlocksView) (output : ℕ) : Type 0 where
+  pub filled : AreFilled v.blocks
+  pub memory : HaveMemory (length (concat v.blocks)) v.capacity
   pub in_range : output < most_ports
+  pub fits : length (concat v.blocks) + 1 < 2 ^ 64
 
 -- an output went in at this place, the blocks are filled still, and they have no less memory
-pub record HasGrown (place output : ℕ) (old new : VecDeque (List ℕ) Global) : Type 0 where
-  pub places : concat new.items ≡ insert (concat old.items) place output
-  pub filled : AreFilled new.items
-  pub capacity : deque_capacity old ≤ deque_capacity new
+pub record HasGrown (place output : ℕ) (old new : BlocksView) : Type 0 where
+  pub places : concat new.blocks ≡ insert (concat old.blocks) place output
+  pub filled : AreFilled new.blocks
+  pub capacity : old.capacity ≤ new.capacity
 
 -- the blocks, where block i has the places of the next one too
 abbrev pub joined : List (List ℕ) → ℕ → List (List ℕ)

@@ -10,5 +10,7 @@ mod fingers;
 mod input_list;
 mod places;
 mod pool;
+mod sum;
+mod summed_blocks;
 
 pub use input_list::InputList;

@@ -1,14 +1,16 @@
 //! The outputs of the cells of a list, in order.
-ghost use Rattle.std.specs.Prelude.{◌≡◌, ℕ, ◌+◌, ◌-◌, ◌<◌, ◌≤◌, ◌^◌, ◌++◌, [], ◌∷◌, Some, IfOk, length, take, insert, remove, slice_get, slice_index_or};
-ghost use Rattle.std.specs.VecDeque.{deque_capacity};
+ghost use Rattle.std.specs.Prelude.{◌≡◌, ℕ, ◌+◌, ◌-◌, ◌*◌, ◌<◌, ◌≤◌, ◌^◌, ◌++◌, [], ◌∷◌, Some, IfOk, length, take, insert, remove, slice_get, slice_index_or};
 ghost use Rattle.std.specs.List.{position_or_len, concat};
 ghost use Rattle.cq_base.specs.Limits.{most_ports};
 ghost use Rattle.cq_list.specs.Split.{is_output, place_of_nth, count_of};
 ghost use Rattle.cq_list.specs.Places.{CanGrow, HasGrown, IsSpot, IsAhead, AreFilled, IsFilledUp, joined, least_places, pulled};
 ghost use Rattle.cq_list.specs.Block.{most_places};
+ghost use Rattle.cq_list.specs.Sums.{IsStart, own_in, run_blocks};
 
 use crate::block::{Block, HALF_PLACES, MOST_PLACES};
-use cq_base::{NoMemory, Port};
+use crate::sum::Sum;
+use crate::summed_blocks::{RUN_BLOCKS, SummedBlocks};
+use cq_base::{MOST_PORTS, NoMemory, Port};
 use std::alloc::Global;
 use std::collections::VecDeque;
 use std::marker::Model;
@@ -24,29 +26,29 @@ const LEAST_PLACES: usize = 16;
 /// first block stands apart, since most happens there, and the others in a deque, where a block that comes or goes
 /// moves those on its shorter side: none, where the first is split or takes the next one in.
 ///
-/// A place is found by the blocks' lengths and an output's by their counts: in the first block, or in the others from
-/// the nearer end, but for `count_ahead`, which counts from the start: a call reads two numbers of each block that it
-/// passes, and searches one block. So what stands near the start or the end is found at once, and what stands in the
-/// middle of 50,000 places behind some 400 full blocks.
+/// A place is found by the blocks' lengths and an output's by their counts: in the first block, or in the others by the
+/// sums of their runs from the nearer end, and then in one run block by block, but for `count_ahead`, which goes along
+/// all blocks from the start: a call reads two numbers of each run and block that it passes, and searches one block. So
+/// what stands near the start or the end is found at once, and what stands in the middle of 50,000 places behind some 12
+/// runs of full blocks and 32 blocks at most.
 #[derive(Drop)]
 pub struct Places {
     first: Block,
-    others: VecDeque<Block>,
+    others: SummedBlocks,
     len: usize,
     room: u64,
 }
 
 impl Model for Places {
     ghost use Rattle.std.specs.Prelude.{◌-◌, ◌∷◌};
-    ghost use Rattle.std.specs.VecDeque.{deque_capacity};
     ghost use Rattle.std.specs.List.{concat};
     ghost use Rattle.cq_list.specs.Places.{PlacesView, AreBlocks};
 
     ghost Value = { PlacesView };
 
-    ghost view = { λ p. record { outputs = concat (p.first ∷ p.others.items); spare = p.room - p.len } };
+    ghost view = { λ p. record { outputs = concat (p.first ∷ p.others.blocks); spare = p.room - p.len } };
 
-    ghost invariant = { λ p. AreBlocks (p.first ∷ p.others.items) p.len p.room (deque_capacity p.others) };
+    ghost invariant = { λ p. AreBlocks (p.first ∷ p.others.blocks) p.len p.room p.others.capacity };
 }
 
 // The block of a place, and where it stands in this block.
@@ -63,15 +65,60 @@ struct Ahead {
     own: usize,
 }
 
-// Where a place stands, from the first block on.
-#[tactic(auto, using(crate::proofs::BlockWalk::ahead_next, crate::proofs::Blocks::whole_is))]
-fn spot_from_start(blocks: &VecDeque<Block>, place: usize) -> Spot
-    requires { place < length (concat blocks.now.items) }
-    ensures { IsSpot blocks.now.items place result.block result.within }
+// The run of a place, and how many places stand ahead of this run.
+#[derive(Clone, Copy)]
+struct Start {
+    run: usize,
+    ahead: usize,
+}
+
+// Where the run of a place starts, from the first run on.
+fn start_from_first(blocks: &SummedBlocks, place: usize) -> Start
+    requires { place < length (concat blocks.now.blocks) }
+    ensures { IsStart blocks.now.blocks place result.run result.ahead }
 {
-    let mut within = place;
-    'each: for block in 0..blocks.len() {
-        let len = blocks[block].len();
+    let mut left = place;
+    let sums = blocks.sums();
+    'runs: for run in 0..sums.len() {
+        let places = sums[run].places();
+        if left < places {
+            return Start {
+                run,
+                ahead: place - left,
+            };
+        }
+        left -= places;
+    }
+    unreachable!()
+}
+
+// Where the run of a place starts, from the last run back.
+fn start_from_last(blocks: &SummedBlocks, place: usize, len: usize) -> Start
+    requires inside { place < len }
+    requires len { len ≡ length (concat blocks.now.blocks) }
+    ensures { IsStart blocks.now.blocks place result.run result.ahead }
+{
+    let mut ahead = len;
+    let sums = blocks.sums();
+    'runs: for passed in 0..sums.len() {
+        let run = sums.len() - 1 - passed;
+        ahead -= sums[run].places();
+        if ahead <= place {
+            return Start { run, ahead };
+        }
+    }
+    unreachable!()
+}
+
+// Where a place stands in its run.
+fn spot_in(blocks: &SummedBlocks, place: usize, start: Start) -> Spot
+    requires { IsStart blocks.now.blocks place start.run start.ahead }
+    ensures { IsSpot blocks.now.blocks place result.block result.within }
+{
+    let mut within = place - start.ahead;
+    let count = blocks.len();
+    'each: for block in start.run * RUN_BLOCKS..count {
+        let len = blocks.at(block).len();
         if within < len {
             return Spot { block, within };
         }
@@ -80,36 +127,18 @@ fn spot_from_start(blocks: &VecDeque<Block>, place: usize) -> Spot
     unreachable!()
 }
 
-// Where a place stands, from the last block back.
-fn spot_from_end(blocks: &VecDeque<Block>, place: usize, len: usize) -> Spot
-    requires inside { place < len }
-    requires len { len ≡ length (concat blocks.now.items) }
-    ensures { IsSpot blocks.now.items place result.block result.within }
-{
-    let mut end = len;
-    'each: for passed in 0..blocks.len() {
-        let block = blocks.len() - 1 - passed;
-        end -= blocks[block].len();
-        if end <= place {
-            return Spot {
-                block,
-                within: place - end,
-            };
-        }
-    }
-    unreachable!()
-}
-
 // Where a place stands, from the nearer end.
-fn spot_of(blocks: &VecDeque<Block>, place: usize, len: usize) -> Spot
+fn spot_of(blocks: &SummedBlocks, place: usize, len: usize) -> Spot
     requires inside { place < len }
-    requires len { len ≡ length (concat blocks.now.items) }
-    ensures { IsSpot blocks.now.items place result.block result.within }
+    requires len { len ≡ length (concat blocks.now.blocks) }
+    ensures { IsSpot blocks.now.blocks place result.block result.within }
 {
-    if place <= len / 2 {
-        return spot_from_start(blocks, place);
-    }
-    spot_from_end(blocks, place, len)
+    let start = if place <= len / 2 {
+        start_from_first(blocks, place)
+    } else {
+        start_from_last(blocks, place, len)
+    };
+    spot_in(blocks, place, start)
 }
 
 // What stands ahead of the block behind a block.
@@ -125,16 +154,29 @@ fn with_block(places: &Block, output: Port, ahead: Ahead) -> Ahead
     }
 }
 
-// What stands ahead of a block, by what stands ahead of the block behind it.
-fn without_block(places: &Block, output: Port, ahead: Ahead) -> Ahead
-    requires fits { length places.now ≤ ahead.places }
-    requires few { count_of output places.now ≤ ahead.own }
-    ensures places { result.places ≡ ahead.places - length places.now }
-    ensures own { result.own ≡ ahead.own - count_of output places.now }
+// What stands ahead of the run behind a run.
+fn with_run(sum: &Sum, output: Port, ahead: Ahead) -> Ahead
+    requires fits { ahead.places + sum.now.places < 2 ^ 64 }
+    requires few { ahead.own + own_in sum.now output < 2 ^ 64 }
+    ensures places { result.places ≡ ahead.places + sum.now.places }
+    ensures own { result.own ≡ ahead.own + own_in sum.now output }
 {
     Ahead {
-        places: ahead.places - places.len(),
-        own: ahead.own - places.count(output),
+        places: ahead.places + sum.places(),
+        own: ahead.own + sum.count(output),
+    }
+}
+
+// What stands ahead of a run, by what stands ahead of the run behind it.
+fn without_run(sum: &Sum, output: Port, ahead: Ahead) -> Ahead
+    requires fits { sum.now.places ≤ ahead.places }
+    requires few { own_in sum.now output ≤ ahead.own }
+    ensures places { result.places ≡ ahead.places - sum.now.places }
+    ensures own { result.own ≡ ahead.own - own_in sum.now output }
+{
+    Ahead {
+        places: ahead.places - sum.places(),
+        own: ahead.own - sum.count(output),
     }
 }
 
@@ -151,29 +193,59 @@ fn nth_in(places: &Block, block: usize, output: Port, number: usize, ahead: Ahea
     (ahead.places + within, Spot { block, within })
 }
 
-// The same in all blocks. It is looked for from both ends at once, so it is met from the nearer one.
-fn find_from_ends(
-    blocks: &VecDeque<Block>,
+// The same in the run that has it.
+fn find_in_run(
+    blocks: &SummedBlocks,
+    run: usize,
     output: Port,
     number: usize,
-    all: Ahead,
+    from: Ahead,
 ) -> (usize, Spot)
-    requires all { IsAhead blocks.now.items output (length blocks.now.items) all.places all.own }
+    requires ahead { IsAhead blocks.now.blocks output (run_blocks * run) from.places from.own }
+    requires late { from.own ≤ number }
+    requires early { number < count_of output (concat blocks.now.blocks) }
+    requires fits { length (concat blocks.now.blocks) < 2 ^ 64 }
+    ensures place { result.0 ≡ place_of_nth (is_output output) number (concat blocks.now.blocks) }
+    ensures spot { IsSpot blocks.now.blocks result.0 result.1.block result.1.within }
+{
+    let mut ahead = from;
+    let count = blocks.len();
+    'each: for block in run * RUN_BLOCKS..count {
+        let places = blocks.at(block);
+        let next = with_block(places, output, ahead);
+        if number < next.own {
+            return nth_in(places, block, output, number, ahead);
+        }
+        ahead = next;
+    }
+    unreachable!()
+}
+
+// The same in all blocks. Its run is looked for from both ends at once, so it is met from the nearer one. The sums tell
+// nothing of an output that no port has: it is looked for block by block.
+fn find_from_ends(blocks: &SummedBlocks, output: Port, number: usize, all: Ahead) -> (usize, Spot)
+    requires all { IsAhead blocks.now.blocks output (length blocks.now.blocks) all.places all.own }
     requires there { number < all.own }
-    ensures place { result.0 ≡ place_of_nth (is_output output) number (concat blocks.now.items) }
-    ensures spot { IsSpot blocks.now.items result.0 result.1.block result.1.within }
+    ensures place { result.0 ≡ place_of_nth (is_output output) number (concat blocks.now.blocks) }
+    ensures spot { IsSpot blocks.now.blocks result.0 result.1.block result.1.within }
 {
     let mut front = Ahead { places: 0, own: 0 };
+    if output as usize >= MOST_PORTS {
+        return find_in_run(blocks, 0, output, number, front);
+    }
     let mut back = all;
-    'each: for (first, (places, behind)) in blocks.iter().zip(blocks.iter().rev()).enumerate() {
-        let next = with_block(places, output, front);
+    let sums = blocks.sums();
+    let runs = sums.len();
+    'runs: for first in 0..runs {
+        let next = with_run(&sums[first], output, front);
         if number < next.own {
-            return nth_in(places, first, output, number, front);
+            return find_in_run(blocks, first, output, number, front);
         }
         front = next;
-        back = without_block(behind, output, back);
+        let last = runs - 1 - first;
+        back = without_run(&sums[last], output, back);
         if back.own <= number {
-            return nth_in(behind, blocks.len() - 1 - first, output, number, back);
+            return find_in_run(blocks, last, output, number, back);
         }
     }
     unreachable!()
@@ -185,18 +257,18 @@ fn find_from_ends(
 #[inline(never)]
 fn find_behind(
     first: &Block,
-    others: &VecDeque<Block>,
+    others: &SummedBlocks,
     output: Port,
     number: usize,
     all: Ahead,
 ) -> (usize, Spot)
-    requires places { all.places ≡ length (first.now ++ concat others.now.items) }
-    requires own { all.own ≡ count_of output (first.now ++ concat others.now.items) }
+    requires places { all.places ≡ length (first.now ++ concat others.now.blocks) }
+    requires own { all.own ≡ count_of output (first.now ++ concat others.now.blocks) }
     requires late { count_of output first.now ≤ number }
     requires there { number < all.own }
     ensures place { length first.now + result.0
-        ≡ place_of_nth (is_output output) number (first.now ++ concat others.now.items) }
-    ensures spot { IsSpot others.now.items result.0 result.1.block result.1.within }
+        ≡ place_of_nth (is_output output) number (first.now ++ concat others.now.blocks) }
+    ensures spot { IsSpot others.now.blocks result.0 result.1.block result.1.within }
 {
     let own = first.count(output);
     let behind = Ahead {
@@ -207,14 +279,14 @@ fn find_behind(
 }
 
 // How many of the places ahead of this one are an output's.
-fn count_in(blocks: &VecDeque<Block>, output: Port, place: usize) -> usize
-    requires inside { place ≤ length (concat blocks.now.items) }
-    ensures { result ≡ count_of output (take place (concat blocks.now.items)) }
+fn count_in(blocks: &SummedBlocks, output: Port, place: usize) -> usize
+    requires inside { place ≤ length (concat blocks.now.blocks) }
+    ensures { result ≡ count_of output (take place (concat blocks.now.blocks)) }
 {
     let mut left = place;
     let mut count = 0;
     'each: for block in 0..blocks.len() {
-        let places = &blocks[block];
+        let places = blocks.at(block);
         let len = places.len();
         if left <= len {
             return count + places.count_ahead(output, left);
@@ -244,36 +316,35 @@ fn insert_and_split(block: &mut Block, place: usize, output: Port) -> Block
 }
 
 // A place at the end, in a block of its own behind a full one.
-fn push_block(blocks: &mut VecDeque<Block>, output: Port)
+fn push_block(blocks: &mut SummedBlocks, output: Port)
     requires can { CanGrow blocks.old output }
-    requires full { (i : ℕ) → i + 1 ≡ length blocks.old.items →
-        most_places ≤ length (slice_index_or blocks.old.items i []) }
-    ensures { HasGrown (length (concat blocks.old.items)) output blocks.old blocks.new }
+    requires full { (i : ℕ) → i + 1 ≡ length blocks.old.blocks →
+        most_places ≤ length (slice_index_or blocks.old.blocks i []) }
+    ensures { HasGrown (length (concat blocks.old.blocks)) output blocks.old blocks.new }
 {
     let mut block = Block::new();
     block.insert(0, output);
-    blocks.push_back_reserved(block);
+    blocks.insert(blocks.len(), block);
 }
 
 // A place at the end, in the last block or behind it.
-fn append_behind(blocks: &mut VecDeque<Block>, last: usize, output: Port)
+fn append_behind(blocks: &mut SummedBlocks, last: usize, output: Port)
     requires can { CanGrow blocks.old output }
-    requires last { last + 1 ≡ length blocks.old.items }
-    ensures { HasGrown (length (concat blocks.old.items)) output blocks.old blocks.new }
+    requires last { last + 1 ≡ length blocks.old.blocks }
+    ensures { HasGrown (length (concat blocks.old.blocks)) output blocks.old blocks.new }
 {
-    let len = blocks[last].len();
+    let len = blocks.at(last).len();
     if len < MOST_PLACES {
-        let block = &mut blocks[last];
-        block.insert(len, output);
+        blocks.put(last, len, output);
         return;
     }
     push_block(blocks, output);
 }
 
 // A place at the end.
-fn append(blocks: &mut VecDeque<Block>, output: Port)
+fn append(blocks: &mut SummedBlocks, output: Port)
     requires { CanGrow blocks.old output }
-    ensures { HasGrown (length (concat blocks.old.items)) output blocks.old blocks.new }
+    ensures { HasGrown (length (concat blocks.old.blocks)) output blocks.old blocks.new }
 {
     let count = blocks.len();
     if count == 0 {
@@ -284,70 +355,74 @@ fn append(blocks: &mut VecDeque<Block>, output: Port)
 }
 
 // A place ahead of another one. A full block is split in two.
-fn insert_inside(blocks: &mut VecDeque<Block>, place: usize, len: usize, output: Port)
+fn insert_inside(blocks: &mut SummedBlocks, place: usize, len: usize, output: Port)
     requires can { CanGrow blocks.old output }
     requires inside { place < len }
-    requires len { len ≡ length (concat blocks.old.items) }
+    requires len { len ≡ length (concat blocks.old.blocks) }
     ensures { HasGrown place output blocks.old blocks.new }
 {
     let spot = spot_of(blocks, place, len);
-    let block = &mut blocks[spot.block];
-    if block.len() < MOST_PLACES {
-        block.insert(spot.within, output);
+    if blocks.at(spot.block).len() < MOST_PLACES {
+        blocks.put(spot.block, spot.within, output);
         return;
     }
-    let back = insert_and_split(block, spot.within, output);
-    blocks.insert(spot.block + 1, back).unwrap();
+    blocks.split(spot.block);
+    if spot.within < HALF_PLACES {
+        blocks.put(spot.block, spot.within, output);
+    } else {
+        blocks.put(spot.block + 1, spot.within - HALF_PLACES, output);
+    }
 }
 
 // The places of the next block go over to the end of a block.
-fn join_next(blocks: &mut VecDeque<Block>, at: usize)
-    requires inside { at + 1 < length blocks.old.items }
-    requires fits { length (slice_index_or blocks.old.items at [])
-        + length (slice_index_or blocks.old.items (at + 1) []) ≤ most_places }
-    ensures joined { blocks.new.items ≡ joined blocks.old.items at }
-    ensures capacity { deque_capacity blocks.new ≡ deque_capacity blocks.old }
+fn join_next(blocks: &mut SummedBlocks, at: usize)
+    requires inside { at + 1 < length blocks.old.blocks }
+    requires fits { length (slice_index_or blocks.old.blocks at [])
+        + length (slice_index_or blocks.old.blocks (at + 1) []) ≤ most_places }
+    ensures joined { blocks.new.blocks ≡ joined blocks.old.blocks at }
+    ensures capacity { blocks.new.capacity ≡ blocks.old.capacity }
 {
-    let next = blocks.remove(at + 1).unwrap();
-    blocks[at].append(&next);
+    let _places = blocks.places();
+    let _count = blocks.len();
+    let next = blocks.remove(at + 1);
+    blocks.append(at, &next);
 }
 
 // The first place of the next block goes over to the end of a block.
-fn pull_next(blocks: &mut VecDeque<Block>, at: usize)
-    requires inside { at + 1 < length blocks.old.items }
-    requires room { length (slice_index_or blocks.old.items at []) < most_places }
-    requires some { 0 < length (slice_index_or blocks.old.items (at + 1) []) }
-    ensures pulled { blocks.new.items ≡ pulled blocks.old.items at }
-    ensures capacity { deque_capacity blocks.new ≡ deque_capacity blocks.old }
+fn pull_next(blocks: &mut SummedBlocks, at: usize)
+    requires inside { at + 1 < length blocks.old.blocks }
+    requires room { length (slice_index_or blocks.old.blocks at []) < most_places }
+    requires some { 0 < length (slice_index_or blocks.old.blocks (at + 1) []) }
+    ensures pulled { blocks.new.blocks ≡ pulled blocks.old.blocks at }
+    ensures capacity { blocks.new.capacity ≡ blocks.old.capacity }
 {
-    let output = blocks[at + 1].remove(0);
-    let block = &mut blocks[at];
-    block.insert(block.len(), output);
+    let _places = blocks.places();
+    let _count = blocks.len();
+    let output = blocks.take(at + 1, 0);
+    blocks.put(at, blocks.at(at).len(), output);
 }
 
 // A block that is as short as it may be gets the places of the next one, or the first of them where it has many.
-fn fill_up(blocks: &mut VecDeque<Block>, at: usize)
-    requires filled { AreFilled blocks.old.items }
-    requires inside { at < length blocks.old.items }
-    ensures places { concat blocks.new.items ≡ concat blocks.old.items }
-    ensures filled { AreFilled blocks.new.items }
+fn fill_up(blocks: &mut SummedBlocks, at: usize)
+    requires filled { AreFilled blocks.old.blocks }
+    requires inside { at < length blocks.old.blocks }
+    ensures places { concat blocks.new.blocks ≡ concat blocks.old.blocks }
+    ensures filled { AreFilled blocks.new.blocks }
     ensures spot { (place within : ℕ) →
-        IsSpot blocks.old.items place at within → IsSpot blocks.new.items place at within }
-    ensures longer { at + 1 < length blocks.new.items → least_places < length (slice_index_or blocks.new.items at []) }
-    ensures capacity { deque_capacity blocks.new ≡ deque_capacity blocks.old }
+        IsSpot blocks.old.blocks place at within → IsSpot blocks.new.blocks place at within }
+    ensures longer { at + 1 < length blocks.new.blocks → least_places < length (slice_index_or blocks.new.blocks at []) }
+    ensures capacity { blocks.new.capacity ≡ blocks.old.capacity }
 {
-    let next = at + 1;
     let count = blocks.len();
+    let next = at + 1;
     if next == count {
         return;
     }
-    let block = &blocks[at];
-    let len = block.len();
+    let len = blocks.at(at).len();
     if len > LEAST_PLACES {
         return;
     }
-    let behind = &blocks[next];
-    let many = behind.len();
+    let many = blocks.at(next).len();
     if many <= HALF_PLACES {
         join_next(blocks, at);
     } else {
@@ -356,24 +431,23 @@ fn fill_up(blocks: &mut VecDeque<Block>, at: usize)
 }
 
 // A place taken out. The last block stays where it runs empty.
-fn remove_at(blocks: &mut VecDeque<Block>, _place: usize, spot: Spot)
-    requires filled { AreFilled blocks.old.items }
-    requires spot { IsSpot blocks.old.items _place spot.block spot.within }
-    ensures places { concat blocks.new.items ≡ remove (concat blocks.old.items) _place }
-    ensures filled { AreFilled blocks.new.items }
-    ensures capacity { deque_capacity blocks.new ≡ deque_capacity blocks.old }
+fn remove_at(blocks: &mut SummedBlocks, _place: usize, spot: Spot)
+    requires filled { AreFilled blocks.old.blocks }
+    requires spot { IsSpot blocks.old.blocks _place spot.block spot.within }
+    ensures places { concat blocks.new.blocks ≡ remove (concat blocks.old.blocks) _place }
+    ensures filled { AreFilled blocks.new.blocks }
+    ensures capacity { blocks.new.capacity ≡ blocks.old.capacity }
 {
     fill_up(blocks, spot.block);
-    let block = &mut blocks[spot.block];
-    block.remove(spot.within);
+    blocks.take(spot.block, spot.within);
 }
 
 // A place at the end of other blocks than the first, or ahead of one of theirs. It stands apart, as `find_behind` does.
 #[inline(never)]
-fn insert_behind(others: &mut VecDeque<Block>, place: usize, len: usize, output: Port)
+fn insert_behind(others: &mut SummedBlocks, place: usize, len: usize, output: Port)
     requires can { CanGrow others.old output }
     requires inside { place ≤ len }
-    requires len { len ≡ length (concat others.old.items) }
+    requires len { len ≡ length (concat others.old.blocks) }
     ensures { HasGrown place output others.old others.new }
 {
     if place == len {
@@ -385,48 +459,49 @@ fn insert_behind(others: &mut VecDeque<Block>, place: usize, len: usize, output:
 
 // A place in the first block, which is full, and is split in two. It stands apart, as `find_behind` does.
 #[inline(never)]
-fn split_first(first: &mut Block, others: &mut VecDeque<Block>, place: usize, output: Port)
+fn split_first(first: &mut Block, others: &mut SummedBlocks, place: usize, output: Port)
     requires can { CanGrow others.old output }
     requires full { length first.old ≡ most_places }
     requires inside { place < most_places }
-    ensures places { first.new ++ concat others.new.items
-        ≡ insert (first.old ++ concat others.old.items) place output }
-    ensures filled { AreFilled (first.new ∷ others.new.items) }
-    ensures capacity { deque_capacity others.new ≡ deque_capacity others.old }
+    requires fits { length first.old + length (concat others.old.blocks) < 2 ^ 64 }
+    ensures places { first.new ++ concat others.new.blocks
+        ≡ insert (first.old ++ concat others.old.blocks) place output }
+    ensures filled { AreFilled (first.new ∷ others.new.blocks) }
+    ensures capacity { others.old.capacity ≤ others.new.capacity }
 {
     let back = insert_and_split(first, place, output);
-    others.push_front_reserved(back);
+    others.insert(0, back);
 }
 
 // The first block, as short as it may be, gets the places of the next one, or the first of them where it has many. It
 // stands apart, as `find_behind` does.
 #[inline(never)]
-fn fill_first(first: &mut Block, others: &mut VecDeque<Block>)
-    requires filled { AreFilled (first.old ∷ others.old.items) }
-    requires some { 0 < length others.old.items }
+fn fill_first(first: &mut Block, others: &mut SummedBlocks)
+    requires filled { AreFilled (first.old ∷ others.old.blocks) }
+    requires some { 0 < length others.old.blocks }
     requires short { length first.old ≤ least_places }
-    ensures filled { IsFilledUp first.old others.old.items first.new others.new.items }
-    ensures capacity { deque_capacity others.new ≡ deque_capacity others.old }
+    ensures filled { IsFilledUp first.old others.old.blocks first.new others.new.blocks }
+    ensures capacity { others.new.capacity ≡ others.old.capacity }
 {
-    if others[0].len() <= HALF_PLACES {
-        let next = others.pop_front().unwrap();
+    if others.at(0).len() <= HALF_PLACES {
+        let next = others.remove(0);
         first.append(&next);
     } else {
-        let output = others[0].remove(0);
+        let output = others.take(0, 0);
         first.insert(first.len(), output);
     }
 }
 
 // A place of the first block taken out.
-fn remove_in_first(first: &mut Block, others: &mut VecDeque<Block>, place: usize)
-    requires filled { AreFilled (first.old ∷ others.old.items) }
+fn remove_in_first(first: &mut Block, others: &mut SummedBlocks, place: usize)
+    requires filled { AreFilled (first.old ∷ others.old.blocks) }
     requires inside { place < length first.old }
-    ensures places { first.new ++ concat others.new.items
-        ≡ remove (first.old ++ concat others.old.items) place }
-    ensures filled { AreFilled (first.new ∷ others.new.items) }
-    ensures capacity { deque_capacity others.new ≡ deque_capacity others.old }
+    ensures places { first.new ++ concat others.new.blocks
+        ≡ remove (first.old ++ concat others.old.blocks) place }
+    ensures filled { AreFilled (first.new ∷ others.new.blocks) }
+    ensures capacity { others.new.capacity ≡ others.old.capacity }
 {
-    if first.len() <= LEAST_PLACES && !others.is_empty() {
+    if first.len() <= LEAST_PLACES && others.len() > 0 {
         fill_first(first, others);
     }
     first.remove(place);
@@ -435,17 +510,17 @@ fn remove_in_first(first: &mut Block, others: &mut VecDeque<Block>, place: usize
 // The first place of an output taken out, which stands behind the first block. It is a call of its own, as
 // `find_behind` is.
 #[inline(never)]
-fn remove_behind(first: &Block, others: &mut VecDeque<Block>, output: Port, all: Ahead)
-    requires filled { AreFilled (first.now ∷ others.old.items) }
-    requires places { all.places ≡ length (first.now ++ concat others.old.items) }
-    requires own { all.own ≡ count_of output (first.now ++ concat others.old.items) }
+fn remove_behind(first: &Block, others: &mut SummedBlocks, output: Port, all: Ahead)
+    requires filled { AreFilled (first.now ∷ others.old.blocks) }
+    requires places { all.places ≡ length (first.now ++ concat others.old.blocks) }
+    requires own { all.own ≡ count_of output (first.now ++ concat others.old.blocks) }
     requires behind { count_of output first.now ≡ 0 }
     requires some { 0 < all.own }
-    ensures places { first.now ++ concat others.new.items
-        ≡ remove (first.now ++ concat others.old.items)
-        (place_of_nth (is_output output) 0 (first.now ++ concat others.old.items)) }
-    ensures filled { AreFilled (first.now ∷ others.new.items) }
-    ensures capacity { deque_capacity others.new ≡ deque_capacity others.old }
+    ensures places { first.now ++ concat others.new.blocks
+        ≡ remove (first.now ++ concat others.old.blocks)
+        (place_of_nth (is_output output) 0 (first.now ++ concat others.old.blocks)) }
+    ensures filled { AreFilled (first.now ∷ others.new.blocks) }
+    ensures capacity { others.new.capacity ≡ others.old.capacity }
 {
     let (place, spot) = find_behind(first, others, output, 0, all);
     remove_at(others, place, spot);
@@ -459,7 +534,7 @@ impl Places {
     {
         Ok(Places {
             first: Block::new(),
-            others: VecDeque::with_capacity(alloc, (room / LEAST_PLACES as u64 + 2) as usize)?,
+            others: SummedBlocks::new(alloc, (room / LEAST_PLACES as u64 + 2) as usize)?,
             len: 0,
             room,
         })
@@ -476,7 +551,7 @@ impl Places {
     pub fn blocks(&self) -> (&Block, &VecDeque<Block>)
         ensures { result.0.now ++ concat result.1.now.items ≡ self.now.outputs }
     {
-        (&self.first, &self.others)
+        (&self.first, self.others.in_order())
     }
 
     /// The output of a place.
@@ -489,7 +564,7 @@ impl Places {
             return self.first.at(place);
         }
         let spot = spot_of(&self.others, place - len, self.len - len);
-        self.others[spot.block].at(spot.within)
+        self.others.at(spot.block).at(spot.within)
     }
 
     /// How many of the places ahead of this one are an output's.

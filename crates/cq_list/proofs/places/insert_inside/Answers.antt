@@ -1,21 +1,40 @@
-use Rattle.cq_list.proofs.Terms.{rules, ◌<◌, ◌≤◌, refl, ℕ, Result, Ok, arith, get_or_read, length-insert}
-use Rattle.std.specs.Prelude.{Err, IsOk, OnErr}
-use Rattle.cq_list.proofs.Blocks.{insert_in, split_in}
-use Rattle.cq_list.proofs.Filled.{room_for_block, filled_longer, filled_split}
+use Rattle.cq_list.proofs.Terms.{rules, arith, length-insert}
+use Rattle.cq_list.proofs.Blocks.{insert_in}
+use Rattle.cq_list.proofs.Filled.{few_blocks, room_for_block, filled_longer}
+use Rattle.cq_list.proofs.Runs_rc.{IsHalved, halves_are}
 use Rattle.cq_list.proofs.places.insert_inside.Goals as goal
+use Rattle.cq_list.proofs.places.insert_inside.Goals.{After-split}
 
-has_room : {T E : Type 0} (r : Result T E) (len capacity : ℕ) → OnErr r (capacity ≤ len) → len < capacity → IsOk r
-has_room (Ok t) len capacity full room = refl
-has_room (Err e) len capacity full room = absurd (let none : capacity ≤ len = full in omega arith)
-
-pub unwrap-requires : goal.unwrap-requires
-unwrap-requires c =
-    let room = room_for_block c.args.blocks.now.items _ c.requires.can.filled c.requires.can.memory in
-    has_room _ _ _ c.insert-2.ensures.full (omega arith)
+pub split-requires-clause-memory : goal.split-requires-clause-memory
+split-requires-clause-memory c = search (arith, rules, room_for_block)
 
 pub returns-then-len-lt-MOST_PLACES : goal.returns-then-len-lt-MOST_PLACES
-returns-then-len-lt-MOST_PLACES c = search (arith, rules, get_or_read, length-insert, insert_in, filled_longer)
+returns-then-len-lt-MOST_PLACES c = search (arith, rules, length-insert, insert_in, filled_longer)
 
-pub returns : goal.returns
-returns c =
-    search (arith, rules, get_or_read, insert_in, split_in, filled_split, c.insert-2.ensures)
+halves : (c : After-split) → IsHalved c.args.blocks.now.blocks c.split.new.self.blocks c.spot_of-spot.result.block
+    c.args.place c.spot_of-spot.result.within
+halves c =
+    halves_are _ _ _ _ c.spot_of-spot.ensures (search (arith, rules)) c.requires.can.filled _ c.split.ensures.blocks
+
+pub put-requires-then-spot-lt-HALF_PLACES : goal.put-requires-then-spot-lt-HALF_PLACES
+put-requires-then-spot-lt-HALF_PLACES c =
+    search (arith, rules, halves (goal.at.put-requires-then-spot-lt-HALF_PLACES c).After-split)
+
+pub overflow_add-spot : goal.overflow_add-spot
+overflow_add-spot c = search (arith, rules, few_blocks)
+
+pub put-requires-else-spot-lt-HALF_PLACES : goal.put-requires-else-spot-lt-HALF_PLACES
+put-requires-else-spot-lt-HALF_PLACES c =
+    search (arith, rules, halves (goal.at.put-requires-else-spot-lt-HALF_PLACES c).After-split)
+
+pub returns-then-spot-lt-HALF_PLACES : goal.returns-then-spot-lt-HALF_PLACES
+returns-then-spot-lt-HALF_PLACES c =
+    let halves = halves (goal.at.returns-then-spot-lt-HALF_PLACES c).After-split in
+    rw c.put-then-spot-lt-HALF_PLACES.ensures.blocks
+    (search (arith, rules, halves, filled_longer, length-insert))
+
+pub returns-else-spot-lt-HALF_PLACES : goal.returns-else-spot-lt-HALF_PLACES
+returns-else-spot-lt-HALF_PLACES c =
+    let halves = halves (goal.at.returns-else-spot-lt-HALF_PLACES c).After-split in
+    rw c.put-else-spot-lt-HALF_PLACES.ensures.blocks
+    (search (arith, rules, halves, filled_longer, length-insert))

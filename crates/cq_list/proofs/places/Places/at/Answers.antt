@@ -9,6 +9,6 @@ returns-then-place-len c = search (arith, rules, shown_front)
 pub returns : goal.returns
 returns c =
     let seen = ap (λ (v : PlacesView). slice_get v.outputs c.args.place) c.self.view_is in
-    let at : slice_get (concat c.self.inside.others.items) (c.args.place - c.len-len.result) ≡ Some c.at-2.result =
+    let at : slice_get (concat c.self.inside.others.blocks) (c.args.place - c.len-len.result) ≡ Some c.at-3.result =
     search (arith, rules, shown_in, get_or_read) in
     search (arith, rules, seen, at, shown_later)

@@ -1,5 +1,0 @@
-use Rattle.cq_list.proofs.Terms.{◌≡◌, ◌+◌, take, length, concat}
-use Rattle.cq_list.proofs.places.spot_from_start.Given as goal
-
-abbrev pub invariant-each : goal.invariant-each
-invariant-each l = length (concat (take l.block l.blocks.items)) + l.within ≡ l.place

@@ -1,0 +1,238 @@
+//! The blocks of a list behind the first, with the sum of each run of 32 of them.
+ghost use Rattle.std.specs.Prelude.{◌≡◌, ℕ, ◌+◌, ◌<◌, ◌≤◌, ◌^◌, ◌++◌, [], Some, take, drop, IfOk, length, insert, remove, slice_get, slice_set, slice_index_or, ◌*◌, vec_capacity};
+ghost use Rattle.std.specs.List.{concat};
+ghost use Rattle.cq_base.specs.Limits.{most_ports};
+ghost use Rattle.cq_list.specs.Block.{half_places, most_places};
+ghost use Rattle.cq_list.specs.Sums.{AreSums, ArePassing, AreTaking, AreTaken, run_blocks};
+
+use crate::block::Block;
+use crate::sum::Sum;
+use cq_base::{NoMemory, Port};
+use std::alloc::Global;
+use std::collections::VecDeque;
+use std::marker::Model;
+
+/// The blocks of a run.
+pub const RUN_BLOCKS: usize = 32;
+
+/// Blocks in order, with the sum of each run of 32. Contracts see the places of each block, and for how many blocks
+/// there is memory.
+///
+/// A block that comes or goes moves those on its shorter side, and one block from run to run behind it.
+#[derive(Drop)]
+pub struct SummedBlocks {
+    blocks: VecDeque<Block>,
+    sums: Vec<Sum>,
+    places: usize,
+}
+
+impl Model for SummedBlocks {
+    ghost use Rattle.std.specs.Prelude.{◌*◌, min, vec_capacity};
+    ghost use Rattle.std.specs.VecDeque.{deque_capacity};
+    ghost use Rattle.cq_list.specs.Sums.{BlocksView, AreSummed, run_blocks};
+
+    ghost Value = { BlocksView };
+
+    ghost view = { λ b. record {
+      blocks = b.blocks.items;
+      capacity = min (deque_capacity b.blocks) (run_blocks * vec_capacity b.sums);
+    } };
+
+    ghost invariant = { λ b. AreSummed b.blocks.items b.sums.items b.places };
+}
+
+impl SummedBlocks {
+    /// No block, and memory for so many. The error is want of memory.
+    pub fn new(alloc: Global, capacity: usize) -> Result<SummedBlocks, NoMemory>
+        ensures blocks { IfOk result (λ blocks. blocks.blocks ≡ []) }
+        ensures capacity { IfOk result (λ blocks. capacity ≤ blocks.capacity) }
+    {
+        Ok(SummedBlocks {
+            blocks: VecDeque::with_capacity(alloc, capacity)?,
+            sums: Vec::with_capacity(alloc, capacity / RUN_BLOCKS + 1)?,
+            places: 0,
+        })
+    }
+
+    /// How many blocks there are.
+    pub fn len(&self) -> usize
+        ensures { result ≡ length self.now.blocks }
+    {
+        self.blocks.len()
+    }
+
+    /// How many places they have.
+    pub fn places(&self) -> usize
+        ensures { result ≡ length (concat self.now.blocks) }
+    {
+        self.places
+    }
+
+    /// The sums of the runs, in order.
+    pub fn sums(&self) -> &[Sum]
+        ensures { AreSums self.now.blocks result.now }
+    {
+        self.sums.as_slice()
+    }
+
+    /// A block.
+    pub fn at(&self, block: usize) -> &Block
+        requires { block < length self.now.blocks }
+        ensures { result.now ≡ slice_index_or self.now.blocks block [] }
+    {
+        &self.blocks[block]
+    }
+
+    /// The blocks in order.
+    pub fn in_order(&self) -> &VecDeque<Block>
+        ensures { result.now.items ≡ self.now.blocks }
+    {
+        &self.blocks
+    }
+
+    /// Puts a place of an output into a block.
+    pub fn put(&mut self, block: usize, within: usize, output: Port)
+        requires inside { block < length self.old.blocks }
+        requires within { within ≤ length (slice_index_or self.old.blocks block []) }
+        requires room { length (slice_index_or self.old.blocks block []) < most_places }
+        requires in_range { output < most_ports }
+        requires fits { length (concat self.old.blocks) + 1 < 2 ^ 64 }
+        ensures blocks { self.new.blocks ≡ slice_set self.old.blocks block
+            (insert (slice_index_or self.old.blocks block []) within output) }
+        ensures capacity { self.new.capacity ≡ self.old.capacity }
+    {
+        self.places += 1;
+        self.sums[block / RUN_BLOCKS].put(output);
+        self.blocks[block].insert(within, output);
+    }
+
+    /// Takes a place out of a block, and answers its output.
+    pub fn take(&mut self, block: usize, within: usize) -> Port
+        requires inside { block < length self.old.blocks }
+        requires within { within < length (slice_index_or self.old.blocks block []) }
+        ensures output { slice_get (slice_index_or self.old.blocks block []) within ≡ Some result }
+        ensures in_range { result < most_ports }
+        ensures blocks { self.new.blocks ≡ slice_set self.old.blocks block
+            (remove (slice_index_or self.old.blocks block []) within) }
+        ensures capacity { self.new.capacity ≡ self.old.capacity }
+    {
+        let output = self.blocks[block].remove(within);
+        self.sums[block / RUN_BLOCKS].take(output);
+        self.places -= 1;
+        output
+    }
+
+    /// Puts places behind those of a block.
+    pub fn append(&mut self, block: usize, more: &Block)
+        requires inside { block < length self.old.blocks }
+        requires room { length (slice_index_or self.old.blocks block []) + length more.now ≤ most_places }
+        requires fits { length (concat self.old.blocks) + length more.now < 2 ^ 64 }
+        ensures blocks { self.new.blocks ≡ slice_set self.old.blocks block
+            (slice_index_or self.old.blocks block [] ++ more.now) }
+        ensures capacity { self.new.capacity ≡ self.old.capacity }
+    {
+        self.places += more.len();
+        self.sums[block / RUN_BLOCKS].add(more);
+        self.blocks[block].append(more);
+    }
+
+    /// Splits a full block in two.
+    pub fn split(&mut self, block: usize)
+        requires inside { block < length self.old.blocks }
+        requires full { length (slice_index_or self.old.blocks block []) ≡ most_places }
+        requires memory { length self.old.blocks < self.old.capacity }
+        ensures blocks { self.new.blocks ≡ insert
+            (slice_set self.old.blocks block (take half_places (slice_index_or self.old.blocks block [])))
+            (block + 1) (drop half_places (slice_index_or self.old.blocks block [])) }
+        ensures capacity { self.old.capacity ≤ self.new.capacity }
+    {
+        let back = self.blocks[block].split_off();
+        self.places -= back.len();
+        self.sums[block / RUN_BLOCKS].subtract(&back);
+        self.insert(block + 1, back);
+    }
+
+    /// Puts a block in.
+    pub fn insert(&mut self, place: usize, block: Block)
+        requires inside { place ≤ length self.old.blocks }
+        requires memory { length self.old.blocks < self.old.capacity }
+        requires fits { length (concat self.old.blocks) + length block < 2 ^ 64 }
+        ensures blocks { self.new.blocks ≡ insert self.old.blocks place block }
+        ensures capacity { self.old.capacity ≤ self.new.capacity }
+    {
+        self.places += block.len();
+        open_run(&mut self.sums, &self.blocks);
+        let run = place / RUN_BLOCKS;
+        self.sums[run].add(&block);
+        self.blocks.insert(place, block).unwrap();
+        pass_on(&mut self.sums, &self.blocks, run);
+    }
+
+    /// Takes a block out.
+    pub fn remove(&mut self, place: usize) -> Block
+        requires { place < length self.old.blocks }
+        ensures block { result ≡ slice_index_or self.old.blocks place [] }
+        ensures blocks { self.new.blocks ≡ remove self.old.blocks place }
+        ensures capacity { self.new.capacity ≡ self.old.capacity }
+    {
+        let gone = self.blocks.remove(place).unwrap();
+        self.places -= gone.len();
+        let run = place / RUN_BLOCKS;
+        self.sums[run].subtract(&gone);
+        take_on(&mut self.sums, &self.blocks, run);
+        close_run(&mut self.sums, &self.blocks);
+        gone
+    }
+}
+
+// A run for one block more: where each is full, one of no block.
+fn open_run(sums: &mut Vec<Sum>, blocks: &VecDeque<Block>)
+    requires sums { AreSums blocks.now.items sums.old.items }
+    requires memory { length blocks.now.items < run_blocks * vec_capacity sums.old }
+    ensures sums { AreTaken blocks.now.items sums.new.items }
+    ensures open { length blocks.now.items < run_blocks * length sums.new.items }
+    ensures capacity { vec_capacity sums.new ≡ vec_capacity sums.old }
+{
+    if blocks.len() == RUN_BLOCKS * sums.len() {
+        sums.push_reserved(Sum::none());
+    }
+}
+
+// A last run of no block goes.
+fn close_run(sums: &mut Vec<Sum>, blocks: &VecDeque<Block>)
+    requires { AreTaken blocks.now.items sums.old.items }
+    ensures sums { AreSums blocks.now.items sums.new.items }
+    ensures capacity { vec_capacity sums.new ≡ vec_capacity sums.old }
+{
+    if blocks.len() + RUN_BLOCKS <= RUN_BLOCKS * sums.len() {
+        sums.pop();
+    }
+}
+
+// A block that came is one too many in its run: each run behind it gets the last block of the one ahead of it.
+fn pass_on(sums: &mut Vec<Sum>, blocks: &VecDeque<Block>, run: usize)
+    requires passing { ArePassing blocks.now.items sums.old.items run }
+    requires fits { length (concat blocks.now.items) < 2 ^ 64 }
+    ensures sums { AreSums blocks.now.items sums.new.items }
+    ensures capacity { vec_capacity sums.new ≡ vec_capacity sums.old }
+{
+    'runs: for next in run + 1..sums.len() {
+        let first = &blocks[next * RUN_BLOCKS];
+        sums[next - 1].subtract(first);
+        sums[next].add(first);
+    }
+}
+
+// A block that went is missing in its run: each run behind it gives its first block to the one ahead of it.
+fn take_on(sums: &mut Vec<Sum>, blocks: &VecDeque<Block>, run: usize)
+    requires taking { AreTaking blocks.now.items sums.old.items run }
+    requires fits { length (concat blocks.now.items) < 2 ^ 64 }
+    ensures sums { AreTaken blocks.now.items sums.new.items }
+    ensures capacity { vec_capacity sums.new ≡ vec_capacity sums.old }
+{
+    'runs: for next in run + 1..sums.len() {
+        let last = &blocks[next * RUN_BLOCKS - 1];
+        sums[next - 1].add(last);
+        sums[next].subtract(last);
+    }
+}
