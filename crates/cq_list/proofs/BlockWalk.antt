@@ -1,9 +1,11 @@
--- A walk along the blocks from the first of a run on, and over the sums of runs from both ends. What stands ahead of the
--- block behind a block is what stands ahead of it, and its own: what is counted grows by a block's numbers, or a sum's.
-use Rattle.cq_list.specs.Sums.{AreSums, IsBetween, SumView, own_in, run_blocks}
-use Rattle.cq_list.proofs.Terms.{take-append-add, rules, ◌≡◌, ℕ, ◌+◌, ◌-◌, ◌*◌, ◌<◌, ◌≤◌, Bool, List, [], ◌++◌, length, get_or, take, drop, ap, arith, length-append, take-append-drop, common_steps, filter, concat, take-append-le, drop_more, take_more, append-nil, filter-append, concat-append, place_of_nth, is_output, count_of, most_ports, IsSpot, IsAhead, few_kept}
+-- A walk along the blocks from the first of a run on, and over the sums of runs from both ends. What stands ahead of
+-- the block behind a block is what stands ahead of it, and its own: what is counted grows by a block's numbers, or a
+-- sum's.
+use Rattle.cq_list.specs.Sums.{AreSums, SumView, own_in, run_blocks}
+use Rattle.cq_list.proofs.Terms.{take-append-add, rules, ◌≡◌, ℕ, ◌+◌, ◌-◌, ◌*◌, ◌<◌, ◌≤◌, Bool, List, [], ◌++◌, length, get_or, take, drop, arith, length-append, take-append-drop, common_steps, filter, concat, take-append-le, drop_more, append-nil, filter-append, concat-append, place_of_nth, is_output, count_of, most_ports, IsSpot, IsAhead}
 use Rattle.cq_list.proofs.Nth.{nth_inside, nth_in_front, nth_behind}
-use Rattle.cq_list.proofs.Blocks.{ahead_more, whole_is}
+use Rattle.cq_list.proofs.Sums.{ahead_next, all_ahead, count_added, length_added}
+use Rattle.cq_list.proofs.Runs.{read_sum}
 
 pub nth_end : {X : Type 0} (p : X → Bool) (k : ℕ) (xs : List X) → k ≡ length (filter p xs) →
     place_of_nth p k xs ≡ length xs
@@ -15,8 +17,7 @@ take_past xs ys n past = grind (arith, common_steps, take-append-add xs ys (n - 
 -- what stands ahead of a block is no more than all
 pub ahead_fits : {blocks : List (List ℕ)} {j i places own : ℕ} → IsAhead blocks j i places own →
     (places ≤ length (concat blocks)) × (own ≤ length (concat blocks))
-ahead_fits {blocks} {j} {i} ahead =
-    grind (arith, common_steps, few_kept (is_output j) (concat (take i blocks)), whole_is blocks i)
+ahead_fits {j = j} ahead = search (rules, all_ahead length length_added, all_ahead (count_of j) (count_added j))
 
 module _ (blocks : List (List ℕ)) (i : ℕ) {block : List ℕ} (inside : i < length blocks)
     (block_is : block ≡ get_or blocks i []) where
@@ -24,18 +25,10 @@ module _ (blocks : List (List ℕ)) (i : ℕ) {block : List ℕ} (inside : i < l
   parts_are = rw block_is
       (cc (take-append-drop i blocks, concat-append (take i blocks) (drop i blocks), drop_more blocks i [] inside))
 
-  pub ahead_next : length (concat (take i blocks)) + length block ≡ length (concat (take (i + 1) blocks))
-  ahead_next = let more = ahead_more blocks i inside in let same = ap length block_is in omega arith
-
-  pub count_next : (j : ℕ) →
-      count_of j (concat (take i blocks)) + count_of j block ≡ count_of j (concat (take (i + 1) blocks))
-  count_next j =
-      grind (arith, common_steps, take_more, concat-append, filter-append, length-append, append-nil, block_is)
-
   -- what stands ahead of the block behind it
   pub ahead_on : {j places own : ℕ} → IsAhead blocks j i places own →
       IsAhead blocks j (i + 1) (places + length block) (own + count_of j block)
-  ahead_on ahead = search (arith, rules, ahead_next, count_next)
+  ahead_on {j} ahead = search (arith, rules, ahead_next length length_added, ahead_next (count_of j) (count_added j))
 
   pub block_fits : {j places own : ℕ} → IsAhead blocks j i places own →
       (places + length block ≤ length (concat blocks)) × (own + count_of j block ≤ length (concat blocks))
@@ -58,10 +51,7 @@ module _ (blocks : List (List ℕ)) (i : ℕ) {block : List ℕ} (inside : i < l
 
 module _ (blocks : List (List ℕ)) (sums : List SumView) (had : AreSums blocks sums) (run : ℕ) {sum : SumView}
     (inside : run < length sums) (read : sum ≡ get_or sums run sum) {j : ℕ} (known : j < most_ports) where
-  between : IsBetween blocks (run_blocks * run) (run_blocks * (run + 1)) sum
-  between = rw read (had.each run sum inside)
-
   -- what stands ahead of the run behind it
   pub run_on : {places own : ℕ} → IsAhead blocks j (run_blocks * run) places own →
       IsAhead blocks j (run_blocks * (run + 1)) (places + sum.places) (own + own_in sum j)
-  run_on ahead = let more = between.places in let count = between.counts j known in grind (arith, common_steps)
+  run_on ahead = let own = read_sum had inside read in let count = own.counts j known in search (arith, rules, own)

@@ -1,15 +1,6 @@
 -- Places in blocks: what is done to one block is done to the places where it stands, behind those of the blocks ahead.
-use Rattle.cq_list.proofs.Terms.{common_steps, rules, ◌≡◌, ℕ, zero, suc, ◌+◌, ◌-◌, ◌<◌, ◌≤◌, List, [], ◌∷◌, ◌++◌, length, get_or, set, take, drop, Some, arith, length-append, length-set, length-take, get_or-set_same, take-append-drop, append_assoc, insert, remove, slice_get, concat, take_more, take_all, take-set, take-set-le, take-take, take-append-le, concat-append, length-remove, insert_end, insert-append_left, insert-append_right, remove-append_left, remove-append_right, IsSpot, joined, pulled, slice_get_cases}
-
--- ## Block by block
-
-pub ahead_more : (blocks : List (List ℕ)) (i : ℕ) → i < length blocks →
-    length (concat (take (i + 1) blocks)) ≡ length (concat (take i blocks)) + length (get_or blocks i [])
-ahead_more blocks i inside = grind (arith, common_steps, take_more, concat-append, length-append)
-
-pub whole_is : (blocks : List (List ℕ)) (i : ℕ) →
-    length (concat blocks) ≡ length (concat (take i blocks)) + length (concat (drop i blocks))
-whole_is blocks i = grind (arith, common_steps, concat-append (take i blocks), take-append-drop i blocks, length-append)
+use Rattle.cq_list.proofs.Terms.{common_steps, rules, ◌≡◌, ℕ, zero, suc, ◌+◌, ◌-◌, ◌<◌, ◌≤◌, List, [], ◌∷◌, ◌++◌, length, get_or, set, take, Some, arith, length-append, length-set, length-take, get_or-set_same, take-append-drop, append_assoc, insert, remove, slice_get, concat, take_all, take-set, take-set-le, take-take, take-append-le, concat-append, length-remove, insert_end, insert-append_left, insert-append_right, remove-append_left, remove-append_right, IsSpot, joined, pulled, slice_get_cases}
+use Rattle.cq_list.proofs.Sums.{ahead_next, length_added}
 
 -- ## One block
 
@@ -53,7 +44,7 @@ split_in (b ∷ bs) (suc i) front back inside parts = grind (arith, common_steps
 pub append_in : (blocks : List (List ℕ)) (i y : ℕ) (block : List ℕ) → i + 1 ≡ length blocks →
     block ≡ get_or blocks i [] → concat (set blocks i (insert block (length block) y)) ≡ insert (concat blocks)
     (length (concat blocks)) y
-append_in blocks i y block last read = grind (arith, common_steps, take_all, ahead_more, insert_in)
+append_in blocks i y block last read = grind (arith, common_steps, take_all, ahead_next length length_added, insert_in)
 
 pub push_in : (blocks : List (List ℕ)) (y : ℕ) (block : List ℕ) → block ≡ insert [] 0 y →
     concat (blocks ++ block ∷ []) ≡ insert (concat blocks) (length (concat blocks)) y

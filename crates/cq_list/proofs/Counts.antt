@@ -1,17 +1,9 @@
 -- The counts of a block, where a place is put in or taken out: the count of its output changes by one, and the others
--- stay. A place that is taken out can be put back, so the one follows from the other.
-use Rattle.cq_list.proofs.Terms.{all_at, common_steps, rules, ◌≡◌, ℕ, ◌+◌, ◌-◌, ◌<◌, ◌≤◌, List, [], ◌∷◌, ◌++◌, length, replicate, get_or, set, refl, arith, length-set, length-append, get_or-set_same, get_or-set_other, Some, insert, remove, slice_get, slice_get-get_or, AllByRecursion, eq-eqb, ne_eqb, cases_eq, get_or-replicate, length-replicate, length-insert, is_output, count_of, most_ports, most_places, get_or_from_slice_get, take_more, take_all, append_assoc, few_kept}
+-- stay, since counts are added up along places.
+use Rattle.cq_list.proofs.Terms.{all_at, common_steps, rules, ◌≡◌, ℕ, ◌+◌, ◌-◌, ◌<◌, ◌≤◌, List, [], ◌∷◌, ◌++◌, length, replicate, get_or, set, refl, arith, length-set, get_or-set_same, get_or-set_other, Some, insert, remove, slice_get, slice_get-get_or, AllByRecursion, eq-eqb, ne_eqb, cases_eq, get_or-replicate, length-remove, count_of, most_ports, most_places, get_or_from_slice_get, take_more, take_all, append_assoc, few_kept}
 use Rattle.cq_list.specs.Block.{AreCounts}
 use Rattle.cq_list.proofs.Nth.{fails}
-use Rattle.cq_list.proofs.Split.{filter-insert, filter-insert-other, filter-parts}
-
-count_of-own : (xs : List ℕ) (i y j : ℕ) → y ≡ j → count_of j (insert xs i y) ≡ count_of j xs + 1
-count_of-own xs i y j own =
-    grind (arith, common_steps, filter-insert, eq-eqb y j own, filter-parts (is_output j) xs i, length-append)
-
-pub put_back : (xs : List ℕ) (i y : ℕ) → i < length xs → y ≡ get_or xs i y → insert (remove xs i) i y ≡ xs
-put_back [] i y inside read = absurd (omega arith)
-put_back (x ∷ xs) i y inside read = grind (arith, common_steps, put_back xs (i - 1) y)
+use Rattle.cq_list.proofs.Sums.{count_added, put_into, taken_from}
 
 all_remove : (P : ℕ → Type 0) (xs : List ℕ) (i : ℕ) → AllByRecursion P xs → AllByRecursion P (remove xs i)
 all_remove P xs i all = grind (arith, common_steps)
@@ -22,10 +14,10 @@ count_beyond [] j all beyond = refl
 count_beyond (x ∷ xs) j all beyond = grind (arith, common_steps, fails, ne_eqb, count_beyond xs j all.1 beyond)
 
 pub no_places : (places counts : List ℕ) → places ≡ [] → counts ≡ replicate most_ports 0 → AreCounts places counts
-no_places places counts none zeros = rw (none, zeros) (search (arith, rules, get_or-replicate, length-replicate))
+no_places places counts none zeros = rw (none, zeros) (search (arith, rules, get_or-replicate))
 
--- lists with a place set, and with one more
-ruleset set_steps = (get_or-set_same, get_or-set_other, length-insert, length-set)
+-- lists with a place set, and with one less
+ruleset set_steps = (get_or-set_same, get_or-set_other, length-remove, length-set)
 
 module _ (places counts : List ℕ) (had : AreCounts places counts) where
   pub count_fits : (j : ℕ) → j < most_ports → get_or counts j 0 ≤ most_places
@@ -33,21 +25,22 @@ module _ (places counts : List ℕ) (had : AreCounts places counts) where
 
   pub counts_insert : (i j : ℕ) → i ≤ length places → length places < most_places → j < most_ports →
       AreCounts (insert places i j) (set counts j (get_or counts j 0 + 1))
-  counts_insert i j inside room in_range = grind (arith, common_steps, count_of-own, filter-insert-other, ne_eqb)
+  counts_insert i j inside room in_range =
+      let put = λ (k : ℕ). put_into (count_of k) (count_added k) places i j in
+      grind (arith, common_steps, put, eq-eqb, ne_eqb)
 
   module _ (i j : ℕ) (inside : i < length places) (read : j ≡ get_or places i j) where
-    again : insert (remove places i) i j ≡ places
-    again = put_back places i j inside read
+    out : (k : ℕ) → count_of k (remove places i) + count_of k (j ∷ []) ≡ count_of k places
+    out k = taken_from (count_of k) (count_added k) places i j (search (rules, slice_get-get_or))
 
     pub in_range_at : j < most_ports
     in_range_at = grind (arith, common_steps, all_at, slice_get-get_or)
 
     pub count_some : 1 ≤ get_or counts j 0
-    count_some = grind (arith, common_steps, in_range_at, again, count_of-own)
+    count_some = grind (arith, common_steps, in_range_at, out j, eq-eqb)
 
     pub counts_remove : AreCounts (remove places i) (set counts j (get_or counts j 0 - 1))
-    counts_remove = search
-        (rules, set_steps, in_range_at, again, count_of-own, filter-insert-other, ne_eqb, cases_eq, all_remove)
+    counts_remove = search (arith, rules, set_steps, in_range_at, out, eq-eqb, ne_eqb, cases_eq, all_remove)
 
 -- ## The last place goes over to the front of another block
 

@@ -16,5 +16,5 @@ pub mod Split
 pub mod Told
 pub mod Walk
 pub mod Sums
-pub mod Runs_rc
-pub mod Runs_ra
+pub mod Runs
+pub mod Halved

@@ -1,5 +1,5 @@
 -- The blocks of a list behind the first, and the sums of their runs of 32.
-use Rattle.std.specs.Prelude.{◌≡◌, ℕ, ◌+◌, ◌-◌, ◌*◌, ◌<◌, ◌≤◌, List, length, take, slice_index, slice_index_or}
+use Rattle.std.specs.Prelude.{◌≡◌, ℕ, ◌+◌, ◌-◌, ◌*◌, ◌<◌, ◌≤◌, ◌^◌, List, [], length, min, take, slice_index, slice_index_or}
 use Rattle.std.specs.List.{concat}
 use Rattle.cq_base.specs.Limits.{most_ports}
 use Rattle.cq_list.specs.Split.{count_of}
@@ -17,17 +17,28 @@ pub record SumView : Type 0 where
 abbrev pub own_in : SumView → ℕ → ℕ
 own_in s j = slice_index s.counts j
 
--- the later sum has these places more
-pub record HasMore (old new : SumView) (more : List ℕ) : Type 0 where
-  pub places : new.places ≡ old.places + length more
-  pub counts : (j : ℕ) → j < most_ports → own_in new j ≡ own_in old j + count_of j more
-  pub each : length new.counts ≡ length old.counts
-
--- a sum with the places of one block in place of those of another
-pub record IsExchanged (old new : List ℕ) (before after : SumView) : Type 0 where
-  pub places : after.places + length old ≡ before.places + length new
-  pub counts : (j : ℕ) → j < most_ports → own_in after j + count_of j old ≡ own_in before j + count_of j new
+-- a sum with some places in place of others
+pub record IsExchanged (gone new : List ℕ) (before after : SumView) : Type 0 where
+  pub places : after.places + length gone ≡ before.places + length new
+  pub counts : (j : ℕ) → j < most_ports → own_in after j + count_of j gone ≡ own_in before j + count_of j new
   pub each : length after.counts ≡ length before.counts
+
+-- the later sum has these places more, or less
+abbrev pub HasMore : SumView → SumView → List ℕ → Type 0
+HasMore before after more = IsExchanged [] more before after
+
+abbrev pub HasLess : SumView → SumView → List ℕ → Type 0
+HasLess before after less = IsExchanged less [] before after
+
+-- these places more still fit into the sum
+pub record HasRoom (s : SumView) (more : List ℕ) : Type 0 where
+  pub places : s.places + length more < 2 ^ 64
+  pub counts : (j : ℕ) → j < most_ports → own_in s j + count_of j more < 2 ^ 64
+
+-- these places are among those of the sum
+pub record HasThese (s : SumView) (some : List ℕ) : Type 0 where
+  pub places : length some ≤ s.places
+  pub counts : (j : ℕ) → j < most_ports → count_of j some ≤ own_in s j
 
 -- the blocks, and for how many there is memory
 pub record BlocksView : Type 0 where
@@ -41,48 +52,40 @@ pub record IsBetween (blocks : List (List ℕ)) (from to : ℕ) (s : SumView) : 
       count_of j (concat (take from blocks)) + own_in s j ≡ count_of j (concat (take to blocks))
   pub each : length s.counts ≡ most_ports
 
--- each run of blocks has its sum, and there is no sum more
-pub record AreSums (blocks : List (List ℕ)) (sums : List SumView) : Type 0 where
-  pub enough : length blocks ≤ run_blocks * length sums
-  pub few : run_blocks * length sums < length blocks + run_blocks
+-- each run has its sum, that of the blocks from where it begins up to where the next one does, and there are as many
+-- runs as so many blocks need
+pub record AreRuns (blocks : List (List ℕ)) (sums : List SumView) (begins : ℕ → ℕ) (count : ℕ) : Type 0 where
+  pub enough : count ≤ run_blocks * length sums
+  pub few : run_blocks * length sums < count + run_blocks
   pub each : (r : ℕ) (none : SumView) → r < length sums →
-      IsBetween blocks (run_blocks * r) (run_blocks * (r + 1)) (slice_index_or sums r none)
+      IsBetween blocks (begins r) (begins (r + 1)) (slice_index_or sums r none)
 
--- each run of blocks has its sum, and all of them have so many places
-pub record AreSummed (blocks : List (List ℕ)) (sums : List SumView) (places : ℕ) : Type 0 where
+-- the runs of the blocks
+abbrev pub AreSums : List (List ℕ) → List SumView → Type 0
+AreSums blocks sums = AreRuns blocks sums (λ r. run_blocks * r) (length blocks)
+
+-- as many runs as one block more needs, so that the last may have no block
+abbrev pub AreOpen : List (List ℕ) → List SumView → Type 0
+AreOpen blocks sums = AreRuns blocks sums (λ r. run_blocks * r) (length blocks + 1)
+
+-- a block came: the runs ahead of one are right, and those from it on begin a block too late
+abbrev pub late_from : ℕ → ℕ → ℕ
+late_from next r = run_blocks * r + min 1 (r + 1 - next)
+
+abbrev pub ArePassing : List (List ℕ) → List SumView → ℕ → Type 0
+ArePassing blocks sums next = AreRuns blocks sums (late_from next) (length blocks)
+
+-- a block went: the runs ahead of one are right, and those from it on begin a block too early
+abbrev pub early_from : ℕ → ℕ → ℕ
+early_from next r = run_blocks * r - min 1 (r + 1 - next)
+
+abbrev pub AreTaking : List (List ℕ) → List SumView → ℕ → Type 0
+AreTaking blocks sums next = AreRuns blocks sums (early_from next) (length blocks + 1)
+
+-- the runs of the blocks have their sums, and there are no more places than can be counted
+pub record AreSummed (blocks : List (List ℕ)) (sums : List SumView) : Type 0 where
   pub runs : AreSums blocks sums
-  pub all : places ≡ length (concat blocks)
-
--- a block came in this run: it has one too many, and each run behind it begins a block too early
-pub record ArePassing (blocks : List (List ℕ)) (sums : List SumView) (run : ℕ) : Type 0 where
-  pub enough : length blocks ≤ run_blocks * length sums
-  pub few : run_blocks * length sums < length blocks + run_blocks
-  pub inside : run < length sums
-  pub ahead : (r : ℕ) (none : SumView) → r < run →
-      IsBetween blocks (run_blocks * r) (run_blocks * (r + 1)) (slice_index_or sums r none)
-  pub here : (none : SumView) →
-      IsBetween blocks (run_blocks * run) (run_blocks * (run + 1) + 1) (slice_index_or sums run none)
-  pub behind : (r : ℕ) (none : SumView) → run < r → r < length sums →
-      IsBetween blocks (run_blocks * r + 1) (run_blocks * (r + 1) + 1) (slice_index_or sums r none)
-
--- each run but the last has its sum, which may be one of no block
-pub record AreTaken (blocks : List (List ℕ)) (sums : List SumView) : Type 0 where
-  pub enough : length blocks ≤ run_blocks * length sums
-  pub few : run_blocks * length sums ≤ length blocks + run_blocks
-  pub each : (r : ℕ) (none : SumView) → r < length sums →
-      IsBetween blocks (run_blocks * r) (run_blocks * (r + 1)) (slice_index_or sums r none)
-
--- a block went from this run: it has one too few, and each run behind it begins a block too late
-pub record AreTaking (blocks : List (List ℕ)) (sums : List SumView) (run : ℕ) : Type 0 where
-  pub enough : length blocks < run_blocks * length sums
-  pub few : run_blocks * length sums ≤ length blocks + run_blocks
-  pub inside : run < length sums
-  pub ahead : (r : ℕ) (none : SumView) → r < run →
-      IsBetween blocks (run_blocks * r) (run_blocks * (r + 1)) (slice_index_or sums r none)
-  pub here : (none : SumView) →
-      IsBetween blocks (run_blocks * run) (run_blocks * run + 31) (slice_index_or sums run none)
-  pub behind : (r : ℕ) (none : SumView) → run < r → r < length sums →
-      IsBetween blocks (run_blocks * r - 1) (run_blocks * r + 31) (slice_index_or sums r none)
+  pub fits : length (concat blocks) < 2 ^ 64
 
 -- the run of a place, and how many places stand ahead of this run
 pub record IsStart (blocks : List (List ℕ)) (place run ahead : ℕ) : Type 0 where

@@ -3,7 +3,7 @@ ghost use Rattle.std.specs.Prelude.{◌≡◌, ℕ, ◌+◌, ◌-◌, ◌*◌, �
 ghost use Rattle.std.specs.List.{position_or_len, concat};
 ghost use Rattle.cq_base.specs.Limits.{most_ports};
 ghost use Rattle.cq_list.specs.Split.{is_output, place_of_nth, count_of};
-ghost use Rattle.cq_list.specs.Places.{CanGrow, HasGrown, IsSpot, IsAhead, AreFilled, IsFilledUp, joined, least_places, pulled};
+ghost use Rattle.cq_list.specs.Places.{CanGrow, HasGrown, HaveMemory, IsSpot, IsAhead, AreFilled, IsFilledUp, joined, least_places, pulled};
 ghost use Rattle.cq_list.specs.Block.{most_places};
 ghost use Rattle.cq_list.specs.Sums.{IsStart, own_in, run_blocks};
 
@@ -29,8 +29,8 @@ const LEAST_PLACES: usize = 16;
 /// A place is found by the blocks' lengths and an output's by their counts: in the first block, or in the others by the
 /// sums of their runs from the nearer end, and then in one run block by block, but for `count_ahead`, which goes along
 /// all blocks from the start: a call reads two numbers of each run and block that it passes, and searches one block. So
-/// what stands near the start or the end is found at once, and what stands in the middle of 50,000 places behind some 12
-/// runs of full blocks and 32 blocks at most.
+/// what stands near the start or the end is found at once, and what stands in the middle of 50,000 places behind some
+/// 12 runs of full blocks and 32 blocks at most.
 #[derive(Drop)]
 pub struct Places {
     first: Block,
@@ -354,7 +354,32 @@ fn append(blocks: &mut SummedBlocks, output: Port)
     }
 }
 
-// A place ahead of another one. A full block is split in two.
+// Where a place stands once its block has room for one more: a full block is split in two.
+fn spot_with_room(blocks: &mut SummedBlocks, _place: usize, spot: Spot) -> Spot
+    requires filled { AreFilled blocks.old.blocks }
+    requires memory { HaveMemory (length (concat blocks.old.blocks)) blocks.old.capacity }
+    requires spot { IsSpot blocks.old.blocks _place spot.block spot.within }
+    ensures places { concat blocks.new.blocks ≡ concat blocks.old.blocks }
+    ensures filled { AreFilled blocks.new.blocks }
+    ensures spot { IsSpot blocks.new.blocks _place result.block result.within }
+    ensures room { length (slice_index_or blocks.new.blocks result.block []) < most_places }
+    ensures capacity { blocks.old.capacity ≤ blocks.new.capacity }
+{
+    let _count = blocks.len();
+    if blocks.at(spot.block).len() < MOST_PLACES {
+        return spot;
+    }
+    blocks.split(spot.block);
+    if spot.within < HALF_PLACES {
+        return spot;
+    }
+    Spot {
+        block: spot.block + 1,
+        within: spot.within - HALF_PLACES,
+    }
+}
+
+// A place ahead of another one.
 fn insert_inside(blocks: &mut SummedBlocks, place: usize, len: usize, output: Port)
     requires can { CanGrow blocks.old output }
     requires inside { place < len }
@@ -362,16 +387,8 @@ fn insert_inside(blocks: &mut SummedBlocks, place: usize, len: usize, output: Po
     ensures { HasGrown place output blocks.old blocks.new }
 {
     let spot = spot_of(blocks, place, len);
-    if blocks.at(spot.block).len() < MOST_PLACES {
-        blocks.put(spot.block, spot.within, output);
-        return;
-    }
-    blocks.split(spot.block);
-    if spot.within < HALF_PLACES {
-        blocks.put(spot.block, spot.within, output);
-    } else {
-        blocks.put(spot.block + 1, spot.within - HALF_PLACES, output);
-    }
+    let spot = spot_with_room(blocks, place, spot);
+    blocks.put(spot.block, spot.within, output);
 }
 
 // The places of the next block go over to the end of a block.
@@ -382,7 +399,6 @@ fn join_next(blocks: &mut SummedBlocks, at: usize)
     ensures joined { blocks.new.blocks ≡ joined blocks.old.blocks at }
     ensures capacity { blocks.new.capacity ≡ blocks.old.capacity }
 {
-    let _places = blocks.places();
     let _count = blocks.len();
     let next = blocks.remove(at + 1);
     blocks.append(at, &next);
@@ -396,7 +412,6 @@ fn pull_next(blocks: &mut SummedBlocks, at: usize)
     ensures pulled { blocks.new.blocks ≡ pulled blocks.old.blocks at }
     ensures capacity { blocks.new.capacity ≡ blocks.old.capacity }
 {
-    let _places = blocks.places();
     let _count = blocks.len();
     let output = blocks.take(at + 1, 0);
     blocks.put(at, blocks.at(at).len(), output);
@@ -410,7 +425,8 @@ fn fill_up(blocks: &mut SummedBlocks, at: usize)
     ensures filled { AreFilled blocks.new.blocks }
     ensures spot { (place within : ℕ) →
         IsSpot blocks.old.blocks place at within → IsSpot blocks.new.blocks place at within }
-    ensures longer { at + 1 < length blocks.new.blocks → least_places < length (slice_index_or blocks.new.blocks at []) }
+    ensures longer { at + 1 < length blocks.new.blocks →
+        least_places < length (slice_index_or blocks.new.blocks at []) }
     ensures capacity { blocks.new.capacity ≡ blocks.old.capacity }
 {
     let count = blocks.len();

@@ -1,8 +1,7 @@
 //! How many places some blocks have, and how many of them are each output's.
-ghost use Rattle.std.specs.Prelude.{◌≡◌, ℕ, ◌+◌, ◌<◌, ◌≤◌, ◌^◌, ◌∷◌, [], length, slice_index};
+ghost use Rattle.std.specs.Prelude.{◌≡◌, ℕ, ◌+◌, ◌<◌, ◌∷◌, [], length, slice_index};
 ghost use Rattle.cq_base.specs.Limits.{most_ports};
-ghost use Rattle.cq_list.specs.Split.{count_of};
-ghost use Rattle.cq_list.specs.Sums.{HasMore, own_in};
+ghost use Rattle.cq_list.specs.Sums.{HasLess, HasMore, HasRoom, HasThese, own_in};
 
 use crate::block::Block;
 use cq_base::{MOST_PORTS, Port};
@@ -56,8 +55,7 @@ impl Sum {
     /// A place of an output more.
     pub fn put(&mut self, output: Port)
         requires in_range { output < most_ports }
-        requires few { self.old.places + 1 < 2 ^ 64 }
-        requires own { own_in self.old output + 1 < 2 ^ 64 }
+        requires room { HasRoom self.old (output ∷ []) }
         ensures { HasMore self.old self.new (output ∷ []) }
     {
         self.places += 1;
@@ -67,9 +65,8 @@ impl Sum {
     /// A place of an output less.
     pub fn take(&mut self, output: Port)
         requires in_range { output < most_ports }
-        requires some { 0 < self.old.places }
-        requires own { 0 < own_in self.old output }
-        ensures { HasMore self.new self.old (output ∷ []) }
+        requires some { HasThese self.old (output ∷ []) }
+        ensures { HasLess self.old self.new (output ∷ []) }
     {
         self.places -= 1;
         self.counts[output as usize] -= 1;
@@ -77,8 +74,7 @@ impl Sum {
 
     /// The places of a block more.
     pub fn add(&mut self, block: &Block)
-        requires few { self.old.places + length block.now < 2 ^ 64 }
-        requires own { (j : ℕ) → j < most_ports → own_in self.old j + count_of j block.now < 2 ^ 64 }
+        requires { HasRoom self.old block.now }
         ensures { HasMore self.old self.new block.now }
     {
         self.places += block.len();
@@ -89,9 +85,8 @@ impl Sum {
 
     /// The places of a block less.
     pub fn subtract(&mut self, block: &Block)
-        requires few { length block.now ≤ self.old.places }
-        requires own { (j : ℕ) → j < most_ports → count_of j block.now ≤ own_in self.old j }
-        ensures { HasMore self.new self.old block.now }
+        requires { HasThese self.old block.now }
+        ensures { HasLess self.old self.new block.now }
     {
         self.places -= block.len();
         'outputs: for output in 0..MOST_PORTS {

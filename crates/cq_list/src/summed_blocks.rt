@@ -3,7 +3,7 @@ ghost use Rattle.std.specs.Prelude.{◌≡◌, ℕ, ◌+◌, ◌<◌, ◌≤◌,
 ghost use Rattle.std.specs.List.{concat};
 ghost use Rattle.cq_base.specs.Limits.{most_ports};
 ghost use Rattle.cq_list.specs.Block.{half_places, most_places};
-ghost use Rattle.cq_list.specs.Sums.{AreSums, ArePassing, AreTaking, AreTaken, run_blocks};
+ghost use Rattle.cq_list.specs.Sums.{AreOpen, ArePassing, AreSums, AreTaking, run_blocks};
 
 use crate::block::Block;
 use crate::sum::Sum;
@@ -23,7 +23,6 @@ pub const RUN_BLOCKS: usize = 32;
 pub struct SummedBlocks {
     blocks: VecDeque<Block>,
     sums: Vec<Sum>,
-    places: usize,
 }
 
 impl Model for SummedBlocks {
@@ -38,7 +37,7 @@ impl Model for SummedBlocks {
       capacity = min (deque_capacity b.blocks) (run_blocks * vec_capacity b.sums);
     } };
 
-    ghost invariant = { λ b. AreSummed b.blocks.items b.sums.items b.places };
+    ghost invariant = { λ b. AreSummed b.blocks.items b.sums.items };
 }
 
 impl SummedBlocks {
@@ -50,22 +49,15 @@ impl SummedBlocks {
         Ok(SummedBlocks {
             blocks: VecDeque::with_capacity(alloc, capacity)?,
             sums: Vec::with_capacity(alloc, capacity / RUN_BLOCKS + 1)?,
-            places: 0,
         })
     }
 
-    /// How many blocks there are.
+    /// How many blocks there are. They have no more places than can be counted.
     pub fn len(&self) -> usize
-        ensures { result ≡ length self.now.blocks }
+        ensures len { result ≡ length self.now.blocks }
+        ensures fits { length (concat self.now.blocks) < 2 ^ 64 }
     {
         self.blocks.len()
-    }
-
-    /// How many places they have.
-    pub fn places(&self) -> usize
-        ensures { result ≡ length (concat self.now.blocks) }
-    {
-        self.places
     }
 
     /// The sums of the runs, in order.
@@ -101,7 +93,6 @@ impl SummedBlocks {
             (insert (slice_index_or self.old.blocks block []) within output) }
         ensures capacity { self.new.capacity ≡ self.old.capacity }
     {
-        self.places += 1;
         self.sums[block / RUN_BLOCKS].put(output);
         self.blocks[block].insert(within, output);
     }
@@ -118,7 +109,6 @@ impl SummedBlocks {
     {
         let output = self.blocks[block].remove(within);
         self.sums[block / RUN_BLOCKS].take(output);
-        self.places -= 1;
         output
     }
 
@@ -131,7 +121,6 @@ impl SummedBlocks {
             (slice_index_or self.old.blocks block [] ++ more.now) }
         ensures capacity { self.new.capacity ≡ self.old.capacity }
     {
-        self.places += more.len();
         self.sums[block / RUN_BLOCKS].add(more);
         self.blocks[block].append(more);
     }
@@ -147,7 +136,6 @@ impl SummedBlocks {
         ensures capacity { self.old.capacity ≤ self.new.capacity }
     {
         let back = self.blocks[block].split_off();
-        self.places -= back.len();
         self.sums[block / RUN_BLOCKS].subtract(&back);
         self.insert(block + 1, back);
     }
@@ -160,7 +148,6 @@ impl SummedBlocks {
         ensures blocks { self.new.blocks ≡ insert self.old.blocks place block }
         ensures capacity { self.old.capacity ≤ self.new.capacity }
     {
-        self.places += block.len();
         open_run(&mut self.sums, &self.blocks);
         let run = place / RUN_BLOCKS;
         self.sums[run].add(&block);
@@ -176,7 +163,6 @@ impl SummedBlocks {
         ensures capacity { self.new.capacity ≡ self.old.capacity }
     {
         let gone = self.blocks.remove(place).unwrap();
-        self.places -= gone.len();
         let run = place / RUN_BLOCKS;
         self.sums[run].subtract(&gone);
         take_on(&mut self.sums, &self.blocks, run);
@@ -189,8 +175,7 @@ impl SummedBlocks {
 fn open_run(sums: &mut Vec<Sum>, blocks: &VecDeque<Block>)
     requires sums { AreSums blocks.now.items sums.old.items }
     requires memory { length blocks.now.items < run_blocks * vec_capacity sums.old }
-    ensures sums { AreTaken blocks.now.items sums.new.items }
-    ensures open { length blocks.now.items < run_blocks * length sums.new.items }
+    ensures sums { AreOpen blocks.now.items sums.new.items }
     ensures capacity { vec_capacity sums.new ≡ vec_capacity sums.old }
 {
     if blocks.len() == RUN_BLOCKS * sums.len() {
@@ -200,7 +185,7 @@ fn open_run(sums: &mut Vec<Sum>, blocks: &VecDeque<Block>)
 
 // A last run of no block goes.
 fn close_run(sums: &mut Vec<Sum>, blocks: &VecDeque<Block>)
-    requires { AreTaken blocks.now.items sums.old.items }
+    requires { AreOpen blocks.now.items sums.old.items }
     ensures sums { AreSums blocks.now.items sums.new.items }
     ensures capacity { vec_capacity sums.new ≡ vec_capacity sums.old }
 {
@@ -211,7 +196,8 @@ fn close_run(sums: &mut Vec<Sum>, blocks: &VecDeque<Block>)
 
 // A block that came is one too many in its run: each run behind it gets the last block of the one ahead of it.
 fn pass_on(sums: &mut Vec<Sum>, blocks: &VecDeque<Block>, run: usize)
-    requires passing { ArePassing blocks.now.items sums.old.items run }
+    requires inside { run < length sums.old.items }
+    requires passing { ArePassing blocks.now.items sums.old.items (run + 1) }
     requires fits { length (concat blocks.now.items) < 2 ^ 64 }
     ensures sums { AreSums blocks.now.items sums.new.items }
     ensures capacity { vec_capacity sums.new ≡ vec_capacity sums.old }
@@ -225,9 +211,10 @@ fn pass_on(sums: &mut Vec<Sum>, blocks: &VecDeque<Block>, run: usize)
 
 // A block that went is missing in its run: each run behind it gives its first block to the one ahead of it.
 fn take_on(sums: &mut Vec<Sum>, blocks: &VecDeque<Block>, run: usize)
-    requires taking { AreTaking blocks.now.items sums.old.items run }
+    requires inside { run < length sums.old.items }
+    requires taking { AreTaking blocks.now.items sums.old.items (run + 1) }
     requires fits { length (concat blocks.now.items) < 2 ^ 64 }
-    ensures sums { AreTaken blocks.now.items sums.new.items }
+    ensures sums { AreOpen blocks.now.items sums.new.items }
     ensures capacity { vec_capacity sums.new ≡ vec_capacity sums.old }
 {
     'runs: for next in run + 1..sums.len() {

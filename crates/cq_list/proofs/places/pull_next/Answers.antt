@@ -1,9 +1,11 @@
-use Rattle.cq_list.proofs.Terms.{rules, ap, ℕ, List, length, concat, ◌+◌, arith}
-use Rattle.cq_list.proofs.Runs_rc.{without_place}
+use Rattle.cq_list.proofs.Terms.{refl, [], length, ◌+◌, arith, get_or, drop, length-drop}
+use Rattle.cq_list.proofs.Sums.{block_set, length_added}
 use Rattle.cq_list.proofs.places.pull_next.Goals as goal
 
 pub put-requires-clause-fits : goal.put-requires-clause-fits
 put-requires-clause-fits c =
-    let less = without_place c.args.blocks.now.blocks (c.args.at + 1) 0 c.requires.inside c.requires.some in
-    let same = ap (λ (l : List (List ℕ)). length (concat l)) c.take-output.ensures.blocks in
-    search (arith, rules, less, same)
+    let next = get_or c.args.blocks.now.blocks (c.args.at + 1) [] in
+    let less = block_set c.args.blocks.now.blocks (c.args.at + 1) next c.requires.inside refl (drop 1 next) in
+    let all = less.all length length_added in
+    let fits = c.len-count.ensures.fits in
+    rw c.take-output.ensures.blocks (omega (arith, length-drop 1 next))

@@ -1,0 +1,274 @@
+-- The sums of runs of blocks. A sum is known by what stands ahead of the two blocks between which its blocks stand, so
+-- that what is said of places and of an output's places is shown once, of anything that is added up along places.
+-- Where blocks change in one run, its sum is exchanged, and the others stay. Then a block goes over at each border of
+-- two runs behind it: this border moves by one block, and the others stay.
+use Rattle.cq_list.specs.Sums.{AreRuns, ArePassing, AreOpen, AreSums, AreSummed, AreTaking, BlocksView, HasLess, HasMore, HasRoom, HasThese, IsBetween, IsExchanged, SumView, early_from, late_from, own_in, run_blocks}
+use Rattle.cq_list.proofs.Sums.{IsAdded, IsChanged, ahead, ahead_next, all_ahead, block_came, block_set, block_went, count_added, length_added, one_between}
+use Rattle.cq_list.proofs.Terms.{get_or_read, get_or-set_other, get_or-set_same, length-set, length-insert, length-remove, take_all, cases_eq, cases_lt, common_steps, rules, ◌≡◌, ◌≢◌, ℕ, ◌+◌, ◌-◌, ◌*◌, ◌/◌, ◌^◌, ◌⊎◌, ◌<◌, ◌≤◌, List, [], ◌++◌, length, get_or, set, take, drop, insert, remove, concat, refl, ap, ◌∙◌, arith, count_of, ⊎_elim}
+
+-- ## One sum
+
+module _ {old : List (List ℕ)} {from to : ℕ} {s : SumView} (had : IsBetween old from to s) where
+  between : {now : List (List ℕ)} {first last : ℕ} {t : SumView} {gone new : List ℕ} → IsExchanged gone new s t →
+      ((m : List ℕ → ℕ) → IsAdded m → (v w : ℕ) → w + m gone ≡ v + m new → ahead m old from + v ≡ ahead m old to →
+      ahead m now first + w ≡ ahead m now last) → IsBetween now first last t
+  between {t = t} changed moves = record {
+    places = moves length length_added s.places t.places changed.places had.places;
+    counts = λ j known.
+        moves (count_of j) (count_added j) (own_in s j) (own_in t j) (changed.counts j known) (had.counts j known);
+    each = changed.each ∙ had.each;
+  }
+
+  these : {some : List ℕ} → ((m : List ℕ → ℕ) → IsAdded m → ahead m old from + m some ≤ ahead m old to) →
+      HasThese s some
+  these inside = record {
+    places = omega (arith, inside length length_added);
+    counts = λ j known. omega (arith, inside (count_of j) (count_added j), had.counts j known);
+  }
+
+  -- where they are none of its blocks, and there are no more places than can be counted
+  room : {more : List ℕ} {all : ℕ} → all < 2 ^ 64 →
+      ((m : List ℕ → ℕ) → IsAdded m → ahead m old to + m more ≤ ahead m old from + all) → HasRoom s more
+  room fits apart = record {
+    places = omega (arith, apart length length_added);
+    counts = λ j known. omega (arith, apart (count_of j) (count_added j), had.counts j known);
+  }
+
+-- ## A sum that is exchanged
+
+same_sum : (s : SumView) → IsExchanged [] [] s s
+same_sum s = record { places = refl; counts = λ j known. refl; each = refl }
+
+exchanged : {s t : SumView} {gone new old now : List ℕ} → IsExchanged gone new s t →
+    ((m : List ℕ → ℕ) → IsAdded m → m now + m gone ≡ m old + m new) → IsExchanged old now s t
+exchanged had is = record {
+  places = omega (arith, is length length_added);
+  counts = λ j known. omega (arith, is (count_of j) (count_added j), had.counts j known);
+  each = had.each;
+}
+
+-- ## A run
+
+pub read_sum : {blocks : List (List ℕ)} {sums : List SumView} {begins : ℕ → ℕ} {count r : ℕ} {s : SumView} →
+    AreRuns blocks sums begins count → r < length sums → s ≡ get_or sums r s →
+    IsBetween blocks (begins r) (begins (r + 1)) s
+read_sum {r = r} {s} had inside read = rw read (had.each r s inside)
+
+module _ (blocks : List (List ℕ)) (i : ℕ) {block : List ℕ} (inside : i < length blocks)
+    (read : block ≡ get_or blocks i block) where
+  over : (m : List ℕ → ℕ) → IsAdded m → ahead m blocks (i + 1) ≡ ahead m blocks i + m block
+  over m added = ahead_next m added blocks i block inside (get_or_read blocks i block inside read [])
+
+module _ {blocks : List (List ℕ)} {sums : List SumView} {begins : ℕ → ℕ} {count : ℕ}
+    (had : AreRuns blocks sums begins count) (r : ℕ) (there : r < length sums) {s : SumView}
+    (first : s ≡ get_or sums r s) where
+  own : IsBetween blocks (begins r) (begins (r + 1)) s
+  own = read_sum had there first
+
+  pub has_room : {more : List ℕ} → length (concat blocks) + length more < 2 ^ 64 → HasRoom s more
+  has_room {more} fits =
+      room own fits (λ m added. omega (arith, all_ahead m added blocks (begins (r + 1)), added.few more))
+
+  -- it has each of its blocks, and room for the one ahead of it or behind it
+  module _ (i : ℕ) {block : List ℕ} (inside : i < length blocks) (read : block ≡ get_or blocks i block) where
+    pub gives : begins r ≤ i → i < begins (r + 1) → HasThese s block
+    gives early late = these own (λ m added. one_between m added blocks (begins r) i (begins (r + 1)) block early late
+        inside (get_or_read blocks i block inside read []))
+
+    pub takes : length (concat blocks) < 2 ^ 64 → (begins r ≡ i + 1) ⊎ (begins (r + 1) ≡ i) → HasRoom s block
+    takes fits beside = room own fits (λ m added.
+        let all = all_ahead m added blocks in
+        grind (arith, over blocks i inside read m added, all (begins (r + 1)), all (i + 1)))
+
+-- ## Blocks that change in one run
+
+-- p is a place in run `p / 32`: the borders of runs ahead of it stay, and those behind it move on by what came
+module _ {old now : List (List ℕ)} {p lost come : ℕ} {gone new : List ℕ} (begins : ℕ → ℕ)
+    (change : IsChanged p lost come gone new old now) (one : lost ≤ 1)
+    (low : (k : ℕ) → k ≤ p / 32 → begins k ≡ run_blocks * k)
+    (high : (k : ℕ) → p / 32 < k → begins k + lost ≡ run_blocks * k + come) where
+  edge : (m : List ℕ → ℕ) → IsAdded m → (k : ℕ) →
+      (k ≤ p / 32 → ahead m now (begins k) ≡ ahead m old (run_blocks * k))
+      × (p / 32 < k → ahead m now (begins k) + m gone ≡ ahead m old (run_blocks * k) + m new)
+  edge m added k = (
+    (λ le. rw (low k le) (change.before m added (run_blocks * k) (omega arith))),
+    (λ lt. change.behind m added (run_blocks * k) (begins k) (omega arith) (high k lt)),
+  )
+
+  runs_changed : {sums : List SumView} {count : ℕ} {s t : SumView} (most : ℕ) →
+      AreRuns old sums (λ r. run_blocks * r) count → p < count → s ≡ get_or sums (p / 32) s → IsExchanged gone new s t →
+      most ≤ run_blocks * length sums → run_blocks * length sums < most + run_blocks →
+      AreRuns now (set sums (p / 32) t) begins most
+  runs_changed {sums} {s = s} {t} most had inside first swap enough few =
+      let run : ℕ = p / 32 in
+      let long : length (set sums run t) ≡ length sums = length-set sums run t in
+      let there : run < length sums = omega arith in
+      record {
+        enough = rw long enough;
+        few = rw long few;
+        each = λ r none within. ⊎_elim
+            (λ (here : r ≡ run). rw here (rw (get_or-set_same sums run t none there)
+            (between (read_sum had there first) swap (λ m added v w e was.
+            let first = edge m added run in let last = edge m added (run + 1) in omega arith))))
+            (λ (other : r ≢ run). rw (get_or-set_other sums run r t none other)
+            (between (had.each r none (omega arith)) (same_sum (get_or sums r none)) (λ m added v w e was.
+            grind (arith, edge m added r, edge m added (r + 1)))))
+            (cases_eq r run);
+      }
+
+pub came_passing : {blocks : List (List ℕ)} {sums : List SumView} {p : ℕ} {block : List ℕ} {s t : SumView} →
+    AreOpen blocks sums → p ≤ length blocks → s ≡ get_or sums (p / 32) s → HasMore s t block →
+    ArePassing (insert blocks p block) (set sums (p / 32) t) (p / 32 + 1)
+came_passing {blocks} {p = p} {block} had inside first more =
+    let long = length-insert blocks p block inside in
+    runs_changed (late_from (p / 32 + 1)) (block_came blocks p block inside) (omega arith) (λ k le. omega arith)
+    (λ k lt. omega arith) (length (insert blocks p block)) had (omega arith) first more (omega arith) (omega arith)
+
+pub went_taking : {blocks : List (List ℕ)} {sums : List SumView} {p : ℕ} {gone : List ℕ} {s t : SumView} →
+    AreSums blocks sums → p < length blocks → gone ≡ get_or blocks p [] → s ≡ get_or sums (p / 32) s →
+    HasLess s t gone → AreTaking (remove blocks p) (set sums (p / 32) t) (p / 32 + 1)
+went_taking {blocks} {p = p} {gone} had inside read first less =
+    let long = length-remove blocks p inside in
+    runs_changed (early_from (p / 32 + 1)) (block_went blocks p gone inside read) (omega arith) (λ k le. omega arith)
+    (λ k lt. omega arith) (length (remove blocks p) + 1) had (omega arith) first less (omega arith) (omega arith)
+
+-- ## A border that moves
+
+pub still_read : (sums : List SumView) (next : ℕ) (t : SumView) {u : SumView} → 1 ≤ next →
+    u ≡ get_or (set sums (next - 1) t) next u → u ≡ get_or sums next u
+still_read sums next t {u} late second = second ∙ get_or-set_other sums (next - 1) next t u (omega arith)
+
+module _ {blocks : List (List ℕ)} {sums : List SumView} {begins : ℕ → ℕ} (ends : ℕ → ℕ) {count next : ℕ}
+    {s t u v : SumView} (had : AreRuns blocks sums begins count) (late : 1 ≤ next) (inside : next < length sums)
+    (same : (k : ℕ) → k ≢ next → ends k ≡ begins k) (first : s ≡ get_or sums (next - 1) s)
+    (second : u ≡ get_or (set sums (next - 1) t) next u) where
+  -- these places go over from the run ahead of the border to the one behind it, or back
+  gone_over : {gone new : List ℕ} →
+      ((m : List ℕ → ℕ) → IsAdded m → ahead m blocks (ends next) + m gone ≡ ahead m blocks (begins next) + m new) →
+      IsExchanged gone new s t → IsExchanged new gone u v →
+      AreRuns blocks (set (set sums (next - 1) t) next v) ends count
+  gone_over moved give get =
+      let long : length (set (set sums (next - 1) t) next v) ≡ length sums =
+      length-set (set sums (next - 1) t) next v ∙ length-set sums (next - 1) t in
+      let border : next - 1 + 1 ≡ next = omega arith in
+      let own : IsBetween blocks (begins (next - 1)) (begins next) s =
+      rw border at (read_sum had (omega arith) first) in
+      let other = read_sum had inside (still_read sums next t late second) in
+      let left : IsBetween blocks (ends (next - 1)) (ends next) t = between own give (λ m added v w e was.
+      let moves = moved m added in rw (same (next - 1) (omega arith)) (omega arith)) in
+      let right : IsBetween blocks (ends next) (ends (next + 1)) v = between other get (λ m added v w e was.
+      let moves = moved m added in rw (same (next + 1) (omega arith)) (omega arith)) in
+      record {
+        enough = rw long had.enough;
+        few = rw long had.few;
+        each = λ r none there.
+            search (arith, rules, had.each, left, right, get_or-set_other, get_or-set_same, same, cases_eq r);
+      }
+
+  module _ (i : ℕ) {block : List ℕ} (there : i < length blocks) (read : block ≡ get_or blocks i block) where
+    pub passing_on : begins next ≡ i + 1 → ends next ≡ i → HasLess s t block → HasMore u v block →
+        AreRuns blocks (set (set sums (next - 1) t) next v) ends count
+    passing_on was is less more =
+        gone_over (λ m added. rw (was, is) (omega (arith, over blocks i there read m added, added.few []))) less more
+
+    pub taking_on : begins next ≡ i → ends next ≡ i + 1 → HasMore s t block → HasLess u v block →
+        AreRuns blocks (set (set sums (next - 1) t) next v) ends count
+    taking_on was is more less =
+        gone_over (λ m added. rw (was, is) (omega (arith, over blocks i there read m added, added.few []))) more less
+
+same_ahead : {X : Type 0} (xs : List X) (i k : ℕ) → (i < length xs → i ≡ k) → (k < length xs → i ≡ k) →
+    take i xs ≡ take k xs
+same_ahead xs i k one other = grind (arith, common_steps, take_all, cases_lt i (length xs), cases_lt k (length xs))
+
+-- where all borders that have blocks behind them are right, the sums are
+pub settled : {blocks : List (List ℕ)} {sums : List SumView} {begins : ℕ → ℕ} {count : ℕ} →
+    AreRuns blocks sums begins count →
+    ((k : ℕ) → k ≤ length sums → begins k < length blocks → begins k ≡ run_blocks * k) →
+    ((k : ℕ) → k ≤ length sums → run_blocks * k < length blocks → begins k ≡ run_blocks * k) →
+    AreRuns blocks sums (λ r. run_blocks * r) count
+settled {blocks} {sums} {begins} had one other =
+    let same = λ (k : ℕ) (le : k ≤ length sums).
+    same_ahead blocks (begins k) (run_blocks * k) (one k le) (other k le) in
+    record {
+      enough = had.enough;
+      few = had.few;
+      each = λ r none there. between (had.each r none there) (same_sum (get_or sums r none)) (λ m added v w e was.
+          rw (← same r (omega arith), ← same (r + 1) (omega arith)) (omega arith));
+    }
+
+-- ## A place, or some, of one block
+
+parted : (block front back : List ℕ) (n : ℕ) → block ≡ front ++ back → length front ≡ n →
+    (take n block ≡ front) × (drop n block ≡ back)
+parted block front back n whole long = grind (arith, common_steps)
+
+module _ {blocks : List (List ℕ)} {sums : List SumView} {capacity : ℕ} {view : BlocksView} (had : AreSummed blocks sums)
+    (is : record { blocks = blocks; capacity = capacity } ≡ view) {i : ℕ} (within : i < length view.blocks) where
+  seen : blocks ≡ view.blocks
+  seen = ap (λ (v : BlocksView). v.blocks) is
+
+  inside : i < length blocks
+  inside = rw seen within
+
+  there : i / 32 < length sums
+  there = omega (arith, inside)
+
+  pub sum_room : {s : SumView} {more : List ℕ} → s ≡ get_or sums (i / 32) s →
+      length (concat view.blocks) + length more < 2 ^ 64 → HasRoom s more
+  sum_room first fits = has_room had.runs (i / 32) there first (rw seen fits)
+
+  module _ {block : List ℕ} (read : block ≡ get_or blocks i block) where
+    block_is : block ≡ get_or blocks i []
+    block_is = get_or_read blocks i block inside read []
+
+    set_changed : (new : List ℕ) → IsChanged i 1 1 block new blocks (set blocks i new)
+    set_changed new = block_set blocks i block inside block_is new
+
+    pub sum_has : {s : SumView} {some : List ℕ} → s ≡ get_or sums (i / 32) s →
+        ((m : List ℕ → ℕ) → IsAdded m → m some ≤ m block) → HasThese s some
+    sum_has first few = these (read_sum had.runs there first) (λ m added.
+        let one = one_between m added blocks (run_blocks * (i / 32)) i (run_blocks * (i / 32 + 1)) block (omega arith)
+        (omega arith) inside block_is in
+        omega (arith, few m added))
+
+    summed_set : {new : List ℕ} {s t : SumView} → s ≡ get_or sums (i / 32) s → IsExchanged block new s t →
+        length (concat blocks) + length new < 2 ^ 64 + length block → AreSummed (set blocks i new) (set sums (i / 32) t)
+    summed_set {new} first swap few =
+        let inside = inside in
+        let long = length-set blocks i new in
+        let all = (set_changed new).all length length_added in
+        record {
+          runs = runs_changed (λ r. run_blocks * r) (set_changed new) (omega arith) (λ k le. refl) (λ k lt. refl)
+              (length (set blocks i new)) had.runs inside first swap (omega arith) (omega arith);
+          fits = omega arith;
+        }
+
+    pub summed_more : (new more : List ℕ) {s t : SumView} →
+        ((m : List ℕ → ℕ) → IsAdded m → m new ≡ m block + m more) → s ≡ get_or sums (i / 32) s → HasMore s t more →
+        length (concat view.blocks) + length more < 2 ^ 64 → AreSummed (set blocks i new) (set sums (i / 32) t)
+    summed_more new more put first has fits =
+        let long = put length length_added in
+        let seen = ap (λ (l : List (List ℕ)). length (concat l)) seen in
+        summed_set first (exchanged has (λ m added. let e = put m added in omega (arith, added.few [])))
+        (omega arith)
+
+    pub summed_less : (new less : List ℕ) {s t : SumView} →
+        ((m : List ℕ → ℕ) → IsAdded m → m new + m less ≡ m block) → s ≡ get_or sums (i / 32) s → HasLess s t less →
+        AreSummed (set blocks i new) (set sums (i / 32) t)
+    summed_less new less out first has =
+        let long = out length length_added in
+        summed_set first (exchanged has (λ m added. let e = out m added in omega (arith, added.few [])))
+        (omega arith)
+
+    module _ (front back : List ℕ) (whole : block ≡ front ++ back) where
+      pub split_fits : length (concat (set blocks i front)) + length back < 2 ^ 64
+      split_fits =
+          let all = (set_changed front).all length length_added in
+          let long = length_added.both front back in
+          omega (arith, ap length whole)
+
+      pub split_in_two : {new : List (List ℕ)} → length front ≡ 32 → new ≡ insert (set blocks i front) (i + 1) back →
+          new ≡
+          insert (set view.blocks i (take 32 (get_or view.blocks i []))) (i + 1) (drop 32 (get_or view.blocks i []))
+      split_in_two half new_is =
+          let parts = parted block front back 32 whole half in rw (← seen, ← block_is, parts.0, parts.1) new_is
