@@ -1,6 +1,6 @@
 //! The list of an input: worked insertions, the calls that are drawn, and the call that wants memory, with ample
 //! memory.
-ghost use Rattle.std.specs.Prelude.{◌≡◌, ℕ, ◌+◌, ◌<◌, ◌≤◌, ◌&&◌, All, length};
+ghost use Rattle.std.specs.Prelude.{◌≡◌, ℕ, ◌+◌, ◌<◌, ◌≤◌, ◌&&◌, All, [], length};
 ghost use Rattle.cq_base.specs.Key.{is_before};
 ghost use Rattle.cq_base.specs.Cells.{ArrivedBefore, MoreUrgentAhead, is_for};
 ghost use Rattle.cq_trial_kit.specs.Arriving.{IsNewest, HasArrived};
@@ -8,7 +8,7 @@ ghost use Rattle.cq_trial_kit.specs.Arriving.{IsNewest, HasArrived};
 use super::drawn::{Keeper, Plain};
 use cq_base::{NoMemory, Port, Queued};
 use cq_list::InputList;
-use cq_trial_kit::{Draws, list_of, waiting};
+use cq_trial_kit::{Draws, arrive, list_of, waiting};
 use std::alloc::Global;
 
 // Two cells for output 0, of which the newer one is the more urgent, and one for output 1.
@@ -166,4 +166,66 @@ impl Keeper for InputList {
     fn has_at(&self, place: u64, queued: &Queued) -> bool {
         place < self.len() && self.at(place) == *queued
     }
+}
+
+// So many cells come to a list, each for a drawn output and of a drawn rank.
+fn come(list: &mut InputList, draws: &mut Draws)
+    requires cells { list.old.cells ≡ [] }
+    requires spare { list.old.spare ≡ 5000 }
+    requires outputs { list.old.outputs ≡ 3 }
+{
+    'cells: for slot in 0..5000_u32 {
+        let output = draws.below(3) as u16;
+        arrive(list, waiting(0, output, draws.below(1000) as u128, slot));
+    }
+}
+
+// Half of them leave.
+fn leave(list: &mut InputList, draws: &mut Draws) {
+    'cells: for _ in 0..2500_u32 {
+        list.take(draws.below(3) as u16);
+    }
+}
+
+// Whether a cell stands at its place, and is found by its key.
+fn finds_one(list: &InputList, place: u64, queued: &Queued) -> bool {
+    let output = queued.cell.output;
+    list.has_at(place, queued)
+        && output < list.outputs()
+        && list.place_of_key(output, queued.key) == place
+}
+
+// Whether each seventh cell is found.
+fn finds_some(list: &InputList, cells: &[Queued]) -> bool {
+    for (place, queued) in cells.iter().enumerate() {
+        if place % 7 == 0 && !finds_one(list, place as u64, queued) {
+            return false;
+        }
+    }
+    true
+}
+
+// Whether they are found among all cells, for which memory may be wanted.
+fn finds_among(alloc: Global, list: &InputList) -> bool {
+    match list.cells(alloc) {
+        Ok(cells) => finds_some(list, cells.as_slice()),
+        Err(_) => false,
+    }
+}
+
+// Whether they are found where so many wait that the blocks make more than three runs, and once half of them left.
+fn finds_among_many(alloc: Global) -> Result<bool, NoMemory> {
+    let mut list = InputList::new(alloc, 3, 5000)?;
+    let mut draws = Draws::from_seed(1);
+    come(&mut list, &mut draws);
+    let finds = finds_among(alloc, &list);
+    leave(&mut list, &mut draws);
+    let finds_still = finds_among(alloc, &list);
+    drop(list);
+    Ok(finds && finds_still)
+}
+
+#[test]
+fn a_cell_among_many_is_found_at_its_place(rt: HostRuntime) {
+    assert!(rt; finds_among_many(rt.alloc()) == Ok(true));
 }
