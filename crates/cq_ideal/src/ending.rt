@@ -14,6 +14,7 @@ pub fn ideal_run_ends()
 
 /// In the last slot of a run a cell departs. So a run has one slot more than the number of the slot of its last
 /// departure, and none where no cell arrives.
+#[tactic(auto, using(crate::proofs::LimitedLast::last_departs))]
 pub fn last_slot_departs()
     ensures { (ms : List Machine) (ports : ℕ) (ranks : List (List ℕ)) (came : List Arrival) (ran : Ran) →
         AllByRecursion (IsForSwitch ms ports) came → whole_ideal_run ms came (empty_ideal ports ranks) ≡ Ok ran →
@@ -22,6 +23,7 @@ pub fn last_slot_departs()
 
 /// A run over as many slots as are enough is the whole run, and then slots that send nothing. A tag fault that
 /// is met in any number of slots is the whole run's.
+#[tactic(auto, using(crate::proofs::LimitedEnds::not_more, crate::proofs::LimitedEnds::whole_fault, crate::proofs::LimitedEnds::same_sent))]
 pub fn more_slots_send_nothing()
     ensures enough { (ms : List Machine) (ports : ℕ) (ranks : List (List ℕ)) (came : List Arrival) →
         slots_of_run ms came (empty_ideal ports ranks) ≤ enough came }

@@ -4,6 +4,7 @@ ghost use Rattle.cq_ideal.specs.Terms.{Cell, no_arrivals, Admission, MarksDecide
 
 /// A run with limits is the run without limits of the arrivals that it admits, slot by slot. So what is said of
 /// runs without limits is said of admitted cells.
+#[tactic(auto, using(crate::proofs::LimitedRuns::run_of_admitted))]
 pub fn limited_run_is_run_of_admitted()
     ensures { IsRunOfAdmitted }
 {}
@@ -22,6 +23,7 @@ pub fn whole_packets_are_admitted()
 /// Every packet leaves or is refused, once, in a whole run without a tag fault: of the cells that come to an input
 /// those of some packets leave their outputs, and those of the others are refused, with none left over. And what is
 /// refused is for outputs that have limits.
+#[tactic(auto, using(crate::proofs::EachLeaves::each_leaves_or_is_refused, crate::proofs::EachLeaves::refuses_none_elsewhere))]
 pub fn each_packet_leaves_or_is_refused()
     ensures each { EachLeavesOrIsRefused }
     ensures nowhere_else { RefusesNoneElsewhere }
@@ -29,12 +31,14 @@ pub fn each_packet_leaves_or_is_refused()
 
 /// A run with limits has enough slots where the run without has: where no rank is a tag fault, all lists are
 /// empty at its end.
+#[tactic(auto, using(crate::proofs::EnoughSlots::limited_empty_at_end))]
 pub fn limited_run_is_whole()
     ensures { LimitedRunIsWhole }
 {}
 
 /// The cells of one input and class for one output leave it in the order in which they came, and none is lost
 /// but those of the packets that were refused whole, in every run that ends without a tag fault.
+#[tactic(auto, using(crate::proofs::FlowOn::flows_leave_in_packets))]
 pub fn flows_leave_in_packets()
     ensures { FlowsLeaveInPackets }
 {}
