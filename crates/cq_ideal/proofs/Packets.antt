@@ -29,21 +29,16 @@ pub record TakenOrRefused (next : ℕ) (mark : Bool) (came taken refused : List 
   pub are : taken ≡ filter (λ cell. is_taken cell.id.packet) came
   pub others : refused ≡ filter (λ cell. not (is_taken cell.id.packet)) came
 
-same_filter : (b : Bool → Bool) (f g : ℕ → Bool) (cells : List Cell) →
-    AllByRecursion (λ cell. f cell.id.packet ≡ g cell.id.packet) cells →
-    filter (λ cell. b (f cell.id.packet)) cells ≡ filter (λ cell. b (g cell.id.packet)) cells
-same_filter b f g [] same = refl
-same_filter b f g (cell ∷ cells) same = cc ((same_filter b f g cells same.1))
-
 past : (b : Bool) (f : ℕ → Bool) (n : ℕ) (cell : Cell) → n ≤ cell.id.packet →
     f cell.id.packet ≡ cond (nat_lt cell.id.packet n) b (f cell.id.packet)
 past b f n cell at = sym (cond-false (nat_lt cell.id.packet n) b (f cell.id.packet) (le-ltb cell.id.packet n at))
 
--- what is said of the packets below some number is said of none of these
-beyond : (b : Bool) (f : ℕ → Bool) (n next : ℕ) (cells : List Cell) → n < next → AreOfPackets next cells →
-    AllByRecursion (λ cell. f cell.id.packet ≡ cond (nat_lt cell.id.packet n) b (f cell.id.packet)) cells
-beyond b f n next [] lt are = tt
-beyond b f n next (cell ∷ cells) lt are = grind (arith, common_steps, past, beyond b f n (cell.id.packet + 1) cells)
+-- what is said of the packets below some number is said of none from this cell on
+beyond : (t : Bool → Bool) (b : Bool) (f : ℕ → Bool) (n : ℕ) (cell : Cell) (came : List Cell) → n ≤ cell.id.packet →
+    AreOfPackets (cell.id.packet + 1) came → filter (λ c. t (f c.id.packet)) (cell ∷ came)
+    ≡ filter (λ c. t (cond (nat_lt c.id.packet n) b (f c.id.packet))) (cell ∷ came)
+beyond t b f n cell [] le are = grind (arith, common_steps, past)
+beyond t b f n cell (c ∷ came) le are = grind (arith, common_steps, past, beyond t b f n c came)
 
 step : (next : ℕ) (mark up : Bool) (x : Option Cell) (came taken refused : List Cell) → (GoesOn x → up ≡ mark) →
     AreOfPackets next (cons_option x came) → ((n : ℕ) → AreOfPackets n came → TakenOrRefused n up came taken refused) →
@@ -58,13 +53,11 @@ step next mark up (Some cell) came taken refused same are rest =
     let none : cons_option (where_up up (Some cell)) refused
     ≡ filter (λ c. not (f c.id.packet)) (cell ∷ came) = search (arith, rules, common_steps) in
     ⊎_elim (λ on. search (arith, rules)) (λ new. let g : ℕ → Bool = λ n. cond (nat_lt n next) (not mark) (f n) in
-    let alike : AllByRecursion (λ c. f c.id.packet ≡ g c.id.packet) (cell ∷ came) =
-    (past (not mark) f next cell new.0, beyond (not mark) f next (cell.id.packet + 1) came (omega arith) are.1) in
     record {
       is_taken = g;
       before = λ packet e. ap (λ (b : Bool). cond b (not mark) (f packet)) (lt-ltb packet next (omega arith));
-      are = all ∙ same_filter (λ b. b) f g (cell ∷ came) alike;
-      others = none ∙ same_filter not f g (cell ∷ came) alike;
+      are = all ∙ beyond (λ b. b) (not mark) f next cell came new.0 are.1;
+      others = none ∙ beyond not (not mark) f next cell came new.0 are.1;
     }) are.0
 
 -- ## Slot by slot
