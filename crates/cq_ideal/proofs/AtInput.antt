@@ -1,7 +1,7 @@
 -- What arrives in the slots of a run, slot by slot, is what was to arrive, in its order: the cells that come to an
 -- input, and those of a flow. At the place of the flow's input stand all its cells of a slot, so they are among the
 -- cells that come to the input.
-use Rattle.cq_ideal.proofs.Terms.{rules, common_steps, ◌≡◌, ℕ, zero, suc, ◌+◌, ◌<◌, List, [], ◌∷◌, Option, refl, ⊎_elim, arith, AllByRecursion, cases_lt, get_or_past, unwrap_or-slice_get, Cell, Arrival, enough, traffic_of, arrival_at, RiseByInput, came_in_flow, came_at, cells_at, most_ports, all_weaker, IsRunnable, IsForSwitch, Machine}
+use Rattle.cq_ideal.proofs.Terms.{filter_all, all_from_has, le-ltb, rules, common_steps, ◌≡◌, ℕ, zero, suc, ◌+◌, ◌<◌, List, [], ◌∷◌, Option, refl, ⊎_elim, arith, AllByRecursion, cases_lt, get_or_past, unwrap_or-slice_get, Cell, Arrival, enough, traffic_of, arrival_at, RiseByInput, came_in_flow, came_at, cells_at, most_ports, all_weaker, IsRunnable, IsForSwitch, Machine}
 use Rattle.cq_ideal.proofs.Ends.{all_slots}
 use Rattle.cq_ideal.proofs.FlowFound.{cell_listed, found, found_none, length-arriving, listed_same}
 use Rattle.cq_ideal.proofs.FlowRank.{present}
@@ -12,14 +12,11 @@ use Rattle.cq_ideal.proofs.Standing.{StandAt, all_stand}
 
 -- ## The cells that come to an input
 
-from_first : (line : List Arrival) → rest_of 0 line ≡ line
-from_first [] = refl
-from_first (a ∷ line) = grind (arith, common_steps, from_first line)
-
 all_shown : (i : ℕ) (came : List Arrival) → IsShown came i → RiseByInput came →
     cells_at i (traffic_of came) ≡ came_at i came
 unfolding enough
-all_shown i came shown rise = search (arith, rules, all_slots came, comes_shown i came shown 0, from_first)
+all_shown i came shown rise =
+    search (arith, rules, all_slots came, comes_shown i came shown 0, filter_all, all_from_has, le-ltb)
 
 pub come_in_order : (i : ℕ) → i < most_ports → (came : List Arrival) → RiseByInput came →
     cells_at i (traffic_of came) ≡ came_at i came

@@ -32,7 +32,7 @@ unfoldable pub use Rattle.cq_ideal.specs.Refused.{cells_refused, packets_refused
 pub use Rattle.cq_ideal.specs.WholePackets.{AreJudged, AreOfPackets, AreWholePackets, came_at, cells_at}
 pub use Rattle.cq_ideal.specs.declared.refused.Refused.{Refused}
 pub use Rattle.cq_ideal.specs.Terms.{AreForOneSwitch, Cell, TagFault, arrival_at, class_count, no_arrivals}
-pub use Rattle.cq_base.proofs.Each.{all_both, all_made, all_weaker, few_kept, filter_none}
+pub use Rattle.cq_base.proofs.Each.{all_both, all_made, all_weaker, few_kept, filter_all, filter_none}
 pub use Rattle.cq_base.proofs.Putting.{all_put, length_put}
 pub use Rattle.cq_base.proofs.Having.{all_from_has, all_of_has, has_kept, image_has, kept_has, none_had, pair_of_has}
 pub use Rattle.cq_base.proofs.Pooled.{each_pair}
