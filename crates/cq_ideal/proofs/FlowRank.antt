@@ -40,15 +40,12 @@ module _ (ms : List Machine) (j slot : ℕ) (laws : KeepsLaws (machine_at ms j))
       keyed cell (level_at ms cell.output cell.class) (rank_at ms ranks cell.output cell.class) slot input
 
   -- what one cell makes of them
-  record OneFilled (cell : Cell) (input : ℕ) (ranks : List (List ℕ)) (xs ys : List Queued) : Type 0 where
-    stands : Stands (machine_at ms j) (slice_index_or (given_at ms ranks cell.output cell.class) j []) slot (input + 1)
-        ys
-    shows : shown i c ys ≡ shown i c xs ++ of_flow i c j (cell ∷ [])
-
   one_filled : (cell : Cell) (input : ℕ) (ranks : List (List ℕ)) (xs : List Queued) → j < length ranks →
       Stands (machine_at ms j) (slice_index_or ranks j []) slot input xs →
-      (cell.output ≡ j → cell.class < (machine_at ms j).classes) → OneFilled cell input ranks xs
-      (cond (is_for j (with_key ranks input cell)) (put (with_key ranks input cell) xs) xs)
+      (cell.output ≡ j → cell.class < (machine_at ms j).classes) →
+      let ys = cond (is_for j (with_key ranks input cell)) (put (with_key ranks input cell) xs) xs in
+      Stands (machine_at ms j) (slice_index_or (given_at ms ranks cell.output cell.class) j []) slot (input + 1) ys
+      × (shown i c ys ≡ shown i c xs ++ of_flow i c j (cell ∷ []))
   unfolding of_flow
   one_filled cell input ranks xs inside stands are =
       let q = with_key ranks input cell in
@@ -69,5 +66,5 @@ module _ (ms : List Machine) (j slot : ℕ) (laws : KeepsLaws (machine_at ms j))
       let one = one_filled cell input ranks xs inside stands are.0 in
       let next = given_at ms ranks cell.output cell.class in
       let w = after_input_ok _ _ r (fits_ok _ (after_input (Some (with_key ranks input cell)) _) _ r h) in
-      let f = filled_from cells (input + 1) next _ w.0 w.1 (search (arith, rules)) one.stands are.1 in
+      let f = filled_from cells (input + 1) next _ w.0 w.1 (search (arith, rules)) one.0 are.1 in
       search (arith, rules, append_assoc, shown, of_flow)
