@@ -6,7 +6,7 @@ use Rattle.cq_ideal.proofs.Terms.{rules, ◌≡◌, ℕ, ◌+◌, Bool, not, tru
 use Rattle.cq_ideal.specs.EachOnce.{EachLeavesOrIsRefused, KeepTheirOutput, LeaveOrAreRefused, RefusesNoneElsewhere}
 use Rattle.cq_ideal.proofs.AtInput.{all_in_order}
 use Rattle.cq_ideal.proofs.FlowOn.{in_packets}
-use Rattle.cq_ideal.proofs.LimitedEnds.{limited_over_all, run_all}
+use Rattle.cq_ideal.proofs.LimitedEnds.{limited_not_more, run_all, settled}
 use Rattle.cq_ideal.proofs.LimitedRuns.{judged}
 use Rattle.cq_ideal.proofs.RestAtInput.{line_at}
 use Rattle.cq_ideal.proofs.Standing.{of_input}
@@ -20,7 +20,7 @@ module _ (limits : List (Option ℕ)) (ms : List Machine) (ports : ℕ) (opening
       LeaveOrAreRefused came (departures_of 0 ran.gone) (refused_in ran.admissions) i
   unfolding whole_limited_run
   leave_at i packets =
-      let same = limited_over_all limits ms ports openings came ran is in
+      let same = settled limits ms ports openings came _ (Ok ran) (limited_not_more limits ms ports openings came) is in
       search (arith, rules, in_packets, run_all, of_input, all_in_order runs i)
 
 pub each_leaves_or_is_refused : EachLeavesOrIsRefused

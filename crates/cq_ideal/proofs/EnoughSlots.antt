@@ -34,22 +34,20 @@ pub fewer : (marks : List Bool) (cells : List (Option Cell)) →
 fewer [] cells = omega arith
 fewer (mark ∷ marks) cells = grind (arith, common_steps, fewer marks)
 
--- no more comes than in that traffic, in as many slots, and no later
-pub record ComesNoMore (all some : List (List (Option Cell))) : Type 0 where
-  pub count : (e : ℕ) → come_count (drop e some) ≤ come_count (drop e all)
-  pub slots : length some ≡ length all
-
+-- no more comes than in that traffic, from any of as many slots on
 pub no_more : (limits : List (Option ℕ)) (marks : List Bool) (traffic : List (List (Option Cell)))
-    (admissions : List Admission) → AreJudged limits marks traffic admissions →
-    ComesNoMore traffic (admitted_in admissions)
+    (admissions : List Admission) → AreJudged limits marks traffic admissions → (e : ℕ) →
+    (come_count (drop e (admitted_in admissions)) ≤ come_count (drop e traffic))
+    × (length (admitted_in admissions) ≡ length traffic)
 unfolding come_count
-no_more limits marks [] [] judged = record { count = λ e. omega arith; slots = refl }
-no_more limits marks (cells ∷ traffic) (a ∷ admissions) judged =
-    let here = fewer a.marks cells in
+no_more limits marks [] [] judged e = (omega arith, refl)
+no_more limits marks (cells ∷ traffic) (a ∷ admissions) judged zero =
     let are = ap (λ (l : List (Option Cell)). length (present l)) (its_marks limits marks cells a judged.0).1 in
-    let rest = no_more limits a.marks traffic admissions judged.1 in
-    record { count = elim [ zero ↦ omega (arith, rest.count zero) | suc e ↦ rest.count e ]; slots = ap suc rest.slots }
-no_more limits marks traffic admissions judged = absurd judged
+    let rest = no_more limits a.marks traffic admissions judged.1 zero in
+    (omega (arith, fewer a.marks cells), ap suc rest.1)
+no_more limits marks (cells ∷ traffic) (a ∷ admissions) judged (suc e) =
+    let rest = no_more limits a.marks traffic admissions judged.1 e in (rest.0, ap suc rest.1)
+no_more limits marks traffic admissions judged e = absurd judged
 
 -- ## As many slots as are enough
 
@@ -62,11 +60,12 @@ if_ok P fault f = grind (arith, common_steps)
 -- where no more comes than these arrivals
 emptied : (ms : List Machine) (ports : ℕ) (ranks : List (List ℕ)) (came : List Arrival)
     (traffic : List (List (Option Cell))) (ran : Ran) → ideal_run ms 0 traffic (empty_ideal ports ranks) ≡ Ok ran →
-    ComesNoMore (traffic_of came) traffic → IsEmptyIdeal ran.after
+    ((e : ℕ) → (come_count (drop e traffic) ≤ come_count (drop e (traffic_of came)))
+    × (length traffic ≡ length (traffic_of came))) → IsEmptyIdeal ran.after
 emptied ms ports ranks came traffic ran is less =
     let few = come_count-traffic_of came in
     let slots = length-traffic_of came in
-    search (arith, rules, less.count zero, less.count, quiet_at_end came, nothing_left, empties, waiting-empty)
+    search (arith, rules, less zero, less, quiet_at_end came, nothing_left, empties, waiting-empty)
 
 pub empty_at_end : (ms : List Machine) (ports : ℕ) (ranks : List (List ℕ)) (came : List Arrival) →
     IfOk (ideal_run ms 0 (traffic_of came) (empty_ideal ports ranks)) (λ ran. IsEmptyIdeal ran.after)
@@ -81,4 +80,5 @@ pub limited_empty_at_end : (limits : List (Option ℕ)) (ms : List Machine) (por
     IfOk (limited_run limits ms 0 (traffic_of came) (empty_limited ports ranks)) (λ ran. IsEmptyIdeal ran.after.state)
 limited_empty_at_end limits ms ports ranks came =
     if_ok (λ ran. IsEmptyIdeal ran.after.state) _ (λ ran is.
-    emptied ms ports ranks came _ _ (is_run_of limits ms 0 _ _ ran is) (search (arith, rules, no_more, judged)))
+    let less = no_more limits _ _ _ (judged limits ms 0 _ _ ran is) in
+    emptied ms ports ranks came _ _ (is_run_of limits ms 0 _ _ ran is) less)

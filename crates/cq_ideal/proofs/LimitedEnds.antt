@@ -32,7 +32,7 @@ pub gone_long : (limits : List (Option ℕ)) (ms : List Machine) (slot : ℕ) (t
 gone_long limits ms slot traffic old ran is =
     sends_long ms slot (admitted_in ran.admissions) old.state (state_ran ran)
     (is_run_of limits ms slot traffic old ran is)
-    ∙ (no_more limits old.marks traffic ran.admissions (judged limits ms slot traffic old ran is)).slots
+    ∙ (no_more limits old.marks traffic ran.admissions (judged limits ms slot traffic old ran is) 0).1
 
 module _ (limits : List (Option ℕ)) (ms : List Machine) (ports : ℕ) (ranks : List (List ℕ)) (came : List Arrival) where
   -- the run over the first n slots
@@ -125,36 +125,35 @@ module _ (limits : List (Option ℕ)) (ms : List Machine) (ports : ℕ) (ranks :
       let f = cut_at last n o.0 le o.1 in
       search (arith, rules, y.first last f.first.after, at_ok, limited_over_at_end f.first)
 
-  fault_kept : (m n : ℕ) (fault : TagFault) → m ≤ n → run_to m ≡ Err fault → run_to n ≡ Err fault
-  fault_kept m n fault le is = search (arith, rules, goes_on m (n - m) n)
+  -- what the run over so many slots comes to where the one up to the end comes to this
+  abbrev pub Settled : ℕ → Result LimitedRan TagFault → Type 0
+  Settled m (Ok ran) = SameSlots m ran
+  Settled m (Err fault) = run_to m ≡ Err fault
+
+  pub settled : (m : ℕ) (x : Result LimitedRan TagFault) → last ≤ m → run_to last ≡ x → Settled m x
+  settled m (Ok ran) le is = search (arith, rules, limited_over_at_end ran is, more last (m - last) m ran)
+  settled m (Err fault) le is = search (arith, rules, goes_on last (m - last) m)
+
+  faulty : (n : ℕ) (fault : TagFault) (x : Result LimitedRan TagFault) → run_to n ≡ Err fault → Settled n x →
+      x ≡ Err fault
+  faulty n fault x is same = grind (arith, common_steps)
 
   -- a fault in some slots is one of the whole run
-  faulty : (n : ℕ) (fault : TagFault) → run_to n ≡ Err fault → (x : Result LimitedRan TagFault) → run_to last ≡ x →
-      last ≤ n → run_to last ≡ Err fault
-  faulty n fault is (Ok ran) e le = search (arith, rules, limited_over_at_end ran, more last (n - last) n ran)
-  faulty n fault is (Err other) e le = let kept = fault_kept last n other le e in cc
-
   pub limited_whole_fault : (n : ℕ) (fault : TagFault) →
       limited_run limits ms 0 (first_slots came n) (empty_limited ports ranks) ≡ Err fault →
       whole_limited_run limits ms came (empty_limited ports ranks) ≡ Err fault
   unfolding whole_limited_run
   limited_whole_fault n fault is =
-      search (arith, rules, fault_kept n last, faulty n fault is (run_to last), cases_lt n last)
-
-  -- the run over as many slots as are enough
-  pub limited_over_all : (ran : LimitedRan) → run_to last ≡ Ok ran → SameSlots (enough came) ran
-  limited_over_all ran is =
-      search (arith, rules, limited_not_more, more last (enough came - last) (enough came) ran, limited_over_at_end ran)
+      search (arith, rules, goes_on n (last - n) last, faulty n fault, settled n (run_to last), cases_lt n last)
 
   pub limited_same_sent : departures_limited (limited_run limits ms 0 (traffic_of came) (empty_limited ports ranks))
       ≡ departures_limited (whole_limited_run limits ms came (empty_limited ports ranks))
   unfolding whole_limited_run
-  limited_same_sent = sym (ap departures_limited run_all) ∙ by (run_to last) refl
+  limited_same_sent = sym (ap departures_limited run_all) ∙ by (run_to last) (settled _ _ limited_not_more refl)
     where
-      by : (x : Result LimitedRan TagFault) → run_to last ≡ x →
+      by : (x : Result LimitedRan TagFault) → Settled (enough came) x →
           departures_limited (run_to (enough came)) ≡ departures_limited x
-      by (Ok ran) e = let m = limited_over_all ran e in ap departures_limited m.is ∙ ap Ok m.sent
-      by (Err fault) e = ap departures_limited (fault_kept last (enough came) fault limited_not_more e)
+      by fault same = grind (arith, common_steps)
 
 -- ## Without limits
 
