@@ -6,7 +6,7 @@
 -- and then the others, is putting them all, and where a list has room for all of them it has for each in turn.
 use Rattle.cq_ideal.proofs.Terms.{rules, ◌≡◌, ℕ, zero, suc, ◌+◌, List, [], ◌∷◌, length, get_or, Option, Some, None, Result, Ok, arith, length-set, common_steps, same_Some, Cell, Queued, TagFault, arrival_at, Machine, CameToPorts, Ranking, ranking, after_input, AreForPorts, ◌≤◌, cond, replicate, refl, ◌<◌, AllByRecursion, append_assoc, cond_both, cases_lt, put, is_for, other_key_newest, filled, put_all, rests, AllArrivedBefore, HaveOwnKeys, list_at, all_put, get_or-map, get_or_past, ◌++◌, map, set, take, drop, Err, get_or-set_other, ext_get_or, get_or-drop, length-drop, length-replicate, take-append-drop, take_more_set, unwrap_or-slice_get, RanksView, after_inputs, get_or-set_same, cases_Bool, eqb-true, eq-eqb, length-map, drop_more, CanPut, QueuesView, FitTogether, HaveRoomFor, with_came, with_cell, length_put, all_weaker, most_ports}
 use Rattle.cq_ideal.proofs.FlowRank.{after_input_ok, fits_ok}
-use Rattle.cq_ideal.proofs.Waiting.{filled_at, length-filled, filled_none}
+use Rattle.cq_ideal.proofs.Waiting.{filled_at, filled_next, length-filled, filled_none, one_put}
 use Rattle.cq_ideal.proofs.Changed.{same_at}
 
 -- a cell that came has this slot, its input, and is the one that arrived there
@@ -147,18 +147,6 @@ module _ {M : List ℕ → Machine} {slot : ℕ} {cells : List (Option Cell)} {f
       search (arith, rules, none_ranked, none_beyond _ input cells for.inputs past, in_front, take-append-drop)
 
 -- ## Putting cells into the lists
-
--- the list of an output, with one cell put into the list of its output
-one_put : (q : Queued) (lists : List (List Queued)) (j : ℕ) → q.cell.output < length lists →
-    cond (is_for j q) (put q (list_at lists j)) (list_at lists j) ≡ list_at (with_cell q lists) j
-one_put q lists j inside = search (rules, cases_Bool, eqb-true, get_or-set_same, get_or-set_other, eq-eqb)
-
--- with the cell that came to one input, if one did, and then those that came to the others
-filled_next : (o : Option Queued) (came : List (Option Queued)) (lists : List (List Queued)) →
-    ((q : Queued) → o ≡ Some q → q.cell.output < length lists) →
-    filled (o ∷ came) lists ≡ filled came (with_came o lists)
-unfolding filled
-filled_next q came lists inside = grind (arith, common_steps, one_put, length-set)
 
 -- where no cell came nothing changes
 pub nobody_left : (came : List (Option Queued)) (lists : List (List Queued)) →

@@ -9,7 +9,7 @@ use Rattle.cq_ideal.proofs.LastSlot.{comes, counted_in, slots_in, slots_of-appen
 use Rattle.cq_ideal.proofs.LimitedEnds.{at_ok, cut_at, gone_long, limited_over_at_end, limited_test, not_before, run_to, slots_as_before, state_ran, whole_as}
 use Rattle.cq_ideal.proofs.LimitedRuns.{is_run_of}
 use Rattle.cq_ideal.proofs.Parted.{arriving_here, arriving_length, departures_append, first_slot}
-use Rattle.cq_ideal.proofs.Waiting.{counted, some_waits, waiting}
+use Rattle.cq_ideal.proofs.Waiting.{counted, waiting}
 
 -- ## One slot
 
@@ -25,9 +25,11 @@ one_departs ms slot j cells traffic s ran is inside some =
 one_of_waiting : (ms : List Machine) (slot : ℕ) (traffic : List (List (Option Cell))) (s : IdealState) (ran : Ran) →
     0 < length ran.gone → 0 < waiting s.lists → ideal_run ms slot traffic s ≡ Ok ran →
     slot + 1 ≤ slots_of (departures_of slot ran.gone)
-unfolding ideal_run
+unfolding ideal_run departures_of departures_in
 one_of_waiting ms slot [] s ran one some is = grind (arith, common_steps, only_ok)
-one_of_waiting ms slot (cells ∷ traffic) s ran one some is = search (arith, rules, some_waits, one_departs)
+one_of_waiting ms slot (cells ∷ traffic) s ran one some is =
+    let p = first_slot ms slot cells traffic s ran is in
+    search (arith, rules, slots_of-append, slots_in slot 0, (counted ms slot cells s p.sent p.ran_slot).waits)
 
 -- ## The whole run
 
@@ -36,10 +38,6 @@ module _ (limits : List (Option ℕ)) (ms : List Machine) (ports : ℕ) (ranks :
   abbrev slots : ℕ
   slots = slots_of_limited_run limits ms came (empty_limited ports ranks)
 
-  it_is : run_to limits ms ports ranks came slots ≡ Ok ran
-  unfolding whole_limited_run
-  it_is = whole
-
   -- behind the last arrival it goes on only while a cell waits
   one_waits : (slot : ℕ) (first : LimitedRan) → slot < slots → end_of came ≤ slot →
       run_to limits ms ports ranks came slot ≡ Ok first → 0 < waiting first.after.state.lists
@@ -47,20 +45,21 @@ module _ (limits : List (Option ℕ)) (ms : List Machine) (ports : ℕ) (ranks :
       grind (arith, common_steps, at_ok, nothing_left first.after.state.lists, not_before limits, limited_test came)
 
   late : (slot : ℕ) → slots ≡ slot + 1 → end_of came ≤ slot → slot + 1 ≤ slots_of (departures_of 0 ran.gone)
+  unfolding whole_limited_run
   late slot e le =
-      let cut = cut_at limits ms ports ranks came slot slots ran (omega arith) it_is in
+      let cut = cut_at limits ms ports ranks came slot slots ran (omega arith) whole in
       let long = gone_long limits ms 0 (first_slots came slot) _ cut.first cut.ran_first in
-      let all = gone_long limits ms 0 (first_slots came slots) _ ran it_is in
-      let many = arriving_length came 0 in
-      let parts = ap length cut.gone ∙ length-append cut.first.gone cut.second.gone in
+      let more = gone_long limits ms slot _ _ cut.second cut.ran_second ∙ arriving_length came slot (slots - slot) in
+      let many = arriving_length came 0 slot in
       let here = one_of_waiting ms slot (admitted_in cut.second.admissions) cut.first.after.state (state_ran cut.second)
       (omega arith) (one_waits slot cut.first (omega arith) le cut.ran_first) (search (arith, rules, is_run_of)) in
       search (arith, rules, departures_append, slots_of-append (departures_of 0 cut.first.gone))
 
   pub limited_slots : slots ≡ max (end_of came) (slots_of (departures_of 0 ran.gone))
+  unfolding whole_limited_run
   limited_slots =
-      let come = (limited_over_at_end limits ms ports ranks came ran it_is).0 in
-      let long = gone_long limits ms 0 (first_slots came slots) _ ran it_is ∙ arriving_length came 0 slots in
+      let come = (limited_over_at_end limits ms ports ranks came ran whole).0 in
+      let long = gone_long limits ms 0 (first_slots came slots) _ ran whole ∙ arriving_length came 0 slots in
       search (arith, rules, late (slots - 1), cases_lt, slots_within 0)
 
 -- ## The switch without limits

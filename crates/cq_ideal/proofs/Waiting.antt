@@ -2,7 +2,7 @@
 -- together get as many cells as arrive, and each list as many as arrive for its output. A list that is not empty
 -- sends one cell. So what waits and what is sent are together what waited and what arrived, and unless nothing waits
 -- after the slot fewer cells wait than waited and arrived.
-use Rattle.cq_ideal.proofs.Terms.{common_steps, rules, ◌≡◌, ◌≢◌, ℕ, zero, suc, ◌+◌, ◌-◌, ◌<◌, ◌≤◌, cond, List, [], ◌∷◌, length, map, Option, Some, None, Result, Ok, refl, arith, is_some, slice_index_or, range_with_len, cases_eq, length-map, ext_get_or, get_or-map-range_with_len, length-map-range_with_len, Cell, Queued, TagFault, put, is_for, Machine, count_for, Ranking, ranking, count_to, IdealState, Sent, put_all, filled, fronts, rests, all_told, ideal_sends, ideal_slot, departures_from, departures_in, length_put}
+use Rattle.cq_ideal.proofs.Terms.{common_steps, rules, ◌≡◌, ◌≢◌, ℕ, zero, suc, ◌+◌, ◌-◌, ◌<◌, ◌≤◌, cond, List, [], ◌∷◌, length, map, Option, Some, None, Result, Ok, refl, arith, is_some, slice_index_or, range_with_len, cases_eq, length-map, ext_get_or, get_or-map-range_with_len, length-map-range_with_len, Cell, Queued, TagFault, put, is_for, Machine, count_for, Ranking, ranking, count_to, IdealState, Sent, put_all, filled, fronts, rests, all_told, ideal_sends, ideal_slot, departures_from, departures_in, length_put, set, with_cell, with_came, list_at, cases_Bool, eqb-true, eq-eqb, get_or-set_same, get_or-set_other, length-set}
 use Rattle.cq_ideal.proofs.FlowRank.{after_input_ok, fits_ok, only_ok, present}
 
 -- ## Numbers that are added over a range
@@ -44,31 +44,51 @@ cell_here (Some q) = Some q.cell
 abbrev count_here : List (Option Queued) → ℕ
 count_here came = length (present (map cell_here came))
 
-waiting-map : (f : ℕ → List Queued) (a n : ℕ) → waiting (map f (range_with_len a n)) ≡ total (λ j. length (f j)) a n
-unfolding waiting total
-waiting-map f a zero = refl
-waiting-map f a (suc n) = let rest = waiting-map f (a + 1) n in omega arith
-
-total_put : (came : List (Option Queued)) (f : ℕ → List Queued) (a n : ℕ) →
-    total (λ j. length (put_all j came (f j))) a n ≤ total (λ j. length (f j)) a n + count_here came
-unfolding cell_here
-total_put [] f a n = omega arith
-total_put (None ∷ came) f a n = total_put came f a n
-total_put (Some q ∷ came) f a n =
-    let g = λ (j : ℕ). cond (is_for j q) (put q (f j)) (f j) in
-    let more = total_more (λ j. length (g j)) (λ j. length (f j)) q.cell.output 1 a n
-    (λ t ne. grind (arith, common_steps)) (grind (arith, common_steps, length_put)) in
-    omega (arith, total_put came g)
-
 pub filled_none : (lists : List (List Queued)) → filled [] lists ≡ lists
 unfolding filled
 filled_none lists =
     search (arith, rules, ext_get_or [] (filled [] lists) lists, length-map-range_with_len, get_or-map-range_with_len)
 
-waiting-filled : (came : List (Option Queued)) (lists : List (List Queued)) →
-    waiting (filled came lists) ≤ waiting lists + count_here came
+pub length-filled : (came : List (Option Queued)) (lists : List (List Queued)) →
+    length (filled came lists) ≡ length lists
 unfolding filled
-waiting-filled came lists = grind (arith, common_steps, waiting-map, filled_none lists, total_put came)
+length-filled came lists = grind (arith, common_steps, length-map-range_with_len)
+
+pub filled_at : (came : List (Option Queued)) (lists : List (List Queued)) (j : ℕ) → j < length lists →
+    slice_index_or (filled came lists) j [] ≡ put_all j came (slice_index_or lists j [])
+unfolding filled
+filled_at came lists j inside = grind (arith, common_steps, get_or-map-range_with_len)
+
+-- the list of an output, with one cell put into the list of its output
+pub one_put : (q : Queued) (lists : List (List Queued)) (j : ℕ) → (q.cell.output ≡ j → j < length lists) →
+    cond (is_for j q) (put q (list_at lists j)) (list_at lists j) ≡ list_at (with_cell q lists) j
+one_put q lists j inside = search (rules, cases_Bool, eqb-true, get_or-set_same, get_or-set_other, eq-eqb)
+
+-- with the cell that came to one input, if one did, and then those that came to the others
+pub filled_next : (o : Option Queued) (came : List (Option Queued)) (lists : List (List Queued)) →
+    filled (o ∷ came) lists ≡ filled came (with_came o lists)
+unfolding filled
+filled_next None came lists = refl
+filled_next (Some q) came lists =
+    let same = ext_get_or [] (filled (Some q ∷ came) lists) (filled came (with_cell q lists)) in
+    search (arith, rules, same, length-filled, length-set, filled_at, one_put)
+
+-- a list with one cell more than before
+waiting-set : (lists : List (List Queued)) (j : ℕ) (xs : List Queued) →
+    length xs ≡ length (slice_index_or lists j []) + 1 →
+    (waiting lists ≤ waiting (set lists j xs)) × (waiting (set lists j xs) ≤ waiting lists + 1)
+unfolding waiting
+waiting-set [] j xs more = grind (arith, common_steps)
+waiting-set (l ∷ lists) j xs more = grind (arith, common_steps, waiting-set lists)
+
+waiting-filled : (came : List (Option Queued)) (lists : List (List Queued)) →
+    (waiting lists ≤ waiting (filled came lists)) × (waiting (filled came lists) ≤ waiting lists + count_here came)
+unfolding cell_here
+waiting-filled [] lists = grind (arith, common_steps, filled_none lists)
+waiting-filled (None ∷ came) lists = search (arith, rules, filled_next, waiting-filled came)
+waiting-filled (Some q ∷ came) lists =
+    let here = waiting-set lists q.cell.output (put q (list_at lists q.cell.output)) in
+    search (arith, rules, filled_next, here, length_put, waiting-filled came)
 
 -- what is sent of the lists, and what is left of them: less, where a cell waits
 sent_of_waiting : (slot j : ℕ) (lists : List (List Queued)) →
@@ -83,14 +103,6 @@ one_of_all : (lists : List (List Queued)) (j : ℕ) → length (slice_index_or l
 unfolding waiting
 one_of_all [] j = omega arith
 one_of_all (xs ∷ lists) j = grind (arith, common_steps, one_of_all lists)
-
--- where a cell waits some list has one
-pub some_waits : (lists : List (List Queued)) → 0 < waiting lists →
-    (j : ℕ) × (j < length lists) × (0 < length (slice_index_or lists j []))
-unfolding waiting
-some_waits [] some = absurd (omega arith)
-some_waits ([] ∷ lists) some = let rest = some_waits lists (omega arith) in (suc rest.0, omega (arith, rest.1), rest.2)
-some_waits ((x ∷ xs) ∷ lists) some = (zero, omega arith, omega arith)
 
 -- ## One list
 
@@ -132,19 +144,10 @@ pub record Counted (slot : ℕ) (cells : List (Option Cell)) (old : IdealState) 
   pub all : length (departures_in slot sent.gone) + waiting sent.after.lists
       ≤ waiting old.lists + length (present cells)
   pub fewer : waiting sent.after.lists ≤ waiting old.lists + length (present cells) - 1
-  -- where a cell waits or comes for an output, one departs
+  -- where a cell waits, or waits or comes for an output, one departs
+  pub waits : 0 < waiting old.lists → 0 < length (departures_in slot sent.gone)
   pub departs : (j : ℕ) → j < length old.lists → 0 < length (slice_index_or old.lists j []) + count_for j cells →
       0 < length (departures_in slot sent.gone)
-
-pub length-filled : (came : List (Option Queued)) (lists : List (List Queued)) →
-    length (filled came lists) ≡ length lists
-unfolding filled
-length-filled came lists = grind (arith, common_steps, length-map-range_with_len)
-
-pub filled_at : (came : List (Option Queued)) (lists : List (List Queued)) (j : ℕ) → j < length lists →
-    slice_index_or (filled came lists) j [] ≡ put_all j came (slice_index_or lists j [])
-unfolding filled
-filled_at came lists j inside = grind (arith, common_steps, get_or-map-range_with_len)
 
 -- each list then has the cells that came for its output beside its own
 pub filled_long : (came : List (Option Queued)) (lists : List (List Queued)) (j : ℕ) → j < length lists →
