@@ -11,9 +11,9 @@ pub admitted_at : (marks : List Bool) (cells : List (Option Cell)) (i : ℕ) →
 admitted_at [] cells i = refl
 admitted_at (mark ∷ marks) cells i = grind (arith, common_steps, admitted_at marks)
 
-pub length-admitted : (marks : List Bool) (cells : List (Option Cell)) → length (admitted marks cells) ≡ length cells
-length-admitted [] cells = refl
-length-admitted (mark ∷ marks) cells = grind (arith, common_steps, length-admitted marks)
+pub as_many_admitted : (marks : List Bool) (cells : List (Option Cell)) → length (admitted marks cells) ≡ length cells
+as_many_admitted [] cells = refl
+as_many_admitted (mark ∷ marks) cells = grind (arith, common_steps, as_many_admitted marks)
 
 -- what is admitted arrives
 pub admitted_arrives : (marks : List Bool) (cells : List (Option Cell)) (i : ℕ) (cell : Cell) →

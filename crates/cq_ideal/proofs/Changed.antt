@@ -1,7 +1,7 @@
 -- Lists that are made item by item, what is seen of one item, and lists that are new up to a place, and old from it on.
 -- So the list and the machine of one output among those of all: what stands at its place is read through the lists of
 -- all.
-use Rattle.cq_ideal.proofs.Terms.{common_steps, ◌≡◌, ℕ, zero, suc, refl, ◌+◌, ◌<◌, ◌≤◌, List, [], ◌∷◌, ◌++◌, length, map, get_or, replicate, set, take, drop, sym, ap, ◌∙◌, arith, append-nil, drop_all, drop_more, get_or_at, get_or-map, length-map, length-take-le, map_push, replicate_more, set_at, take_all, take_more, Option, None, length-replicate, Queued, ◌^◌, eqb, Bool, All, IsTrue, ◌↔◌, list_all, All-push, list_all-map, list_all-from_AllPass, IsWithin, QueueView, QueuesView, list_at, Machine, machine_at, first_come, RanksView, most_ports, cases_lt, get_or_past}
+use Rattle.cq_ideal.proofs.Terms.{length-append, length-take, length-set, get_or-set_other, map-set, map-set_same, length-drop, on_ok_weaker, on_err_weaker, common_steps, ◌≡◌, ℕ, zero, suc, refl, ◌+◌, ◌<◌, ◌≤◌, List, [], ◌∷◌, ◌++◌, length, map, get_or, replicate, set, take, drop, sym, ap, ◌∙◌, arith, append-nil, drop_all, drop_more, get_or_at, get_or-map, length-map, length-take-le, map_push, replicate_more, set_at, take_all, take_more, Option, None, length-replicate, Queued, ◌^◌, eqb, Bool, All, IsTrue, ◌↔◌, list_all, All-push, list_all-map, list_all-from_AllPass, IsWithin, QueueView, QueuesView, list_at, Machine, machine_at, first_come, RanksView, most_ports, cases_lt, get_or_past}
 use Rattle.cq_ideal.specs.Newcomers.{AreUsed}
 
 -- ## One item more
@@ -37,6 +37,11 @@ module _ {X Y : Type 0} (f : X → Y) (items : List X) {seen : List Y} (are : ma
 
   pub seen_at : {x : X} (d : Y) → o < length items → x ≡ get_or items o x → f x ≡ get_or seen o d
   seen_at {x} d inside is = ap f is ∙ sym (get_or-map f items o x d inside) ∙ ap (λ l. get_or l o d) are
+
+-- lists that are taken, and in which one item is put in the place of another
+pub ruleset list_steps = (length-map, length-drop, length-set, length-append, length-take, take_more, take_all)
+
+pub ruleset item_steps = (list_steps, item_inside, map-set, map-set_same, get_or-set_other, on_ok_weaker, on_err_weaker)
 
 -- ## One item changed
 

@@ -164,6 +164,7 @@ impl Limiter {
     }
 
     /// The cell that arrives at an input, if it is admitted.
+    #[tactic(auto, using(crate::proofs::Admitted::admitted_at, crate::proofs::Admitted::as_many_admitted))]
     pub fn admitted(&self, arrivals: &Arrivals, input: Port) -> Option<Cell>
         requires { input < length self.now.marks }
         ensures answer { result ≡ arrival_at (admitted self.now.marks arrivals.now) input }

@@ -27,6 +27,7 @@ impl Model for Newcomers {
     ghost invariant = { λ a. AreUsed a.used a.places };
 }
 
+#[tactic(auto, using(crate::proofs::Changed::none_used, crate::proofs::Changed::item_steps))]
 impl Newcomers {
     /// No cell came to any input.
     pub fn none() -> Newcomers

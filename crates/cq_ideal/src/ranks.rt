@@ -46,6 +46,7 @@ fn tell_idle<R: Rank>(rank: &mut R)
 }
 
 // The numbers of a machine's state. The error is want of memory.
+#[tactic(auto, using(crate::proofs::Changed::item_steps))]
 fn numbers_of<R: Rank>(alloc: Global, rank: &R) -> Result<Sequence<u128>, NoMemory>
     ensures { IfOk result (λ numbers. numbers ≡ R.state rank.now) }
 {
@@ -58,6 +59,7 @@ fn numbers_of<R: Rank>(alloc: Global, rank: &R) -> Result<Sequence<u128>, NoMemo
 }
 
 // These become the numbers of a machine's state.
+#[tactic(auto, using(crate::proofs::Changed::put_next, crate::proofs::Changed::at_end, crate::proofs::Changed::item_steps))]
 fn put_numbers<R: Rank>(rank: &mut R, numbers: &[u128])
     requires { length numbers.now ≡ (R.machine (R.fixed rank.old)).size }
     ensures fixed { R.fixed rank.new ≡ R.fixed rank.old }
@@ -69,6 +71,7 @@ fn put_numbers<R: Rank>(rank: &mut R, numbers: &[u128])
     }
 }
 
+#[tactic(auto, using(crate::proofs::Changed::machine_seen, crate::proofs::Changed::seen_at, crate::proofs::Changed::put_next, crate::proofs::Changed::at_end, crate::proofs::Changed::item_steps))]
 impl<R: Rank> Ranks<R> {
     /// One for each output, in order.
     pub fn of(ranks: Vec<R>) -> Ranks<R>

@@ -40,6 +40,7 @@ pub fn none_refused(alloc: Global, limits: &[Option<u64>]) -> Result<Vec<Refused
 }
 
 // The count of an output, with a refused cell for it added.
+#[tactic(auto, using(crate::proofs::Counting::this_output, std::proofs::lemmas::Bool::Decides::nat_tests))]
 fn with_cell(count: Refused, cell: Cell) -> Refused
     requires output { count.output ≡ cell.output }
     requires packets { count.packets + 1 < 2 ^ 64 }
@@ -57,6 +58,7 @@ fn with_cell(count: Refused, cell: Cell) -> Refused
 
 /// A refused cell is added to the count of its output, where that has one: it is a cell more, and a packet more where
 /// it is a first cell.
+#[tactic(auto, using(crate::proofs::Counting::can_count_here, crate::proofs::Counting::tallied_next, crate::proofs::Counting::untouched_next))]
 pub fn count_refused(refused: &mut [Refused], cell: Cell)
     requires { CanCount 1 refused.old }
     ensures { refused.new ≡ with_refused (cell ∷ []) refused.old }

@@ -12,6 +12,7 @@ use cq_rank::Rank;
 /// place of what stood there, and those that are refused are counted.
 ///
 /// The error is the first rank, in order of input, that does not fit 128 bits. Then nothing is counted.
+#[tactic(auto, using(crate::proofs::Changed::item_steps))]
 pub fn take_in<R: Rank>(
     ranks: &mut Ranks<R>,
     limiter: &mut Limiter,
