@@ -2,11 +2,12 @@
 -- comes weighs no more than the arrivals, whatever a cell weighs, and no more cells come than there are arrivals. From
 -- the end of the arrivals on none comes. So a run of as many slots as are enough has one slot for each cell after the
 -- last of them came.
-use Rattle.cq_ideal.proofs.Terms.{rules, ◌≡◌, ℕ, zero, suc, ◌+◌, ◌<◌, ◌≤◌, List, [], ◌∷◌, length, map, drop, refl, sym, ap, arith, common_steps, AllByRecursion, range_with_len, length-map-range_with_len, Arrival, arriving_at, arriving, end_of, enough, traffic_of, all_weaker, Cell, Option, ◌∙◌, none_had, all_of_has, most_ports}
+use Rattle.cq_ideal.proofs.Terms.{None, and_left, ne_eqb, cond-false, replicate, length-replicate, fill_by_all, rules, ◌≡◌, ℕ, zero, suc, ◌+◌, ◌<◌, ◌≤◌, List, [], ◌∷◌, length, map, drop, refl, sym, ap, arith, common_steps, AllByRecursion, range_with_len, length-map-range_with_len, Arrival, arriving_at, arriving, end_of, enough, traffic_of, all_weaker, Cell, Option, ◌∙◌, most_ports}
+use Rattle.cq_ideal.proofs.Changed.{same_at}
 use Rattle.cq_ideal.proofs.FlowRank.{present}
 use Rattle.cq_ideal.proofs.FlowRun.{come_count}
 use Rattle.cq_ideal.proofs.Waiting.{total, total_more, total_none, total_same}
-use Rattle.cq_ideal.proofs.FlowFound.{all_found, all_present, cell_listed, found, found_here, other_slot, other_input, found_none, arriving_is}
+use Rattle.cq_ideal.proofs.FlowFound.{cell_listed, found, found_here, other_slot, other_input, found_none, arriving_is}
 
 -- ## What comes, weighed
 
@@ -55,14 +56,18 @@ pub before_end : (came : List Arrival) → AllByRecursion (λ a. a.slot < end_of
 before_end [] = tt
 before_end (a ∷ came) = grind (arith, common_steps, all_weaker, before_end came)
 
-none_from : (came : List Arrival) (t inputs : ℕ) → inputs ≡ most_ports → end_of came ≤ t →
-    present (arriving came t) ≡ []
-none_from came t inputs are le = ap present (arriving_is came t inputs are)
-    ∙ none_had _ (λ x. all_of_has (λ _. ⊥) _ x (all_present came t (λ _. ⊥) 0 inputs (λ k. all_found _ came t k
-    (all_weaker (λ a. a.slot < end_of came) _ (λ a early at _. omega arith) came (before_end came)))))
+never_at : (came : List Arrival) (t k : ℕ) → end_of came ≤ t → arriving_at came t k ≡ None
+never_at [] t k le = refl
+never_at (a ∷ came) t k le = grind (arith, common_steps, and_left, ne_eqb, cond-false, never_at came t k)
+
+pub none_arrive : (came : List Arrival) (t inputs : ℕ) → inputs ≡ most_ports → end_of came ≤ t →
+    arriving came t ≡ replicate inputs None
+none_arrive came t inputs are le =
+    let none = fill_by_all (arriving_at came t) (replicate inputs None) inputs None in
+    search (arith, rules, none, length-replicate, same_at, never_at, arriving_is)
 
 pub none_after : (came : List Arrival) (t : ℕ) → end_of came ≤ t → length (present (arriving came t)) ≡ 0
-none_after came t le = ap length (none_from came t most_ports refl le)
+none_after came t le = ap (λ cells. length (present cells)) (none_arrive came t most_ports refl le)
 
 quiet_from : (came : List Arrival) (e a n : ℕ) → end_of came ≤ a + e →
     come_count (drop e (map (arriving came) (range_with_len a n))) ≡ 0

@@ -1,9 +1,8 @@
 -- What arrives in some slots and in those behind them, and what is sent in these. The first slot of a run, and the
 -- run behind it.
-use Rattle.cq_ideal.proofs.Terms.{rules, ◌≡◌, ℕ, zero, suc, ◌+◌, ◌≤◌, List, [], ◌∷◌, ◌++◌, length, replicate, Option, None, Result, Ok, Err, refl, ap, arith, append_assoc, common_steps, length-map-range_with_len, Arrival, arriving, end_of, no_arrivals, Cell, Queued, TagFault, Machine, arriving_from, Ran, departures_of, ideal_run, then_ran, IdealState, Sent, most_ports}
-use Rattle.cq_ideal.proofs.FlowCount.{none_after}
-use Rattle.cq_ideal.proofs.FlowFound.{length-arriving}
-use Rattle.cq_ideal.proofs.FlowRank.{only_ok, present}
+use Rattle.cq_ideal.proofs.Terms.{rules, ◌≡◌, ℕ, zero, suc, ◌+◌, ◌≤◌, List, [], ◌∷◌, ◌++◌, length, replicate, Option, Result, Ok, Err, refl, ap, arith, append_assoc, common_steps, length-map-range_with_len, Arrival, arriving, end_of, no_arrivals, Cell, Queued, TagFault, Machine, arriving_from, Ran, departures_of, ideal_run, then_ran, IdealState, Sent}
+use Rattle.cq_ideal.proofs.FlowCount.{none_arrive}
+use Rattle.cq_ideal.proofs.FlowRank.{only_ok}
 pub use Rattle.cq_ideal.proofs.FlowRun.{FirstSlot, first_slot}
 
 -- ## What arrives
@@ -24,14 +23,6 @@ unfolding arriving_from
 arriving_parts came a b zero m k e f = grind (arith, common_steps)
 arriving_parts came a b (suc n) m k e f =
     let long : k ≡ suc (n + m) = omega arith in rw long (cc ((arriving_parts came (a + 1) b n m _ (omega arith) refl)))
-
-nobody : (cells : List (Option Cell)) → length (present cells) ≡ 0 → cells ≡ replicate (length cells) None
-nobody [] none = refl
-nobody (o ∷ cells) none = grind (arith, common_steps, nobody cells)
-
-pub none_arrive : (came : List Arrival) (t inputs : ℕ) → inputs ≡ most_ports → end_of came ≤ t →
-    arriving came t ≡ replicate inputs None
-none_arrive came t inputs are le = search (rules, nobody (arriving came t), length-arriving, none_after)
 
 -- from the end of the arrivals on none comes
 pub quiet_from : (came : List Arrival) (n slot : ℕ) → end_of came ≤ slot →
