@@ -7,7 +7,7 @@ use Rattle.cq_ideal.proofs.FlowFound.{cell_listed, found, found_none, length-arr
 use Rattle.cq_ideal.proofs.FlowRank.{present}
 use Rattle.cq_ideal.proofs.FlowRun.{flow_came}
 use Rattle.cq_ideal.proofs.FlowStands.{is_of_flow, of_flow}
-use Rattle.cq_ideal.proofs.RestAtInput.{IsShown, comes_shown, is_shown, rest_of}
+use Rattle.cq_ideal.proofs.RestAtInput.{IsShown, comes_shown, is_shown}
 use Rattle.cq_ideal.proofs.Standing.{StandAt, all_stand}
 
 -- ## The cells that come to an input

@@ -2,7 +2,7 @@
 -- what became of it becomes of all its cells. Where the cells are those of packets of rising numbers, the admitted
 -- ones are by induction all cells of some of the packets, and the refused ones all cells of the others: the packet
 -- that goes on is admitted where the mark is down, and for the rest the first cell of the next one decides.
-use Rattle.cq_ideal.proofs.Terms.{rules, ◌≡◌, ℕ, zero, suc, ◌+◌, ◌<◌, ◌≤◌, Bool, false, cond, not, List, [], ◌∷◌, filter, Option, Some, None, refl, sym, ap, ◌∙◌, ⊎_elim, arith, common_steps, nat_lt, AllByRecursion, cons_option, cond-false, lt-ltb, le-ltb, Cell, arrival_at, Admission, admitted_in, is_first, mark_after, held_after, marks_after, mark_at, unless, where_up, AreJudged, AreOfPackets, AreWholePackets, cells_at}
+use Rattle.cq_ideal.proofs.Terms.{rules, ◌≡◌, ℕ, zero, suc, ◌+◌, ◌≤◌, Bool, false, cond, not, List, [], ◌∷◌, filter, Option, Some, None, refl, ap, ◌∙◌, ⊎_elim, arith, common_steps, nat_lt, cons_option, cond-false, lt-ltb, le-ltb, Cell, arrival_at, Admission, admitted_in, is_first, mark_after, held_after, marks_after, mark_at, unless, where_up, AreJudged, AreOfPackets, AreWholePackets, cells_at}
 use Rattle.cq_ideal.proofs.Admitted.{admitted_at, its_marks}
 
 -- ## The mark of one input
@@ -29,16 +29,12 @@ pub record TakenOrRefused (next : ℕ) (mark : Bool) (came taken refused : List 
   pub are : taken ≡ filter (λ cell. is_taken cell.id.packet) came
   pub others : refused ≡ filter (λ cell. not (is_taken cell.id.packet)) came
 
-past : (b : Bool) (f : ℕ → Bool) (n : ℕ) (cell : Cell) → n ≤ cell.id.packet →
-    f cell.id.packet ≡ cond (nat_lt cell.id.packet n) b (f cell.id.packet)
-past b f n cell at = sym (cond-false (nat_lt cell.id.packet n) b (f cell.id.packet) (le-ltb cell.id.packet n at))
-
 -- what is said of the packets below some number is said of none from this cell on
 beyond : (t : Bool → Bool) (b : Bool) (f : ℕ → Bool) (n : ℕ) (cell : Cell) (came : List Cell) → n ≤ cell.id.packet →
     AreOfPackets (cell.id.packet + 1) came → filter (λ c. t (f c.id.packet)) (cell ∷ came)
     ≡ filter (λ c. t (cond (nat_lt c.id.packet n) b (f c.id.packet))) (cell ∷ came)
-beyond t b f n cell [] le are = grind (arith, common_steps, past)
-beyond t b f n cell (c ∷ came) le are = grind (arith, common_steps, past, beyond t b f n c came)
+beyond t b f n cell [] le are = grind (arith, common_steps, cond-false, le-ltb)
+beyond t b f n cell (c ∷ came) le are = grind (arith, common_steps, cond-false, le-ltb, beyond t b f n c came)
 
 step : (next : ℕ) (mark up : Bool) (x : Option Cell) (came taken refused : List Cell) → (GoesOn x → up ≡ mark) →
     AreOfPackets next (cons_option x came) → ((n : ℕ) → AreOfPackets n came → TakenOrRefused n up came taken refused) →
