@@ -1,7 +1,7 @@
 -- What the fields of a line tell. Fields are in the ranges of a kind of line exactly where they are the numbers of
 -- what the line tells, and these are in their own ranges. Fields are taken one by one, for each range asks for its
 -- own.
-use Rattle.cq_state.proofs.Terms.{rules, ◌≡◌, ℕ, zero, suc, ◌-◌, ◌^◌, ◌<◌, ◌≤◌, List, [], ◌∷◌, length, map, get_or, Option, None, Some, refl, ap, sym, ◌∙◌, arith, common_steps, length-map, ⊤, unwrap_or, AllByRecursion, Range, Within, InRange, any_number, Seen, Named, Shape, Moved, between, count, count_or_none, cell, ranges, IsCount, IsSeen, AreRankNumbers, IsNamed, IsSent, IsMoved, cell_numbers, number_at, seen_of, rank_of, named_of, sent_of, moved_of}
+use Rattle.cq_state.proofs.Terms.{fill_by_all, range_with_len, rules, ◌≡◌, ℕ, suc, ◌-◌, ◌^◌, ◌<◌, ◌≤◌, List, [], ◌∷◌, length, map, get_or, Option, None, Some, refl, arith, common_steps, length-map, ⊤, unwrap_or, AllByRecursion, Range, Within, InRange, any_number, Seen, Named, Shape, Moved, between, count, count_or_none, cell, ranges, IsCount, IsSeen, AreRankNumbers, IsNamed, IsSent, IsMoved, cell_numbers, number_at, seen_of, rank_of, named_of, sent_of, moved_of}
 
 -- ## From numbers to fields
 
@@ -37,22 +37,10 @@ named_fits ports c few is = grind (arith, common_steps)
 
 -- ## From fields to numbers
 
--- so many fields from a place on
-abbrev first_from : List (Option ℕ) → ℕ → ℕ → List (Option ℕ)
-first_from fs i zero = []
-first_from fs i (suc n) = get_or fs i None ∷ first_from fs (suc i) n
-
-first_behind : (f : Option ℕ) (fs : List (Option ℕ)) (i n : ℕ) → first_from (f ∷ fs) (suc i) n ≡ first_from fs i n
-first_behind f fs i zero = refl
-first_behind f fs i (suc n) = ap (λ gs. get_or fs i None ∷ gs) (first_behind f fs (suc i) n)
-
-all_first : (fs : List (Option ℕ)) → fs ≡ first_from fs 0 (length fs)
-all_first [] = refl
-all_first (f ∷ fs) = ap (λ gs. f ∷ gs) (all_first fs ∙ sym (first_behind f fs 0 (length fs)))
-
 -- the fields of a line without further numbers
-spread : (rs : List Range) (fs : List (Option ℕ)) → Within rs 0 fs → fs ≡ first_from fs 0 (length rs)
-spread rs fs w = grind (arith, common_steps, all_first)
+spread : (rs : List Range) (fs : List (Option ℕ)) → Within rs 0 fs →
+    fs ≡ map (λ i. get_or fs i None) (range_with_len 0 (length rs))
+spread rs fs w = let none : Option ℕ = None in fill_by_all _ fs _ none (omega (arith, w.enough, w.few)) (λ k _. refl)
 
 -- where no `-` may stand, a number within its range stands
 record IsNumber (f : Option ℕ) (least most : ℕ) : Type 0 where
