@@ -1,7 +1,7 @@
 -- Writing a state's text part by part. A part is put line by line. Parts that are put one after another are one
 -- text, which is seen from the end back: what is put last stands behind what was put before it. And where the text is
 -- too long with a part, all of it is.
-use Rattle.cq_state.proofs.Terms.{rules, ◌≡◌, ℕ, ◌+◌, ◌<◌, ◌≤◌, List, [], ◌∷◌, ◌++◌, length, map, take, get_or, Result, IfErr, ap, sym, arith, append_assoc, length-take, common_steps, flat_map, append-nil, take_more, take-append-drop, length-append, flat_map-append, Listed, Buffered, End, State, state_lines, state_text, head_lines, numbers, numbered, input_line, rank_line, cell_line, sent_line, moved_line, Line, spelled, IsTooLong, drop, parts}
+use Rattle.cq_state.proofs.Terms.{◌≡◌, ℕ, ◌+◌, ◌<◌, ◌≤◌, List, [], ◌∷◌, ◌++◌, length, take, get_or, Result, IfErr, ap, sym, arith, append_assoc, length-take, common_steps, flat_map, append-nil, take_more, take-append-drop, length-append, flat_map-append, State, state_lines, state_text, head_lines, numbered, Line, spelled, IsTooLong, drop, parts}
 use Rattle.cq_state.specs.declared.write.StateLong.{StateLong}
 
 abbrev text : List Line → List ℕ
@@ -37,15 +37,6 @@ module _ {X : Type 0} (xs : List X) (old : List ℕ) (line : ℕ → X → Line)
   lines_long r now e long =
       let all = ap (λ (ys : List X). length (text (numbered line 0 ys))) (take-append-drop i xs) in
       long_on r now _ (grind (arith, common_steps, numbered_parts, flat_map-append, length-append)) long
-
-pub state_put : (s : State) (t0 t1 t2 t3 t4 t5 t6 t7 t8 : List ℕ) → t1 ≡ t0 ++ text (head_lines s.head) →
-    t2 ≡ t1 ++ text (numbered input_line 0 s.inputs) → t3 ≡ t2 ++ text (numbered rank_line 0 s.ranks) →
-    t4 ≡ t3 ++ text (map (cell_line Listed) s.listed) → t5 ≡ t4 ++ text (map (cell_line Buffered) s.buffered) →
-    t6 ≡ t5 ++ text (map sent_line s.sent) → t7 ≡ t6 ++ text (map moved_line s.moved) →
-    t8 ≡ t7 ++ spelled (numbers End []) → t8 ≡ t0 ++ state_text s
-unfolding state_lines
-state_put s t0 t1 t2 t3 t4 t5 t6 t7 t8 head inputs ranks listed buffered sent moved end = put_behind t0 t1 t8
-    (head_lines s.head) _ head (search (arith, rules, put_behind, append-nil))
 
 -- where it is too long with one of the parts behind the head, all of it is
 part_fits : (head : List Line) (ps : List (List Line)) (k : ℕ) (t0 t1 now : List ℕ) → k < length ps →

@@ -1,12 +1,13 @@
-use Rattle.cq_state.proofs.Terms.{arith, rules, append-nil, ◌≡◌, ◌++◌, on_ok_weaker, state_text, state_lines}
-use Rattle.cq_state.proofs.Writing.{long_with, put_behind, state_put}
+use Rattle.cq_state.proofs.Terms.{arith, rules, append-nil, ◌≡◌, ◌++◌, on_ok_weaker, state_text, state_lines, head_lines}
+use Rattle.cq_state.proofs.Writing.{long_with, put_behind}
 use Rattle.cq_state.proofs.write.put_state.Goals as goal
 
 pub returns : goal.returns
 unfolding state_lines
 returns c =
     let all : c.put_numbers.new.text.items ≡ c.args.text.now.items ++ state_text c.args.state.now =
-    search (arith, rules, state_put) in
+    put_behind _ c.put_head.new.text.items _ (head_lines c.args.state.now.head) _ (search (arith, rules))
+    (search (arith, rules, put_behind, append-nil)) in
     record {
       text = on_ok_weaker c.enough.result (λ _. all) c.enough.ensures.short;
       short = search (arith, rules);
