@@ -1,5 +1,4 @@
 mod Terms
-pub mod Due
 pub mod Fields
 pub mod Written
 pub mod OneReading

@@ -1,11 +1,20 @@
 -- Reading a state's text line by line. What is gathered is what the lines that were read tell, and one line more adds
 -- what it tells: its numbers are within what the state keeps of them, since they are within the ranges of its kind.
 -- Where the text may end, its lines are those of a state, so what is gathered is that state.
-use Rattle.cq_state.proofs.Terms.{rules, ◌≡◌, ◌≢◌, ℕ, ◌+◌, ◌^◌, ◌<◌, ◌≤◌, true, List, [], ◌∷◌, ◌++◌, length, refl, ap, sym, ◌∙◌, arith, length-append, common_steps, ◌==◌, eqb-true, append-nil, one_line_more, Kind, State, AreLow, added, gathered, nothing, place_of, IsInRange, state_text, Line, Place, ComesAt, Comes, MayEnd, spelled, IsStateFault, Option, Within, ranges, further}
-use Rattle.cq_state.proofs.Due.{ReadSoFar}
+use Rattle.cq_state.proofs.Terms.{rules, ◌≡◌, ◌≢◌, ℕ, ◌+◌, ◌^◌, ◌<◌, ◌≤◌, true, List, [], ◌∷◌, ◌++◌, length, refl, ap, sym, ◌∙◌, arith, length-append, common_steps, ◌==◌, eqb-true, append-nil, one_line_more, Kind, State, AreLow, added, gathered, nothing, place_of, IsInRange, state_text, Line, Place, ComesAt, Comes, MayEnd, spelled, IsStateFault, Option, Within, ranges, further, SoFar, start}
 use Rattle.cq_state.proofs.OneText.{each_told, state_again}
 use Rattle.cq_state.proofs.Written.{Completes}
 use Rattle.cq_state.specs.declared.next.Place as kept
+
+-- the lines that were read stand at the front, lead to the place where the next one comes, and told this
+pub record ReadSoFar (text : List ℕ) (told : State) (line : ℕ) (place : kept.Place) (rest : List ℕ) : Type 0 where
+  pub lines : List Line
+  pub so_far : SoFar spelled Comes start text lines (place_of place) rest
+  pub gives : told ≡ gathered nothing lines
+  pub number : line ≡ length lines + 1
+  pub low : line + length rest ≤ length text + 1
+  pub seen : place.seen + length rest ≤ length text
+  pub few : place.ports < 2 ^ 16
 
 -- ## The numbers of a line
 

@@ -1,5 +1,5 @@
 use Rattle.cq_state.proofs.Terms.{length}
-use Rattle.cq_state.proofs.Due.{ReadSoFar}
+use Rattle.cq_state.proofs.Reading.{ReadSoFar}
 use Rattle.cq_state.proofs.read.read_text.Given as goal
 
 abbrev pub invariant-lines : goal.invariant-lines
