@@ -1,8 +1,46 @@
 -- `clap` splits the words of a command into the values that they are, and refuses none of them. Each form is
 -- run through `clap`'s own rule of a parse. Its first word is one of the subcommands by its text, so the rest
--- goes to that subcommand. There each value goes to the next positional, which has no value yet.
-use Rattle.cq_words.proofs.Terms.{common_steps, arith, rules, ◌≡◌, ◌&&◌, ℕ, suc, fold, Bool, true, false, refl, sym, List, [], ◌∷◌, Option, None, codes, is_some, if◌then◌else◌, ◌∙◌, ap, option_and_then, list_all, bytes_eq, bytes_eq-Decides, Held, Rule, Text, Walk, arg_by_index, finished, first_of, nothing_held, rows_after, to_positional, value, walked, Shape, filled, new_shape, subcommand_of, with_index, default_passes, is_valid, level_passes, settle_passes, step_passes, takes, walk_passes, command_for, is_value, with_config, captures_in, command_found, line, numbers_in, slots_in, state_in, value_rule, Command}
-use Rattle.cq_words.proofs.Plain.{at, value_taken, value_walked}
+-- goes to that subcommand. There each value goes to the next positional, which has no value yet: a value is no flag,
+-- for it is not empty and begins with no dash, so nothing of it is refused.
+use Rattle.cq_words.proofs.Terms.{IfOk-weaker, common_steps, arith, rules, ◌≡◌, ◌&&◌, ℕ, suc, fold, Bool, true, false, refl, sym, List, [], ◌∷◌, Option, None, codes, is_some, if◌then◌else◌, ◌∙◌, ap, option_and_then, list_all, bytes_eq, bytes_eq-Decides, Held, Rule, Text, Walk, arg_by_index, finished, first_of, nothing_held, rows_after, to_positional, value, walked, Shape, filled, new_shape, subcommand_of, with_index, default_passes, is_valid, level_passes, settle_passes, step_passes, takes, walk_passes, command_for, is_value, with_config, captures_in, command_found, line, numbers_in, slots_in, state_in, value_rule, Command, not, idle, word_met, turn_passes}
+use Rattle.clap.specs.Lexer.{long_of, short_of}
+
+-- ## One value
+
+not_true : (b : Bool) → not b ≡ true → b ≡ false
+not_true b h = grind (arith, common_steps)
+
+no_dashes : (text : Text) → is_value text ≡ true → bytes_eq text (45 ∷ 45 ∷ []) ≡ false
+no_dashes text h = grind (arith, common_steps, not_true)
+
+no_long : (text : Text) → is_value text ≡ true → long_of text ≡ None
+no_long text h = grind (arith, common_steps, not_true)
+
+no_short : (text : Text) → is_value text ≡ true → short_of text ≡ None
+no_short text h = grind (arith, common_steps)
+
+-- where a walk stands before the value of a positional
+abbrev at : Held → ℕ → Walk
+at held position = record { held = held; waiting = idle; position = position; is_trailing = false; stopped = None }
+
+word_is_value : (rules : List Rule) (held : Held) (position : ℕ) (text : Text) → is_value text ≡ true
+    → word_met rules [] false idle position text held ≡ (held, value)
+word_is_value rules held position text is = grind (arith, common_steps, no_dashes, no_long, no_short)
+
+-- a value goes to the positional of its place
+value_walked : (rules : List Rule) (held : Held) (position : ℕ) (text : Text) → is_value text ≡ true
+    →
+    walked rules [] (at held position) text
+    ≡ to_positional rules (arg_by_index rules position) text (at held position) held
+unfolding walked
+value_walked rules held position text is = grind (arith, common_steps, word_is_value)
+
+-- a value is refused only where its positional refuses it
+value_taken : (shape : Shape) (held : Held) (position : ℕ) (text : Text) → is_value text ≡ true
+    → turn_passes shape [] (at held position) text ≡ step_passes shape position held value
+value_taken shape held position text is = search (arith, rules, word_is_value, no_dashes, no_long, no_short)
+
+-- ## The forms
 
 -- the value of a place, as `clap` fills it in
 abbrev placed : ℕ → Text → Rule
@@ -85,31 +123,28 @@ module _ (word : Text) (rules : List Rule) where
     passes : end_passes (leaf word rules) end ≡ true → level_passes (leaf word rules) [] nothing_held vs false ≡ true
     passes ends = grind (arith, common_steps, walk_taken, values_walked)
 
-    -- a form whose command is made of what is found under the names of its values
-    form_split : (command : (Text → Option Text) → Option Command) → end_passes (leaf word rules) end ≡ true
-        → command_found (subcommand_of line (word ∷ vs)) ≡ command (λ name. first_of name (rows_after rules [] vs))
+    -- A form whose command is made of what is found under the names of its values: words that read the same as its own
+    -- are split as they are, and of others the other forms are asked.
+    as_form : (command : Text → (Text → Option Text) → Option Command) → end_passes (leaf word rules) end ≡ true
+        → command_found (subcommand_of line (word ∷ vs)) ≡ command word (λ name. first_of name (rows_after rules [] vs))
         → command_for (word ∷ vs)
-        ≡ (if list_all is_value vs then command (λ name. first_of name (finished rules end.held)) else None)
+        ≡ (if list_all is_value vs then command word (λ name. first_of name (finished rules end.held)) else None)
         → takes line (word ∷ vs) ≡ (level_passes (leaf word rules) [] nothing_held vs false && true)
-        → IsSplit (word ∷ vs)
-    form_split command ends splits is asks = (
-      splits ∙ ap command (λ k name. found name k) ∙ sym (is
-          ∙ ap (λ (b : Bool). if b then command (λ name. first_of name (finished rules end.held)) else None) are),
-      asks ∙ ap (λ (b : Bool). b && true) (passes ends),
-    )
+        → (said : Text) (x y : Option Command) → is_some (if bytes_eq said word then x else y) ≡ true →
+        (is_some y ≡ true → IsSplit (said ∷ vs)) → IsSplit (said ∷ vs)
+    as_form command ends splits is asks said x y h other =
+        let own : IsSplit (word ∷ vs) = (
+          splits ∙ ap (command word) (λ k name. found name k) ∙ sym (is ∙ ap (λ (b : Bool). if b then command word
+              (λ name. first_of name (finished rules end.held)) else None) are),
+          asks ∙ ap (λ (b : Bool). b && true) (passes ends),
+        ) in grind (arith, common_steps, bytes_eq-Decides)
 
--- ---- all words that are a command
+-- ## All words that are a command
 
 -- what has the form of a command is values, and a command
 command_values : (b : Bool) (x : Option Command) → is_some (if b then x else None) ≡ true →
     (b ≡ true) × (is_some x ≡ true)
 command_values b x h = grind (arith, common_steps)
-
--- a word that reads the same as a known one is split as that is, and of another one the other words are asked
-chosen : (word known : Text) (vs : List Text) (x y : Option Command) →
-    is_some (if bytes_eq word known then x else y) ≡ true → IsSplit (known ∷ vs) →
-    (is_some y ≡ true → IsSplit (word ∷ vs)) → IsSplit (word ∷ vs)
-chosen word known vs x y h here other = grind (arith, common_steps, bytes_eq-Decides)
 
 -- the command of one value
 abbrev config_of : Text → (Text → Option Text) → Option Command
@@ -123,33 +158,28 @@ command_split (word ∷ []) h = let bad : false ≡ true = h in cc
 command_split (word ∷ v ∷ []) h =
     let vs : List Text = v ∷ [] in
     let w = command_values (list_all is_value vs) _ h in
-    chosen word (codes "check") vs _ _ w.1
-    (form_split (codes "check") config_rules vs w.0 (refl, refl, tt) (config_of (codes "check")) refl refl refl refl)
-    (λ h. chosen word (codes "ideal") vs _ _ h
-    (form_split (codes "ideal") config_rules vs w.0 (refl, refl, tt) (config_of (codes "ideal")) refl refl refl refl)
-    (λ h. chosen word (codes "run") vs _ _ h
-    (form_split (codes "run") config_rules vs w.0 (refl, refl, tt) (config_of (codes "run")) refl refl refl refl)
-    (λ h. chosen word (codes "audit") vs _ _ h
-    (form_split (codes "audit") config_rules vs w.0 (refl, refl, tt) (config_of (codes "audit")) refl refl refl refl)
-    (λ bad. cc))))
+    as_form (codes "check") config_rules vs w.0 (refl, refl, tt) config_of refl refl refl refl word _ _ w.1 (λ h.
+    as_form (codes "ideal") config_rules vs w.0 (refl, refl, tt) config_of refl refl refl refl word _ _ h (λ h.
+    as_form (codes "run") config_rules vs w.0 (refl, refl, tt) config_of refl refl refl refl word _ _ h (λ h.
+    as_form (codes "audit") config_rules vs w.0 (refl, refl, tt) config_of refl refl refl refl word _ _ h (λ bad. cc))))
 command_split (word ∷ v ∷ u ∷ []) h =
     let vs : List Text = v ∷ u ∷ [] in
     let w = command_values (list_all is_value vs) _ h in
-    chosen word (codes "pass") vs _ _ w.1
-    (form_split (codes "pass") pass_rules vs w.0 (refl, refl, (refl, refl, tt))
-    (λ get. captures_in (get (codes "IN")) (get (codes "OUT"))) refl refl refl refl)
-    (λ h. chosen word (codes "resume") vs _ _ h
-    (form_split (codes "resume") resume_rules vs w.0 (refl, refl, (refl, refl, tt))
-    (λ get. state_in (get (codes "CONFIG")) (get (codes "STATE"))) refl refl refl refl)
-    (λ bad. cc))
+    as_form (codes "pass") pass_rules vs w.0 (refl, refl, (refl, refl, tt))
+    (λ _ get. captures_in (get (codes "IN")) (get (codes "OUT"))) refl refl refl refl word _ _ w.1 (λ h.
+    as_form (codes "resume") resume_rules vs w.0 (refl, refl, (refl, refl, tt))
+    (λ _ get. state_in (get (codes "CONFIG")) (get (codes "STATE"))) refl refl refl refl word _ _ h (λ bad. cc))
 command_split (word ∷ v ∷ u ∷ t ∷ []) h =
     let vs : List Text = v ∷ u ∷ t ∷ [] in
     let w = command_values (list_all is_value vs) _ h in
-    chosen word (codes "soak") vs _ _ w.1
-    (form_split (codes "soak") soak_rules vs w.0 (refl, refl, (refl, refl, (refl, refl, tt)))
-    (λ get. numbers_in (get (codes "SEED")) (get (codes "PORTS")) (get (codes "SLOTS"))) refl refl refl refl)
-    (λ h. chosen word (codes "part") vs _ _ h
-    (form_split (codes "part") part_rules vs w.0 (refl, refl, (refl, refl, (refl, refl, tt)))
-    (λ get. slots_in (get (codes "CONFIG")) (get (codes "SLOTS")) (get (codes "STATE"))) refl refl refl refl)
+    as_form (codes "soak") soak_rules vs w.0 (refl, refl, (refl, refl, (refl, refl, tt)))
+    (λ _ get. numbers_in (get (codes "SEED")) (get (codes "PORTS")) (get (codes "SLOTS"))) refl refl refl refl word _ _
+    w.1 (λ h. as_form (codes "part") part_rules vs w.0 (refl, refl, (refl, refl, (refl, refl, tt)))
+    (λ _ get. slots_in (get (codes "CONFIG")) (get (codes "SLOTS")) (get (codes "STATE"))) refl refl refl refl word _ _ h
     (λ bad. cc))
 command_split (word ∷ a ∷ b ∷ c ∷ d ∷ rest) h = search (arith, rules)
+
+-- ## The line is made form by form
+
+-- what holds of all that a step gives holds of what it gave
+pub ruleset when_ok = (IfOk-weaker)
