@@ -1,7 +1,7 @@
 -- Counts of what is refused. A count over two lists is the sum of the counts over each, so counts add up slot by
 -- slot, output by output. And an arriving cell is admitted or refused by the mark of its input, so it is counted
 -- once.
-use Rattle.cq_ideal.proofs.Terms.{common_steps, ◌≡◌, ℕ, ◌+◌, Bool, List, [], ◌∷◌, ◌++◌, length, filter, Option, refl, ap, ◌∙◌, append_assoc, arith, enumerate_from, filter_map, option_map, append-nil, length-append, filter-append, Cell, Refused, Admission, admitted, refused, count_for, AreAllZero, cells_refused, packets_refused, refused_at, refused_counts, refused_in, with_refused}
+use Rattle.cq_ideal.proofs.Terms.{drop_more, drop_all, common_steps, ◌≡◌, ℕ, ◌+◌, Bool, List, [], ◌∷◌, ◌++◌, length, filter, Option, refl, ap, ◌∙◌, append_assoc, arith, enumerate_from, filter_map, option_map, append-nil, length-append, filter-append, Cell, Refused, Admission, admitted, refused, count_for, AreAllZero, cells_refused, packets_refused, refused_at, refused_counts, refused_in, with_refused}
 
 -- ## Two lists of refused cells
 
@@ -12,6 +12,9 @@ count_both p before now = ap length (filter-append p before now) ∙ length-appe
 -- the counts from output j on
 abbrev pub counts_from : ℕ → List (Option ℕ) → List Cell → List Refused
 counts_from j limits cells = filter_map (λ at. option_map (refused_at cells at.0) at.1) (enumerate_from j limits)
+
+-- the limits are gone through from the front
+pub ruleset from_output = (drop_more, drop_all, append_assoc, append-nil)
 
 more_from : (j : ℕ) (limits : List (Option ℕ)) (before now : List Cell) →
     counts_from j limits (before ++ now) ≡ with_refused now (counts_from j limits before)

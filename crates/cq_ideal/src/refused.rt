@@ -20,6 +20,7 @@ pub struct Refused {
 }
 
 /// The counts of the outputs that have a limit, in order, while nothing was refused yet. The error is want of memory.
+#[tactic(auto, using(crate::proofs::Refusals::from_output), unfolding(crate::specs::Refused::refused_counts, crate::specs::Refused::cells_refused, crate::specs::Refused::packets_refused))]
 pub fn none_refused(alloc: Global, limits: &[Option<u64>]) -> Result<Vec<Refused>, NoMemory>
     requires { length limits.now ≤ most_ports }
     ensures { IfOk result (λ refused. refused.items ≡ refused_counts limits.now []) }
