@@ -142,6 +142,7 @@ impl Limiter {
 
     /// The arrivals of a slot are judged in order of input: which marks are up after it, and how many cells each
     /// output holds with those that are admitted.
+    #[tactic(auto, using(crate::proofs::Counting::judged_last, crate::proofs::Counting::one_more_fits, crate::proofs::Came::from_input))]
     pub fn judge(&mut self, arrivals: &Arrivals)
         requires few { length self.old.limits ≤ most_ports }
         requires arrivals { ComeToPorts (length self.old.limits) arrivals.now }

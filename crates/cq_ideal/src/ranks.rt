@@ -255,6 +255,7 @@ impl<R: Rank> Ranks<R> {
     }
 
     /// All outputs were idle. However many more idle slots follow, they change nothing.
+    #[tactic(auto, using(crate::proofs::Resting::resting_again))]
     pub fn rest(&mut self)
         requires few { length self.old.fixed ≤ most_ports }
         requires states { length self.old.states ≡ length self.old.fixed }

@@ -1,15 +1,8 @@
 use Rattle.cq_ideal.proofs.Terms.{rules, Some, arith}
-use Rattle.cq_ideal.proofs.Counting.{judged_last, judged_next, judged_none, one_more_fits}
+use Rattle.cq_ideal.proofs.Counting.{judged_next, judged_none}
 use Rattle.cq_ideal.proofs.Came.{from_input}
 use Rattle.cq_ideal.proofs.limiter.Limiter.judge.Goals as goal
 use Rattle.cq_ideal.proofs.limiter.Limiter.judge.Goals.{in-Some, in-None}
-
-pub inputs-init : goal.inputs-init
-inputs-init c = search (arith, rules)
-
-pub turn-requires-clause-few : goal.turn-requires-clause-few
-turn-requires-clause-few c =
-    search (arith, rules, from_input, one_more_fits, c.requires.held, c.requires.arrivals.outputs)
 
 pub inputs-preserved : goal.inputs-preserved
 inputs-preserved c =
@@ -19,6 +12,3 @@ inputs-preserved c =
       | in-Some w ↦ rw w.self-is (search (arith, rules, next w.turn.new.self (Some w.in-Some.cell), out, from_input))
       | in-None w ↦ rw w.self-is (search (arith, rules, judged_none c.inputs.invariant, from_input))
     ]
-
-pub returns : goal.returns
-returns c = search (arith, rules, judged_last)
