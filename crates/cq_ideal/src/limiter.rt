@@ -201,6 +201,7 @@ impl Limiter {
 
     /// The cells of a slot that were refused as it was judged are counted. Where no output has a limit there is nothing
     /// to count, and no arrival is looked at.
+    #[tactic(auto, using(crate::proofs::Counting::fewer_left, crate::proofs::Counting::none_counted, crate::proofs::Refusals::from_output))]
     pub fn count(&mut self, arrivals: &Arrivals)
         requires few { length self.old.limits ≤ most_ports }
         requires refused { CanCount (length self.old.limits) self.old.refused }

@@ -9,6 +9,7 @@ use cq_base::{Departure, Room, Slot};
 use cq_rank::Rank;
 
 /// Each output sends the first cell of its list, or is idle, and its machine is told. It holds that cell no longer.
+#[tactic(auto, unfolding(crate::specs::IdealSlot::departures_in))]
 pub fn send<R: Rank>(
     ranks: &mut Ranks<R>,
     queues: &mut Queues,

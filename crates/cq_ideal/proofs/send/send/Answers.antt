@@ -1,13 +1,9 @@
-use Rattle.cq_ideal.proofs.Terms.{rules, arith, length-map, departures_in, append-nil}
+use Rattle.cq_ideal.proofs.Terms.{rules, arith, length-map, append-nil}
 use Rattle.cq_ideal.proofs.Holding.{holds_some, holds_without}
 use Rattle.cq_ideal.proofs.Sending.{HasSent, sending_next, sending_last, length-told}
 use Rattle.cq_ideal.proofs.Came.{fit_same}
 use Rattle.cq_ideal.proofs.send.send.Goals as goal
 use Rattle.cq_ideal.proofs.send.send.Goals.{in-Some, in-None}
-
-pub outputs-init : goal.outputs-init
-unfolding departures_in
-outputs-init g c = search (arith, rules)
 
 pub sent-requires : goal.sent-requires
 sent-requires g c =

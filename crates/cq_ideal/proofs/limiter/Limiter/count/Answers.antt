@@ -1,19 +1,7 @@
-use Rattle.cq_ideal.proofs.Terms.{rules, List, sym, ap, ◌∙◌, arith, Bool, arrival_at, mark_at, where_up, nil_from_length, drop_all}
-use Rattle.cq_ideal.proofs.Counting.{counting_none, counting_some, fewer_left, none_counted}
+use Rattle.cq_ideal.proofs.Terms.{rules, List, sym, ap, ◌∙◌, arith, Bool, arrival_at, mark_at, where_up}
+use Rattle.cq_ideal.proofs.Counting.{counting_none, counting_some}
 use Rattle.cq_ideal.proofs.limiter.Limiter.count.Goals as goal
 use Rattle.cq_ideal.proofs.limiter.Limiter.count.Goals.{in-Some, in-None}
-
-pub returns-then-counts-eq0-clause-refused : goal.returns-then-counts-eq0-clause-refused
-returns-then-counts-eq0-clause-refused c = search (arith, rules, nil_from_length)
-
-pub inputs-init : goal.inputs-init
-inputs-init c = search (arith, rules, fewer_left)
-
-pub refused_at-requires : goal.refused_at-requires
-refused_at-requires c = search (arith, rules)
-
-pub tally-requires : goal.tally-requires
-tally-requires c = search (arith, rules, fewer_left)
 
 pub inputs-preserved : goal.inputs-preserved
 inputs-preserved c =
@@ -29,6 +17,3 @@ inputs-preserved c =
           w.tally.ensures.held w.tally.ensures.limits)
       | in-None w ↦ rw w.self-is (search (arith, rules, counting_none c.inputs.invariant has few, here))
     ]
-
-pub returns-clause-refused : goal.returns-clause-refused
-returns-clause-refused c = search (arith, rules, drop_all, none_counted)

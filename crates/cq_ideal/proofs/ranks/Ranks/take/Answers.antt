@@ -4,9 +4,6 @@ use Rattle.cq_ideal.proofs.Came.{in_turn_next, in_turn_fault, in_turn_last}
 use Rattle.cq_ideal.proofs.ranks.Ranks.take.Goals as goal
 use Rattle.cq_ideal.proofs.ranks.Ranks.take.Goals.{in-None, in-Some+in_ok-queued-in-Some}
 
-pub inputs-init : goal.inputs-init
-inputs-init g c = search (arith, rules, c.begin.ensures.beyond)
-
 pub inputs-preserved : goal.inputs-preserved
 inputs-preserved g c =
     let next = in_turn_next c.inputs.invariant in
