@@ -1,12 +1,5 @@
-use Rattle.cq_state.proofs.Terms.{arith, rules, ends_well}
-use Rattle.cq_state.proofs.Reading.{low_line, line_told, state_told}
+use Rattle.cq_state.proofs.Reading.{state_told}
 use Rattle.cq_state.proofs.read.read_text.Goals as goal
-
-pub add-requires : goal.add-requires
-add-requires c = search (arith, rules, low_line)
-
-pub lines-preserved : goal.lines-preserved
-lines-preserved c = search (arith, rules, line_told, ends_well)
 
 pub returns-then-may_end-clause-read : goal.returns-then-may_end-clause-read
 returns-then-may_end-clause-read c =

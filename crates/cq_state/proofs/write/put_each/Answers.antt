@@ -1,4 +1,4 @@
-use Rattle.cq_state.proofs.Terms.{arith, rules, take_all, ◌+◌, ap, line_by}
+use Rattle.cq_state.proofs.Terms.{arith, rules, ◌+◌, ap, line_by}
 use Rattle.cq_state.proofs.Writing.{line_put, lines_long}
 use Rattle.cq_state.proofs.Written.{map_numbered, plain}
 use Rattle.cq_state.proofs.write.put_each.Goals as goal
@@ -20,6 +20,3 @@ items-preserved g c =
           c.items-test.true c.items.invariant.lines (ap line c.item-item.is) c.in_ok-put.ensures;
       short = search (arith, rules);
     }
-
-pub returns-clause-lines : goal.returns-clause-lines
-returns-clause-lines g c = search (arith, rules, map_numbered, take_all)
