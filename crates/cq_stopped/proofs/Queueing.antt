@@ -1,12 +1,13 @@
 -- What the cells of a slot are ranked: each has the level of its class, a rank that fits, and one that is no less than
 -- the floor that its class had before the slot, since no rank that is given lowers a floor. And how they queue up at an
--- output. A cell that comes has another name than each that came before it, and of its flow each came in an earlier
--- slot. In the order of keys none of these stands behind it: each has its level and no greater rank. So of each two
--- cells, what left the output and then what waits there, the one ahead goes before the other as it did.
-use Rattle.cq_stopped.proofs.Terms.{rules, ◌≡◌, ℕ, zero, suc, ◌+◌, ◌<◌, ◌≤◌, ◌^◌, Bool, true, false, cond, List, [], ◌∷◌, length, Option, Some, None, Result, Ok, Err, refl, arith, ◌++◌, cases_eq, ltb-true, both_ways, cases_lt, cond_both, eq-eqb, eqb-true, le-ltb, lt-ltb, false_from_ne_true, common_steps, get_or-set_other, get_or-set_same, length-set, same_Some, AllByRecursion, is_some, slice_index_or, slice_set, arrival_at, is_for, put, Cell, Queued, came_from, only_ok, all_told, put_all, Ranking, ranking, all_put, among_put, IsAmong, came_to, KeepLaws, Machine, machine_at, EachPair, all_weaker, all_both, all_front, all_back, after_input_ok, key_laws, TagFault, Key, NoLater, in_order_put, given_floor, all_from_has, all_of_has, all_made}
+-- output. A cell that comes has another name than each that came before it, of its flow each came in an earlier slot,
+-- and each of its class that waits has the lesser key: its level and no greater rank. So of two in the order of keys
+-- the one ahead goes before the other, as what left the output goes before both.
+use Rattle.cq_stopped.proofs.Terms.{rules, ◌≡◌, ℕ, zero, suc, ◌+◌, ◌<◌, ◌≤◌, ◌^◌, Bool, true, false, cond, List, [], ◌∷◌, length, Option, Some, None, Result, Ok, Err, refl, arith, ◌++◌, cases_eq, ltb-true, both_ways, cases_lt, cond_both, eq-eqb, eqb-true, le-ltb, lt-ltb, false_from_ne_true, common_steps, get_or-set_other, get_or-set_same, length-set, same_Some, AllByRecursion, is_some, slice_index_or, slice_set, arrival_at, is_for, put, Cell, Queued, came_from, only_ok, all_told, put_all, Ranking, ranking, all_put, among_put, IsAmong, came_to, KeepLaws, Machine, machine_at, EachPair, all_weaker, all_both, all_front, all_back, after_input_ok, key_laws, TagFault, Key, NoLater, in_order_put, given_floor, all_from_has, all_of_has, all_made, inl, inr, ⊎_elim, ◌⊎◌, CameFor, Has, IsBefore, IsRising, among_put_all, has_left, has_right, never_both, not_before_itself, pair_of_has, pairs_cross, pairs_joined, pairs_left, pairs_right, rising_put_all}
 use Rattle.cq_base.specs.Key.{is_before}
 use Rattle.cq_ideal.specs.Ranking.{keyed}
 use Rattle.cq_stopped.proofs.Configured.{AreLow, KeepsLow}
+use Rattle.cq_stopped.proofs.Joined.{pairs_both, pairs_in}
 use Rattle.cq_stopped.proofs.Ran.{Follows}
 
 fits : (b : Bool) (x : Result Ranking TagFault) (fault : TagFault) (r : Ranking) → cond b x (Err fault) ≡ Ok r →
@@ -111,70 +112,37 @@ pub is_less : (a b : Key) → a.level ≡ b.level → a.rank ≤ b.rank → a.sl
 unfolding is_before
 is_less a b level rank slot = search (arith, rules, lt-ltb, le-ltb, eq-eqb, cases_lt)
 
--- ## One cell is put
+-- ## What comes goes behind what was there
 
-module _ (R : Queued → Queued → Type 0) (q : Queued) where
-  -- where the cell is put, what is not before it may stand behind it
-  abbrev MayStandBehind : Queued → Type 0
-  MayStandBehind y = is_before y.key q.key ≡ false → R q y
+module _ (j slot : ℕ) (came : List (Option Queued)) (left waiting : List Queued)
+    (before : (x : Queued) → Has (left ++ waiting) x → x.key.slot < slot)
+    (come : (k : ℕ) (q : Queued) → came_to came k ≡ Some q → (q.key.slot ≡ slot) × (q.key.input ≡ k))
+    (rising : IsRising waiting) (pairs : EachPair Follows (left ++ waiting))
+    (less : (x q : Queued) → Has waiting x → CameFor came j q → x.cell.class ≡ q.cell.class → IsBefore x q) where
+  old_first : (x q : Queued) → Has (left ++ waiting) x → CameFor came j q → Follows x q
+  old_first x q has new = grind (arith, before x has, come new.0 q new.1)
 
-  pub put_pairs : (left xs : List Queued) → EachPair NoLater xs → EachPair R (left ++ xs) →
-      AllByRecursion (λ x. R x q) (left ++ xs) → AllByRecursion MayStandBehind xs → EachPair R (left ++ put q xs)
-  put_pairs [] [] order pairs ahead after = (tt, tt)
-  put_pairs [] (x ∷ xs) order pairs ahead after =
-      let rest = put_pairs [] xs order.1 pairs.1 ahead.1 after.1 in
-      search (arith, rules, cond_both, key_laws, all_from_has, all_of_has, both_ways, false_from_ne_true, all_put)
-  put_pairs (z ∷ zs) xs order pairs ahead after =
-      grind (arith, common_steps, all_front, all_put, all_back, put_pairs zs xs order pairs.1 ahead.1 after)
+  -- of two in the order of keys the first goes ahead
+  goes_ahead : (x q : Queued) → Has waiting x ⊎ CameFor came j x → Has waiting q ⊎ CameFor came j q → IsBefore x q →
+      Follows x q
+  goes_ahead x q (inl a) (inl b) ahead =
+      let both = pairs_both IsBefore Follows waiting rising (pairs_right Follows left waiting pairs) in
+      grind (arith, common_steps, pair_of_has _ waiting x q both a b, never_both, not_before_itself)
+  goes_ahead x q (inl a) (inr new) ahead = old_first x q (has_right left waiting x a) new
+  goes_ahead x q (inr new) (inl b) ahead =
+      let earlier = before q (has_right left waiting q b) in
+      grind (arith, common_steps, earlier, come new.0 x new.1, less q x b new, never_both)
+  goes_ahead x q (inr a) (inr b) ahead =
+      grind (arith, common_steps, come a.0 x a.1, come b.0 q b.1, not_before_itself)
 
--- ## The cells of a slot are put
+  rises : IsRising (put_all j came waiting)
+  rises = rising_put_all j came waiting rising
+      (λ k q d is has. grind (arith, common_steps, before d (has_right left waiting d has), come k q is))
+      (λ k l q r a b. grind (arith, common_steps, come k q a, come l r b))
 
-module _ (j slot : ℕ) where
-  -- the cell came before this input's arrival of the slot
-  pub record IsEarlier (a : ℕ) (x : Queued) : Type 0 where
-    pub came : x.key.slot ≤ slot
-    pub before : x.key.slot ≡ slot → x.key.input < a
-
-  earlier_on : (a : ℕ) (xs : List Queued) → AllByRecursion (IsEarlier a) xs → AllByRecursion (IsEarlier (a + 1)) xs
-  earlier_on a xs all = grind (arith, common_steps, all_weaker)
-
-  -- each comes in the slot at its input, these from input a on
-  abbrev pub Come : ℕ → List (Option Queued) → Type 0
-  Come a came = (k : ℕ) (q : Queued) → came_to came k ≡ Some q → (q.key.slot ≡ slot) × (q.key.input ≡ a + k)
-
-  come_on : (a : ℕ) (o : Option Queued) (came : List (Option Queued)) → Come a (o ∷ came) → Come (a + 1) came
-  come_on a o came come k q at = let is = come (suc k) q at in (is.0, omega arith)
-
-  -- what waits of an earlier slot has the lesser key, if it is of one class
-  abbrev pub OldAhead : List (Option Queued) → List Queued → Type 0
-  OldAhead came xs = (k : ℕ) (q x : Queued) → came_to came k ≡ Some q → q.cell.output ≡ j → IsAmong x xs →
-      x.key.slot < slot → x.cell.class ≡ q.cell.class → is_before x.key q.key ≡ true
-
-  module _ (a : ℕ) (q : Queued) (slot_is : q.key.slot ≡ slot) (input_is : q.key.input ≡ a) where
-    ahead : (x : Queued) → IsEarlier a x → Follows x q
-    ahead x e = grind (arith, common_steps, e.before, cases_lt)
-
-    stands_behind : (x : Queued) → IsEarlier a x →
-        (x.key.slot < slot → x.cell.class ≡ q.cell.class → is_before x.key q.key ≡ true) →
-        is_before x.key q.key ≡ false → Follows q x
-    stands_behind x e old late = grind (arith, common_steps, e.before, both_ways, cases_lt)
-
-  pub pairs_put_all : (came : List (Option Queued)) (a : ℕ) (left xs : List Queued) → Come a came →
-      AllByRecursion (IsEarlier a) (left ++ xs) → OldAhead came xs → EachPair NoLater xs →
-      EachPair Follows (left ++ xs) → EachPair Follows (left ++ put_all j came xs)
-  pairs_put_all [] a left xs come earlier old order pairs = pairs
-  pairs_put_all (None ∷ came) a left xs come earlier old order pairs = pairs_put_all came (a + 1) left xs
-      (come_on a None came come) (earlier_on a (left ++ xs) earlier) (λ k. old (suc k)) order pairs
-  pairs_put_all (Some q ∷ came) a left xs come earlier old order pairs =
-      let slot_is = (come zero q refl).0 in
-      let input_is : q.key.input ≡ a = (let is = (come zero q refl).1 in omega arith) in
-      let waits = all_back (IsEarlier a) left xs earlier in
-      cond_both (is_for j q) (put q xs) xs (λ l. EachPair Follows (left ++ put_all j came l))
-      (λ here. pairs_put_all came (a + 1) left (put q xs) (come_on a (Some q) came come)
-      (search (arith, rules, all_both, earlier_on, all_front, all_put)) (λ k p x at output among before class.
-      search (arith, rules, among_put x q xs among, old (suc k)))
-      (in_order_put q xs order)
-      (put_pairs Follows q left xs order pairs (search (arith, rules, all_weaker, ahead))
-      (search (arith, rules, all_from_has, stands_behind a q slot_is input_is, all_of_has, old zero q, eqb-true))))
-      (λ other. pairs_put_all came (a + 1) left xs (come_on a (Some q) came come) (earlier_on a (left ++ xs) earlier)
-      (λ k. old (suc k)) order pairs)
+  pub pairs_next : EachPair Follows (left ++ put_all j came waiting)
+  pairs_next =
+      let new = among_put_all j came waiting in
+      pairs_joined Follows left _ (pairs_left Follows left waiting pairs)
+      (pairs_in IsBefore Follows _ (λ x q a b. goes_ahead x q (new x a) (new q b)) rises) (λ x q a b.
+      ⊎_elim (pairs_cross Follows left waiting x q pairs a) (old_first x q (has_left left waiting x a)) (new q b))

@@ -1,11 +1,11 @@
 -- One slot of a run that may be stopped. The ideal switch goes on beside the fabric. At each output the cells that
 -- come queue up behind those that left and those that wait, and where one leaves it is the first that waits: what left
 -- and then what waits is the same list. So what is known before the slot is known after it.
-use Rattle.cq_stopped.proofs.Terms.{rules, ◌≡◌, ℕ, zero, suc, ◌+◌, ◌<◌, ◌≤◌, List, [], ◌∷◌, ◌++◌, length, Option, Some, None, Ok, ◌∙◌, ◌⊎◌, ⊎_elim, arith, length-append, cases_lt, common_steps, append_assoc, get_or-append-add, get_or-map, get_or_append_left, get_or_past, length-map, append-nil, get_or-replicate, length-replicate, AllByRecursion, slice_get, slice_index_or, arrival_at, arriving, arriving_at, Cell, Departure, Queued, admitted_arrives, Came, came_from, present, Served, listed, served, HasWaited, Marked, admission, arriving_from, departures_of, empty_ideal, IdealState, all_told, departures_from, departures_in, filled, fronts, ideal_slot, put_all, rests, AreForPorts, ranking, CameFor, Keyed, limited_empty_agree, keyed, ports_kept, same_slot, SendsAlike, Agrees, Fabric, input, empty_fabric, FabricSlot, LimitedFabricSlot, LimitedRecord, slots_in, came_to, gone_in, list_of, IsInputBest, IsStable, all_both, all_weaker, found_at, has_there, Has, all_from_has, all_of_has, has_cases, has_left, has_right, opening, Runs, Switch, fewer, HasFor, length-filled, rest_of, among_put_all, list_after, put_all_keeps, put_all_new, stable_slot, admission_for_ports, arrivals_for, place_of, RunBy, came_or_was, was_waiting, marks_kept}
+use Rattle.cq_stopped.proofs.Terms.{rules, ◌≡◌, ℕ, zero, suc, ◌+◌, ◌<◌, ◌≤◌, List, [], ◌∷◌, ◌++◌, length, Option, Some, None, Ok, ◌∙◌, ◌⊎◌, ⊎_elim, arith, length-append, cases_lt, common_steps, append_assoc, get_or-append-add, get_or-map, get_or_append_left, get_or_past, length-map, ◌↔◌, append-nil, get_or-replicate, length-replicate, AllByRecursion, slice_get, slice_index_or, arrival_at, arriving, arriving_at, Cell, Departure, Queued, admitted_arrives, Came, came_from, present, Served, listed, served, HasWaited, Marked, admission, arriving_from, departures_of, empty_ideal, IdealState, all_told, departures_from, departures_in, filled, fronts, ideal_slot, put_all, rests, AreForPorts, ranking, CameFor, Keyed, limited_empty_agree, keyed, ports_kept, same_slot, SendsAlike, Agrees, Fabric, input, empty_fabric, FabricSlot, LimitedFabricSlot, LimitedRecord, slots_in, came_to, gone_in, list_of, IsInputBest, IsStable, all_both, all_weaker, found_at, has_there, Has, all_from_has, all_of_has, has_cases, has_left, has_right, opening, Runs, Switch, fewer, HasFor, length-filled, rest_of, among_put_all, list_after, put_all_keeps, put_all_new, stable_slot, admission_for_ports, arrivals_for, place_of, RunBy, came_or_was, was_waiting, marks_kept, IsBefore}
 use Rattle.cq_ideal.specs.IdealSlot.{Sent}
 use Rattle.cq_stopped.proofs.Configured.{IsConfigured}
 use Rattle.cq_stopped.proofs.Lined.{each_departs, left_more}
-use Rattle.cq_stopped.proofs.Queueing.{IsEarlier, OldAhead, is_less, pairs_put_all, IsKnown, IsRanked, ranked_from}
+use Rattle.cq_stopped.proofs.Queueing.{is_less, pairs_next, IsKnown, IsRanked, ranked_from}
 use Rattle.cq_stopped.proofs.Ran.{IsHeld, IsKeyed, IsOwn, IsSentRight, Known, Lane, came_in, left_at, pool_at, came_of}
 
 -- what holds of each cell at its place holds of those that are present
@@ -15,17 +15,12 @@ all_present P [] each = tt
 all_present P (o ∷ cells) each = grind (arith, common_steps, all_present P cells (λ k. each (suc k)), each zero)
 
 -- what came up to a slot, and what came in it
-module _ (cs : List (List (Option Queued))) (c : List (Option Queued)) (n : ℕ) (long : length cs ≡ n) (i : ℕ) where
-  came_still : (t : ℕ) (q : Queued) → came_in cs t i ≡ Some q → came_in (cs ++ c ∷ []) t i ≡ Some q
-  came_still t q is = grind (arith, common_steps, get_or_append_left, get_or_past, cases_lt t n)
-
-  came_now : came_in (cs ++ c ∷ []) n i ≡ came_to c i
-  came_now = grind (arith, common_steps, came_in, get_or-append-add)
-
 came_then : (cs : List (List (Option Queued))) (c : List (Option Queued)) (t i : ℕ) (q : Queued) →
-    came_in (cs ++ c ∷ []) t i ≡ Some q → (came_in cs t i ≡ Some q) ⊎ ((length cs ≡ t) × (came_to c i ≡ Some q))
-came_then cs c t i q is =
-    grind (arith, common_steps, get_or_append_left, get_or-append-add, get_or_past, cases_lt t (length cs))
+    (came_in (cs ++ c ∷ []) t i ≡ Some q) ↔ ((came_in cs t i ≡ Some q) ⊎ ((length cs ≡ t) × (came_to c i ≡ Some q)))
+came_then cs c t i q = (
+  λ is. grind (arith, common_steps, get_or_append_left, get_or-append-add, get_or_past, cases_lt t (length cs)),
+  λ at. grind (arith, common_steps, get_or_append_left, get_or-append-add, get_or_past, cases_lt t (length cs)),
+)
 
 -- a cell of the fabric is one of its output
 pub own_at : (w : Switch) (n : ℕ) (f : Fabric) (ideal : IdealState) (cs : List (List (Option Queued)))
@@ -168,8 +163,8 @@ module _ (w : Switch) (ranks : List (List ℕ)) (configured : IsConfigured w ran
       own_all = all_from_has (IsOwn w (n + 1) j) (left j ++ full j)
           (λ q has. grind (arith, common_steps, was_or_new j q, new_own q, all_of_has (IsOwn w n j), keyed))
 
-      old_ahead : OldAhead j n came (waiting j)
-      old_ahead k q x at output among before class =
+      old_less : (x q : Queued) → Has (waiting j) x → CameFor came j q → x.cell.class ≡ q.cell.class → IsBefore x q
+      old_less x q has new class =
           search (arith, rules, its_rank, its_came, is_less, all_of_has, HasWaited, lane.stands.waited)
 
       its_served : Served w.machines j n (configured.laws j inside) 0 0 (present r.admission.cells) ideal
@@ -179,9 +174,9 @@ module _ (w : Switch) (ranks : List (List ℕ)) (configured : IsConfigured w ran
 
       next_lane : Lane w (n + 1) j (slice_index_or next.ranks j []) (left_at j sent_next) (list_of next.lists j)
       next_lane =
-          let it = pairs_put_all j n came 0 (left j) (waiting j) (search (arith, rules, its_came))
-          (grind (arith, common_steps, all_weaker, IsOwn, IsEarlier, left_at)) old_ahead in
-          search (rules, pool_is j inside, its_served, own_all, it, lane.stands.order, lane.pairs)
+          let it = pairs_next j n came (left j) (waiting j) (search (rules, all_of_has, IsOwn, lane.own))
+          (search (arith, rules, its_came)) (known.agrees.rising j) lane.pairs old_less in
+          search (rules, pool_is j inside, its_served, own_all, it)
 
     -- ## Departures
 
@@ -213,11 +208,11 @@ module _ (w : Switch) (ranks : List (List ℕ)) (configured : IsConfigured w ran
           search (arith, rules, was_waiting step.runs.finish.moves, before, came_or_was, its_keys, known.placed);
       departed = departed_next;
       long = grind (arith, common_steps, length-append);
-      origin = λ j q inside has.
-          search (arith, rules, came_still cs came n, its_came, came_now cs came n, was_or_new j q, pool_is j inside);
+      origin = λ j q inside has. (came_then cs came q.key.slot q.key.input q).1
+          (search (arith, rules, its_came, was_or_new j q, pool_is j inside));
       held = λ t i q is. ⊎_elim (search (arith, rules, known.held, many, held_at, pool_keeps q.cell.output q))
           (λ now. search (arith, rules, its_came i q now.1, its_keys.outputs i q, held_at, has_right, put_all_new))
-          (came_then cs came t i q is);
+          ((came_then cs came t i q).0 is);
     }
 
     slot_known : KnownSlot w n (arriving w.came n) f r g

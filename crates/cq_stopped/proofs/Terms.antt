@@ -1,9 +1,9 @@
 -- The words of this crate's proofs that stand elsewhere, each passed on from its place.
-pub use Rattle.cq_base.proofs.Library.{AllByRecursion, AllPairs, Bool, Err, IsSome, List, None, Ok, Option, Result, Some, [], and_from, and_parts, and_right, ap, append-nil, append_assoc, arith, both_ways, cases_Bool, cases_eq, cases_lt, common_steps, cond, cond_both, cons_option, count_by, enumerate_from, eq-eqb, eqb, eqb-true, false, false_from_ne_true, fill_by_all, filter, filter-append, filter_map, flat_map, fold, get_or-append-add, get_or-map, get_or-map-range_with_len, get_or-replicate, get_or-set_other, get_or-set_same, get_or_append_left, get_or_past, inl, inr, is_some, le-ltb, length, length-append, length-insert, length-map, length-map-range_with_len, length-replicate, length-set, list_any, lt-leb, lt-ltb, ltb-true, map, map-append, max, min, ne_eqb, not, option_map, range_with_len, refl, replicate, rules, same_Some, slice_get, slice_index_or, slice_set, suc, sum, sum_by, sum_by-append, sum_by-cons, sym, true, zero, ℕ, ⊎_elim, ◌&&◌, ◌*◌, ◌++◌, ◌+◌, ◌-◌, ◌<◌, ◌==◌, ◌^◌, ◌∙◌, ◌∷◌, ◌≡◌, ◌≢◌, ◌≤◌, ◌⊎◌}
+pub use Rattle.cq_base.proofs.Library.{AllByRecursion, AllPairs, Bool, Err, IsSome, List, None, Ok, Option, Result, Some, [], and_from, and_parts, and_right, ap, append-nil, append_assoc, arith, both_ways, cases_Bool, cases_eq, cases_lt, common_steps, cond, cond_both, cons_option, count_by, enumerate_from, eq-eqb, eqb, eqb-true, false, false_from_ne_true, fill_by_all, filter, filter-append, filter_map, flat_map, fold, get_or-append-add, get_or-map, get_or-map-range_with_len, get_or-replicate, get_or-set_other, get_or-set_same, get_or_append_left, get_or_past, inl, inr, is_some, le-ltb, length, length-append, length-insert, length-map, length-map-range_with_len, length-replicate, length-set, list_any, lt-leb, lt-ltb, ltb-true, map, map-append, max, min, ne_eqb, not, option_map, range_with_len, refl, replicate, rules, same_Some, slice_get, slice_index_or, slice_set, suc, sum, sum_by, sum_by-append, sum_by-cons, sym, true, zero, ℕ, ⊎_elim, ◌&&◌, ◌*◌, ◌++◌, ◌+◌, ◌-◌, ◌<◌, ◌==◌, ◌^◌, ◌↔◌, ◌∙◌, ◌∷◌, ◌≡◌, ◌≢◌, ◌≤◌, ◌⊎◌}
 pub use Rattle.cq_base.specs.{Arrivals.arrival_at, declared.cell.Cell.Cell, declared.cell.Departure.Departure, declared.cell.Queued.Queued, declared.cell.Transfer.Transfer}
 pub use Rattle.cq_base.specs.Arriving.{Arrival, arriving_at}
 unfoldable pub use Rattle.cq_base.specs.Arriving.{arriving}
-pub use Rattle.cq_base.specs.Cells.{IsBefore, is_for, put}
+pub use Rattle.cq_base.specs.Cells.{IsBefore, IsRising, is_for, put}
 pub use Rattle.cq_base.specs.Items.{EachPair, Has}
 pub use Rattle.cq_base.specs.Limits.{level_count, longest_file, most_classes, most_ports}
 pub use Rattle.cq_route.specs.Tables.{AreTables}
@@ -35,7 +35,7 @@ pub use Rattle.cq_laws.proofs.AfterArrivals.{CameFor, Keyed, arrived_has, came_o
 pub use Rattle.cq_laws.proofs.LimitedWhole.{fabric_judged, limited_empty_agree}
 pub use Rattle.cq_laws.proofs.Members.{among_put, was_waiting}
 pub use Rattle.cq_laws.proofs.OneSlot.{after_sent, arrived, keyed, old_sound, ports_kept, same_slot}
-pub use Rattle.cq_laws.proofs.Sound.{Sound, apart_from, not_before_itself}
+pub use Rattle.cq_laws.proofs.Sound.{Sound, apart_from, never_both, not_before_itself}
 pub use Rattle.cq_laws.specs.Agreement.{Agrees, SendsAlike}
 pub use Rattle.cq_laws.specs.Fabric.{Fabric, IsAmong, IsFabric, buffer, cushion_of, empty_fabric, input}
 pub use Rattle.cq_laws.specs.FabricSlot.{FabricSlot, SlotRecord}
@@ -79,7 +79,7 @@ pub use Rattle.cq_ideal.proofs.EnoughSlots.{waiting-empty}
 pub use Rattle.cq_ideal.proofs.{Ends.nothing_left, FlowCount.come_count-first, FlowLaw.all_in_range, FlowPut.NoLater, FlowPut.in_order_put, Packets.refused_here, Parted.arriving_length, Refusals.counts_more}
 pub use Rattle.cq_ideal.specs.{Limiter.where_up, declared.refused.Refused.Refused}
 pub use Rattle.cq_state.specs.declared.state.Seen.{Seen}
-pub use Rattle.cq_laws.proofs.{AfterTransfer.moved_has, Falls.rest_of, IdealLists.among_put_all, IdealLists.list_after, IdealLists.put_all_keeps, IdealLists.put_all_new, InputBest.stable_slot, InputBest.stable_limited_too, LimitedSlots.admission_for_ports, WholeRuns.empty_together, WholeRuns.empty_list}
+pub use Rattle.cq_laws.proofs.{AfterTransfer.moved_has, Falls.rest_of, IdealLists.among_put_all, IdealLists.list_after, IdealLists.put_all_keeps, IdealLists.put_all_new, IdealLists.rising_put_all, InputBest.stable_slot, InputBest.stable_limited_too, LimitedSlots.admission_for_ports, WholeRuns.empty_together, WholeRuns.empty_list}
 pub use Rattle.cq_laws.specs.SlotBySlot.{RunBy}
 pub use Rattle.cq_resume.proofs.{Coming.is_between, Coming.one_comes, Judging.packets_alike, Judging.tally_is, Scheduling.schedule_known, Tallied.whole, Upheld.all_stand, Upheld.tallies_up, Walking.cells_in}
 pub use Rattle.cq_resume.specs.declared.found.Name.{Name}
