@@ -1,6 +1,6 @@
 -- Lists that are joined, sifted and mapped: what they have, and what holds of each of their items and each that stands
 -- behind it.
-use Rattle.cq_stopped.proofs.Terms.{common_steps, rules, ◌≡◌, ℕ, zero, suc, ◌<◌, Bool, List, [], ◌∷◌, map, refl, ⊎_elim, arith, length, ◌+◌, Option, Some, ◌==◌, filter, slice_index_or, AllByRecursion, AllPairs, flat_map, filter_map, range_with_len, eq-eqb, cases_Bool, ne_eqb, append-nil, filter-append, EachPair, all_pairs, pairs_with, Has, all_from_has, all_of_has, has_left, has_right, has_cases, has_image, has_kept, sym, fill_by_all, pairs_joined, pairs_mapped, all_give, filter_all, filter_none}
+use Rattle.cq_stopped.proofs.Terms.{common_steps, rules, ◌≡◌, ℕ, zero, suc, ◌<◌, Bool, List, [], ◌∷◌, map, refl, ⊎_elim, arith, length, ◌+◌, Option, Some, ◌==◌, filter, slice_index_or, AllPairs, flat_map, filter_map, range_with_len, eq-eqb, cases_Bool, ne_eqb, append-nil, filter-append, EachPair, all_pairs, pairs_with, Has, all_from_has, has_left, has_right, has_cases, has_image, has_kept, sym, fill_by_all, pairs_joined, pairs_mapped, all_give, filter_all, filter_none}
 
 module _ {X : Type 0} where
   -- ## Lists end on end
@@ -98,16 +98,3 @@ module _ {X Y : Type 0} (number : X → ℕ) (f : X → Y) where
 
   pub has_number : (xs : List X) (y : X) (j : ℕ) → number y ≡ j → Has xs y → Has (of_number j xs) (f y)
   has_number xs y j same has = grind (arith, common_steps, has_image, has_kept, eq-eqb)
-
-  module _ (R : Y → Y → Type 0) where
-    first_pairs : (x : X) (xs : List X) → EachPair R (of_number (number x) (x ∷ xs)) →
-        AllByRecursion (λ y. number x ≡ number y → R (f x) (f y)) xs
-    first_pairs x xs pairs =
-        let rest = filter (λ z. number z == number x) xs in
-        search (arith, rules, all_from_has, all_of_has (R (f x)) (map f rest), has_number xs)
-
-    -- what holds of each pair of one number
-    pub pairs_by_number : (P : ℕ → Type 0) (xs : List X) → AllByRecursion (λ x. P (number x)) xs →
-        ((j : ℕ) → P j → EachPair R (of_number j xs)) → EachPair (λ x y. number x ≡ number y → R (f x) (f y)) xs
-    pairs_by_number P [] own pairs = tt
-    pairs_by_number P (x ∷ xs) own pairs = search (arith, rules, first_pairs, EachPair, pairs_by_number P xs own.1)

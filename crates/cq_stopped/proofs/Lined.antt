@@ -1,9 +1,9 @@
 -- The departures and the transfers of a run: what a slot adds to the departures, at each output the cell that it sent,
--- if it sent one; that departures stand in order, slot by slot and those of a slot by output; what is asked of
--- transfers; and the figures that are read off the departures.
-use Rattle.cq_stopped.proofs.Terms.{list_any, filter_none, ◌≡◌, ℕ, zero, suc, ◌+◌, ◌<◌, List, [], ◌∷◌, ◌++◌, Option, Some, None, refl, arith, rules, ◌≤◌, ◌⊎◌, length, map, ◌-◌, Bool, false, eq-eqb, ne_eqb, and_parts, cases_lt, eqb-true, common_steps, map-append, get_or_past, length-map, filter-append, sum_by-cons, AllByRecursion, range_with_len, cons_option, enumerate_from, ◌==◌, filter, slice_index_or, count_by, filter_map, is_some, option_map, Arrival, Departure, Queued, Transfer, listed, slots_of, departures_of, departures_from, departures_in, SlotRecord, LimitedRecord, slots_in, figures_of, input_figures, output_figures, sent_by, wait_at, came_to, gone_in, EachPair, all_both, all_weaker, Differ, all_from_has, all_of_has, has_kept, kept_has, AreApart, no_more, pairs_kept, figures_told, input_told, output_told, sent_told, seen_as, IsTransferBefore, named_in, Named, State, has_number, AreNumbered, IsMoved, range_rises, any_has, has_any, pairs_joined, Figures, InputFigures, Seen, true}
+-- if it sent one; that those of a slot stand in order, by output; what is asked of transfers; and the figures that are
+-- read off the departures.
+use Rattle.cq_stopped.proofs.Terms.{list_any, filter_none, ◌≡◌, ℕ, zero, suc, ◌+◌, ◌<◌, List, [], ◌∷◌, ◌++◌, Option, Some, None, refl, arith, rules, length, map, ◌-◌, Bool, false, eq-eqb, ne_eqb, and_parts, cases_lt, eqb-true, common_steps, map-append, get_or_past, length-map, filter-append, sum_by-cons, AllByRecursion, range_with_len, cons_option, enumerate_from, ◌==◌, filter, slice_index_or, count_by, filter_map, is_some, option_map, Arrival, Departure, Queued, Transfer, listed, slots_of, departures_of, departures_from, departures_in, SlotRecord, LimitedRecord, slots_in, figures_of, input_figures, output_figures, sent_by, wait_at, came_to, gone_in, EachPair, Differ, all_from_has, has_kept, kept_has, AreApart, no_more, pairs_kept, figures_told, input_told, output_told, sent_told, seen_as, IsTransferBefore, named_in, Named, State, has_number, AreNumbered, IsMoved, range_rises, any_has, has_any, Figures, InputFigures, Seen, true}
 use Rattle.cq_stopped.proofs.Joined.{pairs_in}
-use Rattle.cq_stopped.proofs.Ran.{left_at, came_in, came_of, is_name_at}
+use Rattle.cq_stopped.proofs.Ran.{DepartsBefore, left_at, came_in, came_of, is_name_at}
 
 -- ## What a slot adds to the departures
 
@@ -41,33 +41,11 @@ module _ (j : ℕ) where
 
 -- ## Departures in order
 
--- one departs before another: in an earlier slot, or in one slot at an earlier output
-abbrev pub DepartsBefore : Departure → Departure → Type 0
-DepartsBefore d e = (d.slot < e.slot) ⊎ ((d.slot ≡ e.slot) × (d.output < e.output))
-
-of_slot : (slot : ℕ) (gone : List (Option Queued)) →
-    AllByRecursion (λ (d : Departure). d.slot ≡ slot) (departures_in slot gone)
-unfolding departures_in
-of_slot slot gone = each_departs slot (λ (d : Departure). d.slot ≡ slot) gone 0 (λ k j q is at. refl)
-
-no_earlier : (slot : ℕ) (slots : List (List (Option Queued))) →
-    AllByRecursion (λ (d : Departure). slot ≤ d.slot) (departures_of slot slots)
-unfolding departures_of
-no_earlier slot [] = tt
-no_earlier slot (gone ∷ slots) = search (rules, all_both, all_weaker, of_slot, no_earlier (slot + 1) slots)
-
-slot_in_order : (slot a : ℕ) (gone : List (Option Queued)) → EachPair DepartsBefore (departures_from slot a gone)
+pub slot_in_order : (slot a : ℕ) (gone : List (Option Queued)) → EachPair DepartsBefore (departures_from slot a gone)
 slot_in_order slot a [] = tt
 slot_in_order slot a (None ∷ gone) = slot_in_order slot (a + 1) gone
 slot_in_order slot a (Some q ∷ gone) =
     search (arith, rules, slot_in_order slot (a + 1) gone, each_departs slot (DepartsBefore (departure slot a q)))
-
-pub departures_in_order : (slot : ℕ) (slots : List (List (Option Queued))) →
-    EachPair DepartsBefore (departures_of slot slots)
-unfolding departures_of departures_in
-departures_in_order slot [] = tt
-departures_in_order slot (gone ∷ slots) =
-    search (rules, pairs_joined, slot_in_order, all_of_has, of_slot, no_earlier, departures_in_order (slot + 1) slots)
 
 -- ## Transfers
 

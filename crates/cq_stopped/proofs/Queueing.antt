@@ -3,7 +3,7 @@
 -- output. A cell that comes has another name than each that came before it, of its flow each came in an earlier slot,
 -- and each of its class that waits has the lesser key: its level and no greater rank. So of two in the order of keys
 -- the one ahead goes before the other, as what left the output goes before both.
-use Rattle.cq_stopped.proofs.Terms.{rules, ◌≡◌, ℕ, zero, suc, ◌+◌, ◌<◌, ◌≤◌, ◌^◌, Bool, true, false, cond, List, [], ◌∷◌, length, Option, Some, None, Result, Ok, Err, refl, arith, ◌++◌, cases_eq, ltb-true, both_ways, cases_lt, cond_both, eq-eqb, eqb-true, le-ltb, lt-ltb, false_from_ne_true, common_steps, get_or-set_other, get_or-set_same, length-set, same_Some, AllByRecursion, is_some, slice_index_or, slice_set, arrival_at, is_for, put, Cell, Queued, came_from, only_ok, all_told, put_all, Ranking, ranking, all_put, among_put, IsAmong, came_to, KeepLaws, Machine, machine_at, EachPair, all_weaker, all_both, all_front, all_back, after_input_ok, key_laws, TagFault, Key, NoLater, in_order_put, given_floor, all_from_has, all_of_has, all_made, inl, inr, ⊎_elim, ◌⊎◌, CameFor, Has, IsBefore, IsRising, among_put_all, has_left, has_right, never_both, not_before_itself, pair_of_has, pairs_cross, pairs_joined, pairs_left, pairs_right, rising_put_all}
+use Rattle.cq_stopped.proofs.Terms.{rules, ◌≡◌, ℕ, zero, suc, ◌+◌, ◌<◌, ◌≤◌, ◌^◌, Bool, true, cond, List, [], ◌∷◌, length, Option, Some, None, Result, Ok, Err, refl, arith, ◌++◌, cases_eq, ltb-true, cases_lt, eq-eqb, le-ltb, lt-ltb, common_steps, get_or-set_other, get_or-set_same, length-set, same_Some, AllByRecursion, is_some, slice_index_or, slice_set, arrival_at, Cell, Queued, came_from, only_ok, all_told, put_all, Ranking, ranking, came_to, KeepLaws, Machine, machine_at, EachPair, after_input_ok, TagFault, Key, given_floor, all_made, inl, inr, ⊎_elim, ◌⊎◌, CameFor, Has, IsBefore, IsRising, among_put_all, has_left, has_right, never_both, not_before_itself, pair_of_has, pairs_cross, pairs_joined, pairs_left, pairs_right, rising_put_all}
 use Rattle.cq_base.specs.Key.{is_before}
 use Rattle.cq_ideal.specs.Ranking.{keyed}
 use Rattle.cq_stopped.proofs.Configured.{AreLow, KeepsLow}

@@ -2,7 +2,7 @@
 -- it. At each output there left some cells, and others wait; all of these are keyed as the switch keys them, no two of
 -- them have the same name, and of each flow those ahead came first. They are just the cells that came in, by what was
 -- recorded slot by slot.
-use Rattle.cq_stopped.proofs.Terms.{Bool, Named, ◌&&◌, ◌≡◌, ◌≢◌, ℕ, ◌<◌, ◌≤◌, ◌^◌, List, [], ◌++◌, length, map, Option, Some, ◌==◌, filter, slice_index_or, AllByRecursion, arriving_at, Departure, Queued, IdealState, Agrees, Fabric, IsAmong, input, LimitedRecord, came_to, list_of, machine_at, EachPair, Has, Switch}
+use Rattle.cq_stopped.proofs.Terms.{Bool, Named, ◌&&◌, ◌≡◌, ◌≢◌, ℕ, ◌⊎◌, ◌<◌, ◌≤◌, ◌^◌, List, [], ◌++◌, length, map, Option, Some, ◌==◌, filter, slice_index_or, AllByRecursion, arriving_at, Departure, Queued, IdealState, Agrees, Fabric, IsAmong, input, LimitedRecord, came_to, list_of, machine_at, EachPair, Has, Switch}
 use Rattle.cq_ideal.proofs.FlowStands.{Stands}
 
 -- a cell with its key, as the switch keys it
@@ -59,6 +59,11 @@ pub record IsSentRight (w : Switch) (n : ℕ) (d : Departure) : Type 0 where
   pub from : d.queued.key.slot ≤ d.slot
   pub before : d.slot < n
 
+-- one departs before another: in an earlier slot, or in one slot at an earlier output; and of one output it went ahead
+pub record DepartsBefore (d e : Departure) : Type 0 where
+  pub order : (d.slot < e.slot) ⊎ ((d.slot ≡ e.slot) × (d.output < e.output))
+  pub ahead : d.output ≡ e.output → Follows d.queued e.queued
+
 -- a cell that came in a slot at an input: it is named so, and it left or waits
 pub record IsHeld (ideal : IdealState) (sent : List Departure) (t i : ℕ) (q : Queued) : Type 0 where
   pub slot : q.key.slot ≡ t
@@ -76,6 +81,7 @@ pub record Known (w : Switch) (n : ℕ) (f : Fabric) (ideal : IdealState) (cs : 
       Lane w n j (slice_index_or ideal.ranks j []) (left_at j sent) (list_of ideal.lists j)
   pub placed : (i : ℕ) (c : Queued) → IsAmong c (input f i) → c.key.input ≡ i
   pub departed : AllByRecursion (IsSentRight w n) sent
+  pub ordered : EachPair DepartsBefore sent
   pub long : length cs ≡ n
   pub origin : (j : ℕ) (q : Queued) → j < length w.machines → Has (pool_at j sent ideal) q →
       came_in cs q.key.slot q.key.input ≡ Some q

@@ -3,10 +3,10 @@
 -- are one, and of all others the names differ. Each name in the state is of such a cell, and comes to it: each list to
 -- the list of its input, each buffer to that of its output, and each departure to itself. So the clauses hold that ask
 -- for a sound state, but for the fourth.
-use Rattle.cq_stopped.proofs.Terms.{rules, ◌≡◌, ℕ, ◌<◌, List, [], length, Option, refl, sym, ◌∙◌, inl, inr, arith, true, ◌++◌, map, Some, ap, ◌≤◌, false_from_ne_true, and_from, and_parts, eq-eqb, eqb-true, common_steps, map-append, list_any, filter_map, ◌==◌, is_some, slice_index_or, filter, option_map, IsSome, IsBefore, is_for, Departure, Queued, Transfer, HasWaited, IdealState, apart_from, not_before_itself, Fabric, buffer, input, fabric_in, HasFor, list_of, machine_at, EachPair, all_pairs, all_weaker, cell_with, Differ, Has, all_from_has, all_of_has, has_left, has_right, pair_of_has, has_cases, has_image, image_has, kept_has, pairs_cross, pairs_left, pairs_right, pairs_with, sent_told, named_as, sent_as, state_of, HaveSlack, AreArrivals, IsBufferedBefore, IsTransferBefore, StandInOrder, KeepArrivalOrder, OfOneFlow, AreBelowFloors, IsBelowFloor, Switch, HasShape, class_in, class_of, named_in, output_in, output_of, queued_in, buffer_told, fabric_told, list_told, queued_of, arriving_cell, is_ahead, Taken, Named, Sent, told_state, State, has_all, any_has, has_any, pairs_joined, pairs_mapped}
-use Rattle.cq_stopped.proofs.Joined.{pairs_in, all_of, has_number, pairs_by_number, pairs_of_all, has_at_place, is_at, pairs_both, filter_images, sift, told_again, by_places, image_pairs}
-use Rattle.cq_stopped.proofs.Lined.{AreMoved, DepartsBefore}
-use Rattle.cq_stopped.proofs.Ran.{Follows, IsOwn, IsSentRight, Known, left_at, pool_at, IsHeld, came_in, is_name_at}
+use Rattle.cq_stopped.proofs.Terms.{rules, ◌≡◌, ℕ, ◌<◌, List, [], length, Option, refl, sym, ◌∙◌, inl, inr, arith, true, ◌++◌, map, Some, ap, ◌≤◌, false_from_ne_true, and_from, and_parts, eq-eqb, eqb-true, common_steps, map-append, list_any, filter_map, ◌==◌, is_some, slice_index_or, filter, option_map, IsSome, IsBefore, is_for, Departure, Queued, Transfer, HasWaited, IdealState, apart_from, not_before_itself, Fabric, buffer, input, fabric_in, HasFor, list_of, machine_at, EachPair, all_pairs, cell_with, Differ, Has, all_from_has, all_of_has, has_left, has_right, pair_of_has, has_cases, has_image, image_has, kept_has, pairs_cross, pairs_right, pairs_with, sent_told, named_as, sent_as, state_of, HaveSlack, AreArrivals, IsBufferedBefore, IsSentBefore, IsTransferBefore, StandInOrder, KeepArrivalOrder, OfOneFlow, AreBelowFloors, IsBelowFloor, Switch, HasShape, class_in, class_of, named_in, output_in, output_of, queued_in, buffer_told, fabric_told, list_told, queued_of, arriving_cell, is_ahead, Taken, Named, Sent, told_state, State, has_all, any_has, has_any, pairs_joined, pairs_mapped}
+use Rattle.cq_stopped.proofs.Joined.{pairs_in, all_of, has_number, pairs_of_all, has_at_place, is_at, pairs_both, filter_images, sift, told_again, by_places, image_pairs}
+use Rattle.cq_stopped.proofs.Lined.{AreMoved}
+use Rattle.cq_stopped.proofs.Ran.{DepartsBefore, Follows, IsOwn, IsSentRight, Known, left_at, pool_at, IsHeld, came_in, is_name_at}
 use Rattle.cq_stopped.proofs.Stepping.{own_at}
 
 -- the name of a cell of which this is known
@@ -95,9 +95,7 @@ module _ {w : Switch} (at : Taken) {ideal : IdealState} {cs : List (List (Option
       ((d e : Departure) → Has at.sent d → Has at.sent e → (d.output ≡ e.output → Follows d.queued e.queued) → R d e) →
       EachPair R at.sent
   each_sent R tells =
-      pairs_in _ R at.sent tells (pairs_by_number (λ (d : Departure). d.output) (λ (d : Departure). d.queued) Follows
-      (λ j. j < length w.machines) at.sent (search (rules, all_weaker, known.departed))
-      (λ j lt. pairs_left Follows (left_at j at.sent) (list_of ideal.lists j) (pairs_at j lt)))
+      pairs_in DepartsBefore R at.sent (λ d e first second before. tells d e first second before.ahead) known.ordered
 
   -- and so of the lists: each cell stands in its list by what is known of it there
   each_listed : (R : Queued → Queued → Type 0) →
@@ -268,10 +266,9 @@ module _ {w : Switch} (at : Taken) {ideal : IdealState} {cs : List (List (Option
   left_by : (d : Departure) → Has at.sent d → output_of w.came (named_as d.queued) ≡ d.output
   left_by d has = its_output d.queued (has_left_it d has).0 ∙ sym (right_at d has).own
 
-  pub stand_in_order : EachPair DepartsBefore at.sent → AreMoved (length w.machines) at.frozen.next at.note →
-      StandInOrder w st
+  pub stand_in_order : AreMoved (length w.machines) at.frozen.next at.note → StandInOrder w st
   unfolding state_of
-  stand_in_order departs moved =
+  stand_in_order moved =
       let Timely : Sent → Type 0 = λ d. (d.cell.slot ≤ d.slot) × (d.slot < at.frozen.next) in
       record {
         lists = image_pairs named_as (λ (a b : Named). a.input ≤ b.input) listed (each_listed _
@@ -281,7 +278,9 @@ module _ {w : Switch} (at : Taken) {ideal : IdealState} {cs : List (List (Option
             listed (each_listed _ (search (arith, rules, its_output, waits_at)) (search (arith, rules, known.placed)));
         buffers = image_pairs named_as (IsBufferedBefore w.came) buffered (pairs_of_all _ at.frozen.buffers
             (search (arith, rules, pairs_in IsBefore, out, known.agrees.fabric.rising)) (search (arith, rules, out)));
-        sent = search (arith, rules, image_pairs, pairs_in, left_by);
+        sent = image_pairs sent_as (IsSentBefore w.came) at.sent
+            (pairs_in DepartsBefore (λ d e. IsSentBefore w.came (sent_as d) (sent_as e)) at.sent
+            (λ d e first second before. rw (left_by d first, left_by e second) before.order) known.ordered);
         sent_times = has_all Timely (map sent_as at.sent) (search (arith, rules, image_has, right_at));
         moved = all_pairs IsTransferBefore at.note moved.pairs;
         moved_times = has_all (λ (t : Transfer). t.slot < at.frozen.next) at.note (search (arith, rules, all_of_has));

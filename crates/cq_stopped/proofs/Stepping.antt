@@ -1,12 +1,13 @@
 -- One slot of a run that may be stopped. The ideal switch goes on beside the fabric. At each output the cells that
 -- come queue up behind those that left and those that wait, and where one leaves it is the first that waits: what left
 -- and then what waits is the same list. So what is known before the slot is known after it.
-use Rattle.cq_stopped.proofs.Terms.{rules, ◌≡◌, ℕ, zero, suc, ◌+◌, ◌<◌, ◌≤◌, List, [], ◌∷◌, ◌++◌, length, Option, Some, None, Ok, ◌∙◌, ◌⊎◌, ⊎_elim, arith, length-append, cases_lt, common_steps, append_assoc, get_or-append-add, get_or-map, get_or_append_left, get_or_past, length-map, ◌↔◌, append-nil, get_or-replicate, length-replicate, AllByRecursion, slice_get, slice_index_or, arrival_at, arriving, arriving_at, Cell, Departure, Queued, admitted_arrives, Came, came_from, present, Served, listed, served, HasWaited, Marked, admission, arriving_from, departures_of, empty_ideal, IdealState, all_told, departures_from, departures_in, filled, fronts, ideal_slot, put_all, rests, AreForPorts, ranking, CameFor, Keyed, limited_empty_agree, keyed, ports_kept, same_slot, SendsAlike, Agrees, Fabric, input, empty_fabric, FabricSlot, LimitedFabricSlot, LimitedRecord, slots_in, came_to, gone_in, list_of, IsInputBest, IsStable, all_both, all_weaker, found_at, has_there, Has, all_from_has, all_of_has, has_cases, has_left, has_right, opening, Runs, Switch, fewer, HasFor, length-filled, rest_of, among_put_all, list_after, put_all_keeps, put_all_new, stable_slot, admission_for_ports, arrivals_for, place_of, RunBy, came_or_was, was_waiting, marks_kept, IsBefore}
+use Rattle.cq_stopped.proofs.Terms.{rules, ◌≡◌, ℕ, zero, suc, ◌+◌, ◌<◌, ◌≤◌, List, [], ◌∷◌, ◌++◌, length, Option, Some, None, Ok, ◌∙◌, ◌⊎◌, ⊎_elim, arith, length-append, cases_lt, common_steps, append_assoc, get_or-append-add, get_or-map, get_or_append_left, get_or_past, length-map, ◌↔◌, append-nil, get_or-replicate, length-replicate, AllByRecursion, slice_get, slice_index_or, arrival_at, arriving, arriving_at, Cell, Departure, Queued, admitted_arrives, Came, came_from, present, Served, listed, served, HasWaited, Marked, admission, arriving_from, departures_of, empty_ideal, IdealState, all_told, departures_from, departures_in, filled, fronts, ideal_slot, put_all, rests, AreForPorts, ranking, CameFor, Keyed, limited_empty_agree, keyed, ports_kept, same_slot, SendsAlike, Agrees, Fabric, input, empty_fabric, FabricSlot, LimitedFabricSlot, LimitedRecord, slots_in, came_to, gone_in, list_of, IsInputBest, IsStable, all_both, all_weaker, found_at, has_there, Has, all_from_has, all_of_has, has_cases, has_left, has_right, opening, Runs, Switch, fewer, HasFor, length-filled, rest_of, among_put_all, list_after, put_all_keeps, put_all_new, stable_slot, admission_for_ports, arrivals_for, place_of, RunBy, came_or_was, was_waiting, marks_kept, IsBefore, EachPair, inl, pairs_cross, pairs_joined}
 use Rattle.cq_ideal.specs.IdealSlot.{Sent}
 use Rattle.cq_stopped.proofs.Configured.{IsConfigured}
-use Rattle.cq_stopped.proofs.Lined.{each_departs, left_more}
+use Rattle.cq_stopped.proofs.Joined.{has_number}
+use Rattle.cq_stopped.proofs.Lined.{each_departs, left_more, slot_in_order}
 use Rattle.cq_stopped.proofs.Queueing.{is_less, pairs_next, IsKnown, IsRanked, ranked_from}
-use Rattle.cq_stopped.proofs.Ran.{IsHeld, IsKeyed, IsOwn, IsSentRight, Known, Lane, came_in, left_at, pool_at, came_of}
+use Rattle.cq_stopped.proofs.Ran.{DepartsBefore, Follows, IsHeld, IsKeyed, IsOwn, IsSentRight, Known, Lane, came_in, left_at, pool_at, came_of}
 
 -- what holds of each cell at its place holds of those that are present
 all_present : (P : Cell → Type 0) (cells : List (Option Cell)) →
@@ -172,21 +173,41 @@ module _ (w : Switch) (ranks : List (List ℕ)) (configured : IsConfigured w ran
       its_served = served w.machines j n (configured.laws j inside) 0 0 r.admission.cells ideal _ alike.sent
           (omega arith) (omega arith) lane.stands (all_present _ r.admission.cells (search (arith, rules, its_known)))
 
+      next_pairs : EachPair Follows (left j ++ full j)
+      next_pairs = pairs_next j n came (left j) (waiting j) (search (rules, all_of_has, IsOwn, lane.own))
+          (search (arith, rules, its_came)) (known.agrees.rising j) lane.pairs old_less
+
       next_lane : Lane w (n + 1) j (slice_index_or next.ranks j []) (left_at j sent_next) (list_of next.lists j)
-      next_lane =
-          let it = pairs_next j n came (left j) (waiting j) (search (rules, all_of_has, IsOwn, lane.own))
-          (search (arith, rules, its_came)) (known.agrees.rising j) lane.pairs old_less in
-          search (rules, pool_is j inside, its_served, own_all, it)
+      next_lane = search (rules, pool_is j inside, its_served, own_all, next_pairs)
 
     -- ## Departures
+
+    -- what leaves now waited at its output
+    abbrev LeavesNow : Departure → Type 0
+    LeavesNow d = IsSentRight w (n + 1) d × (d.slot ≡ n) × Has (full d.output) d.queued
+
+    leave_now : AllByRecursion LeavesNow (departures_from n 0 r.of_slot.gone)
+    leave_now = each_departs n LeavesNow r.of_slot.gone 0 (λ k j q is at.
+        let there = has_right (left k) (full k) q in
+        grind (arith, common_steps, many, get_or_past, gone_is, has_there, there, own_all, all_of_has, cases_lt))
 
     departed_next : AllByRecursion (IsSentRight w (n + 1)) sent_next
     unfolding departures_in
     departed_next = all_both (IsSentRight w (n + 1)) sent (departures_from n 0 r.of_slot.gone)
-        (search (arith, rules, all_weaker, IsSentRight))
-        (each_departs n (IsSentRight w (n + 1)) r.of_slot.gone 0 (λ k j q is at.
-        let there = has_right (left k) (full k) q in
-        grind (arith, common_steps, many, get_or_past, gone_is, has_there, there, own_all, all_of_has, cases_lt)))
+        (search (arith, rules, all_weaker, IsSentRight)) (all_weaker LeavesNow _ (λ d leaves. leaves.0) _ leave_now)
+
+    ordered_next : EachPair DepartsBefore sent_next
+    unfolding departures_in
+    ordered_next = pairs_joined DepartsBefore sent (departures_from n 0 r.of_slot.gone) known.ordered
+        (slot_in_order n 0 r.of_slot.gone) (λ d e first second.
+        let now = all_of_has LeavesNow _ e leave_now second in
+        let before = all_of_has (IsSentRight w n) sent d known.departed first in
+        let left_it = has_number (λ (d : Departure). d.output) (λ (d : Departure). d.queued) sent d e.output in
+        let cross = pairs_cross Follows (left e.output) (full e.output) d.queued e.queued in
+        record {
+          order = inl (omega (arith, before.before, now.1));
+          ahead = λ same. cross (next_pairs e.output now.0.inside) (left_it same first) now.2;
+        })
 
     -- ## What came
 
@@ -207,6 +228,7 @@ module _ (w : Switch) (ranks : List (List ℕ)) (configured : IsConfigured w ran
           let before = was_waiting step.runs.fill.moves in
           search (arith, rules, was_waiting step.runs.finish.moves, before, came_or_was, its_keys, known.placed);
       departed = departed_next;
+      ordered = ordered_next;
       long = grind (arith, common_steps, length-append);
       origin = λ j q inside has. (came_then cs came q.key.slot q.key.input q).1
           (search (arith, rules, its_came, was_or_new j q, pool_is j inside));

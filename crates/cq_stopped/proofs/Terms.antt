@@ -1,9 +1,9 @@
 -- The words of this crate's proofs that stand elsewhere, each passed on from its place.
-pub use Rattle.cq_base.proofs.Library.{AllByRecursion, AllPairs, Bool, Err, IsSome, List, None, Ok, Option, Result, Some, [], and_from, and_parts, and_right, ap, append-nil, append_assoc, arith, both_ways, cases_Bool, cases_eq, cases_lt, common_steps, cond, cond_both, cons_option, count_by, enumerate_from, eq-eqb, eqb, eqb-true, false, false_from_ne_true, fill_by_all, filter, filter-append, filter_map, flat_map, fold, get_or-append-add, get_or-map, get_or-map-range_with_len, get_or-replicate, get_or-set_other, get_or-set_same, get_or_append_left, get_or_past, inl, inr, is_some, le-ltb, length, length-append, length-insert, length-map, length-map-range_with_len, length-replicate, length-set, list_any, lt-leb, lt-ltb, ltb-true, map, map-append, max, min, ne_eqb, not, option_map, range_with_len, refl, replicate, rules, same_Some, slice_get, slice_index_or, slice_set, suc, sum, sum_by, sum_by-append, sum_by-cons, sym, true, zero, ℕ, ⊎_elim, ◌&&◌, ◌*◌, ◌++◌, ◌+◌, ◌-◌, ◌<◌, ◌==◌, ◌^◌, ◌↔◌, ◌∙◌, ◌∷◌, ◌≡◌, ◌≢◌, ◌≤◌, ◌⊎◌}
+pub use Rattle.cq_base.proofs.Library.{AllByRecursion, AllPairs, Bool, Err, IsSome, List, None, Ok, Option, Result, Some, [], and_from, and_parts, and_right, ap, append-nil, append_assoc, arith, cases_Bool, cases_eq, cases_lt, common_steps, cond, cons_option, count_by, enumerate_from, eq-eqb, eqb, eqb-true, false, false_from_ne_true, fill_by_all, filter, filter-append, filter_map, flat_map, fold, get_or-append-add, get_or-map, get_or-map-range_with_len, get_or-replicate, get_or-set_other, get_or-set_same, get_or_append_left, get_or_past, inl, inr, is_some, le-ltb, length, length-append, length-insert, length-map, length-map-range_with_len, length-replicate, length-set, list_any, lt-leb, lt-ltb, ltb-true, map, map-append, max, min, ne_eqb, not, option_map, range_with_len, refl, replicate, rules, same_Some, slice_get, slice_index_or, slice_set, suc, sum, sum_by, sum_by-append, sum_by-cons, sym, true, zero, ℕ, ⊎_elim, ◌&&◌, ◌*◌, ◌++◌, ◌+◌, ◌-◌, ◌<◌, ◌==◌, ◌^◌, ◌↔◌, ◌∙◌, ◌∷◌, ◌≡◌, ◌≢◌, ◌≤◌, ◌⊎◌}
 pub use Rattle.cq_base.specs.{Arrivals.arrival_at, declared.cell.Cell.Cell, declared.cell.Departure.Departure, declared.cell.Queued.Queued, declared.cell.Transfer.Transfer}
 pub use Rattle.cq_base.specs.Arriving.{Arrival, arriving_at}
 unfoldable pub use Rattle.cq_base.specs.Arriving.{arriving}
-pub use Rattle.cq_base.specs.Cells.{IsBefore, IsRising, is_for, put}
+pub use Rattle.cq_base.specs.Cells.{IsBefore, IsRising, is_for}
 pub use Rattle.cq_base.specs.Items.{EachPair, Has}
 pub use Rattle.cq_base.specs.Limits.{level_count, longest_file, most_classes, most_ports}
 pub use Rattle.cq_route.specs.Tables.{AreTables}
@@ -33,7 +33,7 @@ pub use Rattle.cq_prefs.specs.FirstCells.{list_of}
 pub use Rattle.cq_prefs.specs.Pairing.{IsInputBest, IsStable}
 pub use Rattle.cq_laws.proofs.AfterArrivals.{CameFor, Keyed, arrived_has, came_or_was}
 pub use Rattle.cq_laws.proofs.LimitedWhole.{fabric_judged, limited_empty_agree}
-pub use Rattle.cq_laws.proofs.Members.{among_put, was_waiting}
+pub use Rattle.cq_laws.proofs.Members.{was_waiting}
 pub use Rattle.cq_laws.proofs.OneSlot.{after_sent, arrived, keyed, old_sound, ports_kept, same_slot}
 pub use Rattle.cq_laws.proofs.Sound.{Sound, apart_from, never_both, not_before_itself}
 pub use Rattle.cq_laws.specs.Agreement.{Agrees, SendsAlike}
@@ -54,7 +54,7 @@ pub use Rattle.cq_resume.specs.Parts.{IsParted, IsWhole, opening}
 pub use Rattle.cq_resume.specs.Reading.{IsRead, named_as, seen_as, sent_as}
 unfoldable pub use Rattle.cq_resume.specs.Reading.{state_of}
 pub use Rattle.cq_resume.specs.Resumed.{Kept, Runs}
-pub use Rattle.cq_resume.specs.Sound.{AreArrivals, AreBelowFloors, AreWholePackets, HaveSlack, IsBelowFloor, IsBufferedBefore, KeepArrivalOrder, OfOneFlow, StandInOrder}
+pub use Rattle.cq_resume.specs.Sound.{AreArrivals, AreBelowFloors, AreWholePackets, HaveSlack, IsBelowFloor, IsBufferedBefore, IsSentBefore, KeepArrivalOrder, OfOneFlow, StandInOrder}
 pub use Rattle.cq_resume.specs.Switch.{HasShape, IsScheduleOf, Switch, switch_of}
 pub use Rattle.cq_resume.specs.Terms.{IsTransferBefore}
 pub use Rattle.cq_resume.specs.Told.{arriving_cell, buffer_told, class_in, class_of, is_ahead, is_named, key_of, list_told, named_in, output_in, output_of, queued_in, queued_of}
@@ -62,10 +62,8 @@ unfoldable pub use Rattle.cq_resume.specs.Told.{fabric_told}
 pub use Rattle.cq_resume.specs.declared.taken.Taken.{Taken}
 pub use Rattle.cq_stopped.specs.Stopped.{AreRecorded, CanBeTakenUp, StoppedRunsAreSound, told_state}
 pub use Rattle.cq_audit.proofs.Noted.{FitsLine, range_rises, written_in_run}
-pub use Rattle.cq_base.proofs.Each.{all_back, all_both, all_front, all_weaker, few_kept, of_images, all_give, all_made, filter_all, filter_none}
-pub use Rattle.cq_base.proofs.Putting.{all_put}
+pub use Rattle.cq_base.proofs.Each.{all_both, all_weaker, few_kept, of_images, all_give, all_made, filter_all, filter_none}
 pub use Rattle.cq_base.specs.{declared.cell.TagFault.TagFault, declared.figures.Figures.Figures, declared.figures.InputFigures.InputFigures, declared.key.Key.Key, declared.setup.ClassRow.ClassRow, declared.setup.Kind.Kind, declared.setup.Kind.TheVariants.FirstCome, declared.setup.Kind.TheVariants.Fair}
-pub use Rattle.cq_base.proofs.Keys.{key_laws}
 pub use Rattle.cq_pcap.specs.Captured.{Captured}
 pub use Rattle.cq_cells.proofs.{Packets.few_by}
 pub use Rattle.cq_cells.specs.NextArrival.{ArrivesIn}
@@ -73,10 +71,10 @@ pub use Rattle.cq_rank.proofs.Floors.{given_floor}
 pub use Rattle.cq_laws.proofs.AddingUp.{figures_fold}
 pub use Rattle.cq_ideal.proofs.Waiting.{counted, length-filled}
 pub use Rattle.cq_base.proofs.Having.{all_from_has, all_of_has, any_has, has_all, has_any, has_cases, has_image, has_kept, has_left, has_right, has_there, image_has, kept_has, pair_of_has}
-pub use Rattle.cq_base.proofs.Pooled.{AreApart, Stands, all_pairs, each_pair, has_number, no_more, pairs_cross, pairs_joined, pairs_kept, pairs_left, pairs_mapped, pairs_right, pairs_with}
+pub use Rattle.cq_base.proofs.Pooled.{AreApart, all_pairs, each_pair, has_number, no_more, pairs_cross, pairs_joined, pairs_kept, pairs_left, pairs_mapped, pairs_right, pairs_with}
 pub use Rattle.cq_laws.proofs.{EndsTogether.slots_of_figures, Recorded.recorded}
 pub use Rattle.cq_ideal.proofs.EnoughSlots.{waiting-empty}
-pub use Rattle.cq_ideal.proofs.{Ends.nothing_left, FlowCount.come_count-first, FlowLaw.all_in_range, FlowPut.NoLater, FlowPut.in_order_put, Packets.refused_here, Parted.arriving_length, Refusals.counts_more}
+pub use Rattle.cq_ideal.proofs.{Ends.nothing_left, FlowCount.come_count-first, FlowLaw.all_in_range, Packets.refused_here, Parted.arriving_length, Refusals.counts_more}
 pub use Rattle.cq_ideal.specs.{Limiter.where_up, declared.refused.Refused.Refused}
 pub use Rattle.cq_state.specs.declared.state.Seen.{Seen}
 pub use Rattle.cq_laws.proofs.{AfterTransfer.moved_has, Falls.rest_of, IdealLists.among_put_all, IdealLists.list_after, IdealLists.put_all_keeps, IdealLists.put_all_new, IdealLists.rising_put_all, InputBest.stable_slot, InputBest.stable_limited_too, LimitedSlots.admission_for_ports, WholeRuns.empty_together, WholeRuns.empty_list}

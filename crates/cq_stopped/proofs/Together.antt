@@ -3,13 +3,13 @@
 -- of its cell; the figures, since as many names are of an input as cells came to it; and the marks and the counts,
 -- since the arrivals that are not named are those that were refused. The text of that state is read as what was left,
 -- so what goes on from there is the run.
-use Rattle.cq_stopped.proofs.Terms.{come_count-first, IsCount, IsInputBest, recorded, slots_of_figures, rules, ◌≡◌, ℕ, zero, suc, ◌+◌, ◌-◌, ◌<◌, ◌≤◌, ◌^◌, List, [], ◌∷◌, length, map, fold, max, sym, ap, ◌∙◌, arith, common_steps, length-map, length-map-range_with_len, AllByRecursion, enumerate_from, flat_map, slice_index_or, Queued, Scheduled, arriving_from, departures_of, Fabric, cushion_of, input, SlotRecord, fabric_in, marked_in, LimitedRecord, slots_in, figures_of, input_figures, slacks, gone_in, list_of, each_pair, EachPair, all_both, Differ, Has, all_from_has, all_of_has, has_image, has_left, has_right, image_has, figures_told, frozen_told, taken_of, opening, IsWhole, IsParted, seen_as, sent_as, state_of, IsRead, Kept, Runs, Switch, switch_of, named_in, queued_in, Taken, Tables, openings_of, AreRankNumbers, IsInRange, IsNamed, IsSeen, IsSent, state_text, Named, Sent, State, told_state, CanBeTakenUp, StoppedRunsAreSound, few_kept, of_images, all_weaker, written_in_run, arriving_length, counts_more, figures_fold, stable_limited_too, empty_list, limited_numbered, IsFabricRun, all_made, all_give, length-replicate}
+use Rattle.cq_stopped.proofs.Terms.{come_count-first, IsCount, IsInputBest, recorded, slots_of_figures, rules, ◌≡◌, ℕ, zero, suc, ◌+◌, ◌-◌, ◌<◌, ◌≤◌, ◌^◌, List, [], ◌∷◌, length, map, fold, max, sym, ap, ◌∙◌, arith, common_steps, length-map, length-map-range_with_len, AllByRecursion, enumerate_from, flat_map, slice_index_or, Queued, Scheduled, arriving_from, departures_of, Fabric, cushion_of, input, SlotRecord, fabric_in, marked_in, LimitedRecord, slots_in, figures_of, input_figures, slacks, gone_in, list_of, each_pair, all_both, Differ, Has, all_from_has, all_of_has, has_image, has_left, has_right, image_has, figures_told, frozen_told, taken_of, opening, IsWhole, IsParted, seen_as, sent_as, state_of, IsRead, Kept, Runs, Switch, switch_of, named_in, queued_in, Taken, Tables, openings_of, AreRankNumbers, IsInRange, IsNamed, IsSeen, IsSent, state_text, Named, Sent, State, told_state, CanBeTakenUp, StoppedRunsAreSound, few_kept, of_images, all_weaker, written_in_run, arriving_length, counts_more, figures_fold, stable_limited_too, empty_list, limited_numbered, IsFabricRun, all_made, all_give, length-replicate}
 use Rattle.cq_audit.proofs.Following.{run_within as of_its_slots}
 use Rattle.cq_resume.proofs.Joining.{parts_join as join}
 use Rattle.cq_resume.proofs.OneAnswer.{read_exact}
 use Rattle.cq_stopped.proofs.Beside.{none_first, all_proposed, most_of_all, IsRecordedWithin, RunsWithin, empty_within, run_within}
 use Rattle.cq_stopped.proofs.Configured.{least_of, AreLow, IsConfigured, configured}
-use Rattle.cq_stopped.proofs.Lined.{figures_are, AreMoved, DepartsBefore, departures_in_order}
+use Rattle.cq_stopped.proofs.Lined.{figures_are, AreMoved}
 use Rattle.cq_stopped.proofs.Ran.{Known, came_of}
 use Rattle.cq_stopped.proofs.Standing.{is_of_one, state_sized, states_many, fabric_same, sent_same, arrivals_are, named_at, below_floors, keep_order, stand_in_order, has_shape, slack_kept}
 use Rattle.cq_stopped.proofs.Stepping.{Ended, stopped_is}
@@ -151,9 +151,7 @@ module _ (w : Switch) (ranks : List (List ℕ)) (configured : IsConfigured w ran
   unfolding state_of
   can_be_taken_up =
       let known = known in
-      let departs : EachPair DepartsBefore at.sent =
-      grind (arith, common_steps, EachPair, DepartsBefore, departures_in_order) in
-      let order = stand_in_order at known departs moved in
+      let order = stand_in_order at known moved in
       let packets = packets_are w ranks st rs (marked_in at.frozen) configured.few configured.packets marks_many runs in
       search (rules, in_range, has_shape, arrivals_are, slack_kept, keep_order, below_floors, taken_same, named_at)
 
