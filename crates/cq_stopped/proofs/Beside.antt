@@ -1,13 +1,12 @@
 -- What is within bounds in a run of the fabric. A list gets one cell more in a slot at most, and a buffer has no more
--- cells than wait in all, which are no more than came. Those cells for an output that were there, and those that came
--- for it, are there still or have left, so all are keyed as the switch keys them. A phase makes no more proposals than
--- the number of ports squared, and none where no cell waits at an input; and in each slot in which a cell waits or
--- comes one leaves, so there are no more such slots than cells that came.
+-- cells than wait in all, which are no more than came. The ranks of what comes and of what leaves fit, so the numbers of
+-- the rank states do. A phase makes no more proposals than the number of ports squared, and none where no cell waits at
+-- an input; and in each slot in which a cell waits or comes one leaves, so there are no more such slots than cells that
+-- came.
 use Rattle.std.proofs.lemmas.List.Sums.{get_or-le-sum_by}
-use Rattle.cq_stopped.proofs.Terms.{IsFabric, IsCount, get_or-map-range_with_len, length-map-range_with_len, has_there, arith, rules, Arrival, ◌≡◌, ℕ, zero, suc, ◌+◌, ◌⊎◌, List, [], ◌∷◌, length, None, Some, ◌∙◌, ◌≤◌, ◌*◌, ◌-◌, fold, max, cases_lt, common_steps, length-replicate, get_or-replicate, get_or_past, length-insert, sum_by-append, sum_by-cons, AllByRecursion, flat_map, slice_index_or, sum, arriving, Queued, present, Marked, arriving_from, CameFor, arrived_has, limited_empty_agree, after_sent, arrived, keyed, old_sound, same_slot, Sound, Fabric, buffer, empty_fabric, input, SlotRecord, fabric_held, LimitedRecord, slots_in, proposals_in, HasFor, machine_at, opening, Switch, waiting-empty, all_wait, nothing_left, come_count-first, counted, moved_has, empty_together, most_ports}
+use Rattle.cq_stopped.proofs.Terms.{IsFabric, IsCount, get_or-map-range_with_len, length-map-range_with_len, arith, rules, Arrival, ◌≡◌, ℕ, zero, suc, ◌+◌, List, [], ◌∷◌, length, ◌∙◌, ◌≤◌, ◌*◌, ◌-◌, fold, max, cases_lt, common_steps, length-replicate, get_or-replicate, get_or_past, length-insert, sum_by-append, sum_by-cons, AllByRecursion, flat_map, sum, arriving, present, Marked, arriving_from, limited_empty_agree, after_sent, arrived, same_slot, Sound, Fabric, buffer, empty_fabric, input, SlotRecord, fabric_held, LimitedRecord, slots_in, proposals_in, machine_at, opening, Switch, waiting-empty, all_wait, nothing_left, come_count-first, counted, empty_together, most_ports}
 use Rattle.cq_ideal.proofs.FlowRun.{come_count}
 use Rattle.cq_simulate.proofs.FabricCounts.{none_proposed as simulate_none, proposals_few, shorter, square_few}
-use Rattle.cq_stopped.proofs.Ran.{IsKeyed}
 use Rattle.cq_stopped.proofs.Stepping.{KnownRun, KnownSlot}
 use Rattle.cq_stopped.proofs.Configured.{AreLow, KeepsLow}
 use Rattle.cq_stopped.proofs.Queueing.{ranked_low, told_low}
@@ -58,15 +57,6 @@ module _ (w : Switch) where
     sent_is : Sound (slot + 1) r.of_slot.sent
     sent_is = search (rules, after_sent)
 
-    -- what holds of each cell that was there or came holds of each at every moment of the slot
-    module _ (P : Queued → Type 0) (all : (j : ℕ) (q : Queued) → HasFor f.state j q ⊎ CameFor r.of_slot.came j q → P q)
-      where
-        of_filled : (j : ℕ) (q : Queued) → HasFor r.of_slot.filled j q → P q
-        of_filled j q has = search (arith, rules, arrived_has, keyed, old_sound, all j, moved_has, arrived_is)
-
-        of_gone : (j : ℕ) (q : Queued) → slice_index_or r.of_slot.gone j None ≡ Some q → P q
-        of_gone j q left = grind (arith, common_steps, of_filled j, has_there)
-
     -- ## What stays within bounds
 
     module _ (keeps : (j : ℕ) → KeepsLow (machine_at w.machines j)) (within : IsWithin slot f.state) where
@@ -79,8 +69,7 @@ module _ (w : Switch) where
             let first = shorter r.of_slot.first r.of_slot.arrived r.of_slot.filled k.step.fill in
             search (arith, rules, arrived, arrived_list, first, shorter r.of_slot.second r.of_slot.sent g.state);
         states = rw (k.step.finish.ranks, k.step.depart.ranks, k.step.fill.ranks)
-            (told_low w.machines keeps r.of_slot.gone r.of_slot.arrived.ranks (grind (arith, common_steps, ranked_low))
-            (λ j q left. (of_gone (IsKeyed w) k.keyed j q left).rank));
+            (told_low w.machines keeps r.of_slot.gone _ (grind (arith, common_steps, ranked_low)) k.low);
       }
 
     -- ## How many proposals a slot makes

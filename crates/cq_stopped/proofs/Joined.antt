@@ -1,6 +1,6 @@
 -- Lists that are joined, sifted and mapped: what they have, and what holds of each of their items and each that stands
 -- behind it.
-use Rattle.cq_stopped.proofs.Terms.{common_steps, rules, ◌≡◌, ℕ, zero, suc, ◌<◌, Bool, List, [], ◌∷◌, map, refl, ⊎_elim, arith, length, ◌+◌, Option, Some, ◌==◌, filter, slice_index_or, AllPairs, flat_map, filter_map, range_with_len, eq-eqb, cases_Bool, ne_eqb, append-nil, filter-append, EachPair, all_pairs, pairs_with, Has, all_from_has, has_left, has_right, has_cases, has_image, has_kept, sym, fill_by_all, pairs_joined, pairs_mapped, all_give, filter_all, filter_none}
+use Rattle.cq_stopped.proofs.Terms.{common_steps, rules, ◌≡◌, ℕ, zero, suc, ◌<◌, Bool, List, [], ◌∷◌, map, refl, ⊎_elim, arith, length, ◌+◌, Option, Some, ◌==◌, filter, slice_index_or, AllPairs, flat_map, filter_map, range_with_len, eq-eqb, cases_Bool, ne_eqb, append-nil, filter-append, EachPair, all_pairs, pairs_with, Has, all_from_has, has_left, has_right, has_cases, sym, fill_by_all, pairs_joined, pairs_mapped, all_give, filter_all, filter_none}
 
 module _ {X : Type 0} where
   -- ## Lists end on end
@@ -88,13 +88,3 @@ module _ {X : Type 0} (number : X → ℕ) where
 pub by_places : {X : Type 0} (f : ℕ → X) (d : X) (xs : List X) →
     ((k : ℕ) → k < length xs → f k ≡ slice_index_or xs k d) → map f (range_with_len 0 (length xs)) ≡ xs
 by_places f d xs each = sym (fill_by_all f xs (length xs) d refl (λ k lt. sym (each k lt)))
-
--- ## Items by a number
-
-module _ {X Y : Type 0} (number : X → ℕ) (f : X → Y) where
-  -- the images of those with this number
-  abbrev pub of_number : ℕ → List X → List Y
-  of_number j xs = map f (filter (λ x. number x == j) xs)
-
-  pub has_number : (xs : List X) (y : X) (j : ℕ) → number y ≡ j → Has xs y → Has (of_number j xs) (f y)
-  has_number xs y j same has = grind (arith, common_steps, has_image, has_kept, eq-eqb)

@@ -1,7 +1,7 @@
 -- The departures and the transfers of a run: what a slot adds to the departures, at each output the cell that it sent,
 -- if it sent one; that those of a slot stand in order, by output; what is asked of transfers; and the figures that are
 -- read off the departures.
-use Rattle.cq_stopped.proofs.Terms.{list_any, filter_none, ◌≡◌, ℕ, zero, suc, ◌+◌, ◌<◌, List, [], ◌∷◌, ◌++◌, Option, Some, None, refl, arith, rules, length, map, ◌-◌, Bool, false, eq-eqb, ne_eqb, and_parts, cases_lt, eqb-true, common_steps, map-append, get_or_past, length-map, filter-append, sum_by-cons, AllByRecursion, range_with_len, cons_option, enumerate_from, ◌==◌, filter, slice_index_or, count_by, filter_map, is_some, option_map, Arrival, Departure, Queued, Transfer, listed, slots_of, departures_of, departures_from, departures_in, SlotRecord, LimitedRecord, slots_in, figures_of, input_figures, output_figures, sent_by, wait_at, came_to, gone_in, EachPair, Differ, all_from_has, has_kept, kept_has, AreApart, no_more, pairs_kept, figures_told, input_told, output_told, sent_told, seen_as, IsTransferBefore, named_in, Named, State, has_number, AreNumbered, IsMoved, range_rises, any_has, has_any, Figures, InputFigures, Seen, true}
+use Rattle.cq_stopped.proofs.Terms.{list_any, filter_none, ◌≡◌, ℕ, zero, suc, ◌+◌, ◌<◌, List, [], ◌∷◌, ◌++◌, Option, Some, None, refl, arith, rules, length, map, ◌-◌, Bool, false, eq-eqb, ne_eqb, and_parts, cases_lt, eqb-true, common_steps, map-append, get_or_past, length-map, filter-append, sum_by-cons, AllByRecursion, range_with_len, cons_option, enumerate_from, ◌==◌, filter, slice_index_or, count_by, filter_map, is_some, option_map, Arrival, Departure, Queued, Transfer, listed, slots_of, departures_of, departures_from, departures_in, SlotRecord, LimitedRecord, slots_in, figures_of, input_figures, output_figures, sent_by, wait_at, came_to, gone_in, EachPair, Differ, all_from_has, Has, has_image, has_kept, kept_has, AreApart, no_more, pairs_kept, figures_told, input_told, output_told, sent_told, seen_as, IsTransferBefore, named_in, Named, State, has_number, AreNumbered, IsMoved, range_rises, any_has, has_any, Figures, InputFigures, Seen, true}
 use Rattle.cq_stopped.proofs.Joined.{pairs_in}
 use Rattle.cq_stopped.proofs.Ran.{DepartsBefore, left_at, came_in, came_of, is_name_at}
 
@@ -38,6 +38,12 @@ module _ (j : ℕ) where
       left_at j (sent ++ departures_in slot gone) ≡ left_at j sent ++ listed (slice_index_or gone j None)
   unfolding departures_in
   left_more slot sent gone = grind (arith, common_steps, filter-append, map-append, its_one slot 0 j)
+
+-- and what is sent is among it
+pub left_has : (sent : List Departure) (d : Departure) (j : ℕ) → d.output ≡ j → Has sent d →
+    Has (left_at j sent) d.queued
+left_has sent d j own has =
+    has_image (λ (e : Departure). e.queued) _ d (has_kept (λ e. e.output == j) sent d has (eq-eqb d.output j own))
 
 -- ## Departures in order
 

@@ -4,8 +4,8 @@
 -- the list of its input, each buffer to that of its output, and each departure to itself. So the clauses hold that ask
 -- for a sound state, but for the fourth.
 use Rattle.cq_stopped.proofs.Terms.{rules, ◌≡◌, ℕ, ◌<◌, List, [], length, Option, refl, sym, ◌∙◌, inl, inr, arith, true, ◌++◌, map, Some, ap, ◌≤◌, false_from_ne_true, and_from, and_parts, eq-eqb, eqb-true, common_steps, map-append, list_any, filter_map, ◌==◌, is_some, slice_index_or, filter, option_map, IsSome, IsBefore, is_for, Departure, Queued, Transfer, HasWaited, IdealState, apart_from, not_before_itself, Fabric, buffer, input, fabric_in, HasFor, list_of, machine_at, EachPair, all_pairs, cell_with, Differ, Has, all_from_has, all_of_has, has_left, has_right, pair_of_has, has_cases, has_image, image_has, kept_has, pairs_cross, pairs_right, pairs_with, sent_told, named_as, sent_as, state_of, HaveSlack, AreArrivals, IsBufferedBefore, IsSentBefore, IsTransferBefore, StandInOrder, KeepArrivalOrder, OfOneFlow, AreBelowFloors, IsBelowFloor, Switch, HasShape, class_in, class_of, named_in, output_in, output_of, queued_in, buffer_told, fabric_told, list_told, queued_of, arriving_cell, is_ahead, Taken, Named, Sent, told_state, State, has_all, any_has, has_any, pairs_joined, pairs_mapped}
-use Rattle.cq_stopped.proofs.Joined.{pairs_in, all_of, has_number, pairs_of_all, has_at_place, is_at, pairs_both, filter_images, sift, told_again, by_places, image_pairs}
-use Rattle.cq_stopped.proofs.Lined.{AreMoved}
+use Rattle.cq_stopped.proofs.Joined.{pairs_in, all_of, pairs_of_all, has_at_place, is_at, pairs_both, filter_images, sift, told_again, by_places, image_pairs}
+use Rattle.cq_stopped.proofs.Lined.{AreMoved, left_has}
 use Rattle.cq_stopped.proofs.Ran.{DepartsBefore, Follows, IsOwn, IsSentRight, Known, left_at, pool_at, IsHeld, came_in, is_name_at}
 use Rattle.cq_stopped.proofs.Stepping.{own_at}
 
@@ -63,7 +63,7 @@ module _ {w : Switch} (at : Taken) {ideal : IdealState} {cs : List (List (Option
       IsKept d.queued × Has (left_at d.queued.cell.output at.sent) d.queued
   has_left_it d has =
       let right = right_at d has in
-      let there = has_number (λ (e : Departure). e.output) (λ (e : Departure). e.queued) at.sent d _ right.own has in
+      let there = left_has at.sent d _ right.own has in
       search (arith, rules, kept_at d.queued, has_left, left_at d.queued.cell.output at.sent)
 
   -- ## One name

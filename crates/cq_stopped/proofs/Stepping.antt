@@ -1,11 +1,10 @@
 -- One slot of a run that may be stopped. The ideal switch goes on beside the fabric. At each output the cells that
 -- come queue up behind those that left and those that wait, and where one leaves it is the first that waits: what left
 -- and then what waits is the same list. So what is known before the slot is known after it.
-use Rattle.cq_stopped.proofs.Terms.{rules, ◌≡◌, ℕ, zero, suc, ◌+◌, ◌<◌, ◌≤◌, List, [], ◌∷◌, ◌++◌, length, Option, Some, None, Ok, ◌∙◌, ◌⊎◌, ⊎_elim, arith, length-append, cases_lt, common_steps, append_assoc, get_or-append-add, get_or-map, get_or_append_left, get_or_past, length-map, ◌↔◌, append-nil, get_or-replicate, length-replicate, AllByRecursion, slice_get, slice_index_or, arrival_at, arriving, arriving_at, Cell, Departure, Queued, admitted_arrives, Came, came_from, present, Served, listed, served, HasWaited, Marked, admission, arriving_from, departures_of, empty_ideal, IdealState, all_told, departures_from, departures_in, filled, fronts, ideal_slot, put_all, rests, AreForPorts, ranking, CameFor, Keyed, limited_empty_agree, keyed, ports_kept, same_slot, SendsAlike, Agrees, Fabric, input, empty_fabric, FabricSlot, LimitedFabricSlot, LimitedRecord, slots_in, came_to, gone_in, list_of, IsInputBest, IsStable, all_both, all_weaker, found_at, has_there, Has, all_from_has, all_of_has, has_cases, has_left, has_right, opening, Runs, Switch, fewer, HasFor, length-filled, rest_of, among_put_all, list_after, put_all_keeps, put_all_new, stable_slot, admission_for_ports, arrivals_for, place_of, RunBy, came_or_was, was_waiting, marks_kept, IsBefore, EachPair, inl, pairs_cross, pairs_joined}
+use Rattle.cq_stopped.proofs.Terms.{rules, ◌≡◌, ℕ, zero, suc, ◌+◌, ◌<◌, ◌≤◌, List, [], ◌∷◌, ◌++◌, length, Option, Some, None, Ok, ◌∙◌, ◌⊎◌, ⊎_elim, arith, length-append, cases_lt, common_steps, append_assoc, get_or-append-add, get_or-map, get_or_append_left, get_or_past, length-map, ◌↔◌, append-nil, get_or-replicate, length-replicate, AllByRecursion, slice_get, slice_index_or, arrival_at, arriving, arriving_at, Cell, Departure, Queued, admitted_arrives, Came, came_from, present, Served, listed, served, HasWaited, Marked, admission, arriving_from, departures_of, empty_ideal, IdealState, all_told, departures_from, departures_in, filled, fronts, ideal_slot, put_all, rests, AreForPorts, ranking, CameFor, Keyed, limited_empty_agree, keyed, ports_kept, same_slot, SendsAlike, Agrees, Fabric, input, empty_fabric, FabricSlot, LimitedFabricSlot, LimitedRecord, slots_in, came_to, gone_in, list_of, IsInputBest, IsStable, all_both, all_weaker, found_at, has_there, Has, all_from_has, all_of_has, has_cases, has_left, has_right, opening, Runs, Switch, fewer, HasFor, length-filled, rest_of, among_put_all, list_after, put_all_keeps, put_all_new, stable_slot, admission_for_ports, arrivals_for, place_of, RunBy, came_or_was, was_waiting, marks_kept, ◌^◌, IsBefore, EachPair, inl, pairs_cross, pairs_joined}
 use Rattle.cq_ideal.specs.IdealSlot.{Sent}
 use Rattle.cq_stopped.proofs.Configured.{IsConfigured}
-use Rattle.cq_stopped.proofs.Joined.{has_number}
-use Rattle.cq_stopped.proofs.Lined.{each_departs, left_more, slot_in_order}
+use Rattle.cq_stopped.proofs.Lined.{each_departs, left_has, left_more, slot_in_order}
 use Rattle.cq_stopped.proofs.Queueing.{is_less, pairs_next, IsKnown, IsRanked, ranked_from}
 use Rattle.cq_stopped.proofs.Ran.{DepartsBefore, Follows, IsHeld, IsKeyed, IsOwn, IsSentRight, Known, Lane, came_in, left_at, pool_at, came_of}
 
@@ -32,7 +31,7 @@ own_at w n f ideal cs sent known j q has =
     let inside : j < length w.machines = search (arith, rules, Has, get_or_past, cases_lt) in
     search (rules, inside, known.lanes j inside, all_of_has, has_right (left_at j sent), there)
 
--- what is known of a slot: the ideal switch beside it, what comes, and the cells that were there or came
+-- what is known of a slot: the ideal switch beside it, what comes, and that the ranks of what leaves fit
 pub record KnownSlot (w : Switch) (n : ℕ) (cells : List (Option Cell)) (f : Marked Fabric) (r : LimitedRecord)
     (g : Marked Fabric) : Type 0 where
   pub ideal : IdealState
@@ -41,7 +40,7 @@ pub record KnownSlot (w : Switch) (n : ℕ) (cells : List (Option Cell)) (f : Ma
   pub come : AreForPorts (length f.state.inputs) w.classes r.admission.cells
   pub best : FabricSlot IsInputBest w.machines n r.admission.cells f.state r.of_slot g.state
   pub step : FabricSlot IsStable w.machines n r.admission.cells f.state r.of_slot g.state
-  pub keyed : (j : ℕ) (q : Queued) → HasFor f.state j q ⊎ CameFor r.of_slot.came j q → IsKeyed w q
+  pub low : (j : ℕ) (q : Queued) → slice_index_or r.of_slot.gone j None ≡ Some q → q.key.rank < 2 ^ 128
   pub fewer : length (present r.admission.cells) ≤ length (present cells)
   pub marks : length g.marks ≡ length f.marks
 
@@ -183,13 +182,18 @@ module _ (w : Switch) (ranks : List (List ℕ)) (configured : IsConfigured w ran
     -- ## Departures
 
     -- what leaves now waited at its output
+    first_own : (j : ℕ) (q : Queued) → slice_index_or r.of_slot.gone j None ≡ Some q →
+        (j < length w.machines) × IsOwn w (n + 1) j q × Has (full j) q
+    first_own j q at =
+        let there = has_right (left j) (full j) q in
+        grind (arith, common_steps, many, get_or_past, gone_is, has_there, there, own_all, all_of_has, cases_lt)
+
     abbrev LeavesNow : Departure → Type 0
     LeavesNow d = IsSentRight w (n + 1) d × (d.slot ≡ n) × Has (full d.output) d.queued
 
     leave_now : AllByRecursion LeavesNow (departures_from n 0 r.of_slot.gone)
-    leave_now = each_departs n LeavesNow r.of_slot.gone 0 (λ k j q is at.
-        let there = has_right (left k) (full k) q in
-        grind (arith, common_steps, many, get_or_past, gone_is, has_there, there, own_all, all_of_has, cases_lt))
+    leave_now = each_departs n LeavesNow r.of_slot.gone 0
+        (λ k j q is at. let own = first_own k q at in grind (arith, common_steps, own))
 
     departed_next : AllByRecursion (IsSentRight w (n + 1)) sent_next
     unfolding departures_in
@@ -202,11 +206,10 @@ module _ (w : Switch) (ranks : List (List ℕ)) (configured : IsConfigured w ran
         (slot_in_order n 0 r.of_slot.gone) (λ d e first second.
         let now = all_of_has LeavesNow _ e leave_now second in
         let before = all_of_has (IsSentRight w n) sent d known.departed first in
-        let left_it = has_number (λ (d : Departure). d.output) (λ (d : Departure). d.queued) sent d e.output in
         let cross = pairs_cross Follows (left e.output) (full e.output) d.queued e.queued in
         record {
           order = inl (omega (arith, before.before, now.1));
-          ahead = λ same. cross (next_pairs e.output now.0.inside) (left_it same first) now.2;
+          ahead = λ same. cross (next_pairs e.output now.0.inside) (left_has sent d e.output same first) now.2;
         })
 
     -- ## What came
@@ -240,9 +243,8 @@ module _ (w : Switch) (ranks : List (List ℕ)) (configured : IsConfigured w ran
     slot_known : KnownSlot w n (arriving w.came n) f r g
     unfolding admission
     slot_known =
-        let own = own_at w n f.state ideal cs sent known in
-        let all : (j : ℕ) (q : Queued) → HasFor f.state j q ⊎ CameFor came j q → IsKeyed w q =
-        λ j q has. search (arith, rules, own j q, is_keyed) in
+        let low : (j : ℕ) (q : Queued) → slice_index_or r.of_slot.gone j None ≡ Some q → q.key.rank < 2 ^ 128 =
+        λ j q at. (first_own j q at).1.keyed.rank in
         search (arith, rules, come, stable, marks_kept, present, fewer)
 
   -- ## A run of a configured switch up to a slot: what is known of the empty fabric is known after each slot
