@@ -79,8 +79,7 @@ module _ (w : Switch) where
 
     fewer_wait : waits g.state ≤ waits f.state + came - 1
     fewer_wait =
-        let beside = same_slot w.machines slot w.classes r.admission.cells f.state g.state k.ideal r.of_slot k.agrees in
-        let sent = beside k.come k.step in
+        let sent = k.alike in
         let less = (counted w.machines slot r.admission.cells k.ideal _ sent.sent).fewer in
         omega (arith, all_wait slot f.state k.ideal k.agrees, all_wait (slot + 1) g.state sent.next sent.agrees)
 

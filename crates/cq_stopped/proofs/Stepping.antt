@@ -2,7 +2,7 @@
 -- come queue up behind those that left and those that wait, and where one leaves it is the first that waits: what left
 -- and then what waits is the same list. So what is known before the slot is known after it.
 use Rattle.cq_stopped.proofs.Terms.{rules, ◌≡◌, ℕ, zero, suc, ◌+◌, ◌<◌, ◌≤◌, List, [], ◌∷◌, ◌++◌, length, Option, Some, None, Ok, ◌∙◌, ◌⊎◌, ⊎_elim, arith, length-append, cases_lt, common_steps, append_assoc, get_or-append-add, get_or-map, get_or_append_left, get_or_past, length-map, ◌↔◌, append-nil, get_or-replicate, length-replicate, AllByRecursion, slice_get, slice_index_or, arrival_at, arriving, arriving_at, Cell, Departure, Queued, admitted_arrives, Came, came_from, present, Served, listed, served, HasWaited, Marked, admission, arriving_from, departures_of, empty_ideal, IdealState, all_told, departures_from, departures_in, filled, fronts, ideal_slot, put_all, rests, AreForPorts, ranking, CameFor, Keyed, limited_empty_agree, keyed, ports_kept, same_slot, SendsAlike, Agrees, Fabric, input, empty_fabric, FabricSlot, LimitedFabricSlot, LimitedRecord, slots_in, came_to, gone_in, list_of, IsInputBest, IsStable, all_both, all_weaker, found_at, has_there, Has, all_from_has, all_of_has, has_cases, has_left, has_right, opening, Runs, Switch, fewer, HasFor, length-filled, rest_of, among_put_all, list_after, put_all_keeps, put_all_new, stable_slot, admission_for_ports, arrivals_for, place_of, RunBy, came_or_was, was_waiting, marks_kept, ◌^◌, IsBefore, EachPair, inl, pairs_cross, pairs_joined}
-use Rattle.cq_ideal.specs.IdealSlot.{Sent}
+use Rattle.cq_ideal.proofs.Waiting.{sent_by}
 use Rattle.cq_stopped.proofs.Configured.{IsConfigured}
 use Rattle.cq_stopped.proofs.Lined.{each_departs, left_has, left_more, slot_in_order}
 use Rattle.cq_stopped.proofs.Queueing.{is_less, pairs_next, IsKnown, IsRanked, ranked_from}
@@ -36,6 +36,7 @@ pub record KnownSlot (w : Switch) (n : ℕ) (cells : List (Option Cell)) (f : Ma
     (g : Marked Fabric) : Type 0 where
   pub ideal : IdealState
   pub agrees : Agrees n f.state ideal
+  pub alike : SendsAlike w.machines n r.admission.cells ideal r.of_slot.gone g.state
   pub ports : length f.state.inputs ≡ length w.machines
   pub come : AreForPorts (length f.state.inputs) w.classes r.admission.cells
   pub best : FabricSlot IsInputBest w.machines n r.admission.cells f.state r.of_slot g.state
@@ -104,14 +105,8 @@ module _ (w : Switch) (ranks : List (List ℕ)) (configured : IsConfigured w ran
     abbrev lists : List (List Queued)
     lists = filled came ideal.lists
 
-    abbrev made : Sent
-    made =
-        record {
-          gone = fronts lists;
-          after = record { lists = rests lists; ranks = all_told w.machines (fronts lists) r.of_slot.arrived.ranks };
-        }
-
-    made_is : made ≡ record { gone = r.of_slot.gone; after = next }
+    made_is : sent_by w.machines ideal (record { came = came; ranks = r.of_slot.arrived.ranks })
+        ≡ record { gone = r.of_slot.gone; after = next }
     unfolding ideal_slot
     made_is = grind (arith, common_steps, as_ranked)
 
@@ -245,7 +240,7 @@ module _ (w : Switch) (ranks : List (List ℕ)) (configured : IsConfigured w ran
     slot_known =
         let low : (j : ℕ) (q : Queued) → slice_index_or r.of_slot.gone j None ≡ Some q → q.key.rank < 2 ^ 128 =
         λ j q at. (first_own j q at).1.keyed.rank in
-        search (arith, rules, come, stable, marks_kept, present, fewer)
+        search (arith, rules, come, stable, alike, marks_kept, present, fewer)
 
   -- ## A run of a configured switch up to a slot: what is known of the empty fabric is known after each slot
 
