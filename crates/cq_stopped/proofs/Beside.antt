@@ -4,7 +4,7 @@
 -- an input; and in each slot in which a cell waits or comes one leaves, so there are no more such slots than cells that
 -- came.
 use Rattle.std.proofs.lemmas.List.Sums.{get_or-le-sum_by}
-use Rattle.cq_stopped.proofs.Terms.{IsFabric, IsCount, get_or-map-range_with_len, length-map-range_with_len, arith, rules, Arrival, ◌≡◌, ℕ, zero, suc, ◌+◌, List, [], ◌∷◌, length, ◌∙◌, ◌≤◌, ◌*◌, ◌-◌, fold, max, cases_lt, common_steps, length-replicate, get_or-replicate, get_or_past, length-insert, sum_by-append, sum_by-cons, AllByRecursion, flat_map, sum, arriving, present, Marked, arriving_from, limited_empty_agree, after_sent, arrived, same_slot, Sound, Fabric, buffer, empty_fabric, input, SlotRecord, fabric_held, LimitedRecord, slots_in, proposals_in, machine_at, opening, Switch, waiting-empty, all_wait, nothing_left, come_count-first, counted, empty_together, most_ports}
+use Rattle.cq_stopped.proofs.Terms.{IsFabric, IsCount, get_or-map-range_with_len, length-map-range_with_len, arith, rules, Arrival, ◌≡◌, ℕ, zero, suc, ◌+◌, List, [], ◌∷◌, length, ◌∙◌, ◌≤◌, ◌*◌, ◌-◌, fold, max, cases_lt, common_steps, length-replicate, get_or-replicate, get_or_past, length-insert, sum_by-append, sum_by-cons, AllByRecursion, flat_map, sum, arriving, present, Marked, arriving_from, limited_empty_agree, after_sent, arrived, Sound, Fabric, buffer, empty_fabric, input, SlotRecord, fabric_held, LimitedRecord, slots_in, proposals_in, machine_at, opening, Switch, waiting-empty, all_wait, nothing_left, come_count-first, counted, empty_together, most_ports}
 use Rattle.cq_ideal.proofs.FlowRun.{come_count}
 use Rattle.cq_simulate.proofs.FabricCounts.{none_proposed as simulate_none, proposals_few, shorter, square_few}
 use Rattle.cq_stopped.proofs.Stepping.{KnownRun, KnownSlot}

@@ -1,7 +1,7 @@
 -- One slot of a run that may be stopped. The ideal switch goes on beside the fabric. At each output the cells that
 -- come queue up behind those that left and those that wait, and where one leaves it is the first that waits: what left
 -- and then what waits is the same list. So what is known before the slot is known after it.
-use Rattle.cq_stopped.proofs.Terms.{rules, ◌≡◌, ℕ, zero, suc, ◌+◌, ◌<◌, ◌≤◌, List, [], ◌∷◌, ◌++◌, length, Option, Some, None, Ok, ◌∙◌, ◌⊎◌, ⊎_elim, arith, length-append, cases_lt, common_steps, append_assoc, get_or-append-add, get_or-map, get_or_append_left, get_or_past, length-map, ◌↔◌, append-nil, get_or-replicate, length-replicate, AllByRecursion, slice_get, slice_index_or, arrival_at, arriving, arriving_at, Cell, Departure, Queued, admitted_arrives, Came, came_from, present, Served, listed, served, HasWaited, Marked, admission, arriving_from, departures_of, empty_ideal, IdealState, all_told, departures_from, departures_in, filled, fronts, ideal_slot, put_all, rests, AreForPorts, ranking, CameFor, Keyed, limited_empty_agree, keyed, ports_kept, same_slot, SendsAlike, Agrees, Fabric, input, empty_fabric, FabricSlot, LimitedFabricSlot, LimitedRecord, slots_in, came_to, gone_in, list_of, IsInputBest, IsStable, all_both, all_weaker, found_at, has_there, Has, all_from_has, all_of_has, has_cases, has_left, has_right, opening, Runs, Switch, fewer, HasFor, length-filled, rest_of, among_put_all, list_after, put_all_keeps, put_all_new, stable_slot, admission_for_ports, arrivals_for, place_of, RunBy, came_or_was, was_waiting, marks_kept, ◌^◌, IsBefore, EachPair, inl, pairs_cross, pairs_joined}
+use Rattle.cq_stopped.proofs.Terms.{rules, ◌≡◌, ℕ, zero, suc, ◌+◌, ◌<◌, ◌≤◌, List, [], ◌∷◌, ◌++◌, length, Option, Some, None, Ok, ◌∙◌, ◌⊎◌, ⊎_elim, arith, length-append, cases_lt, common_steps, append_assoc, get_or-append-add, get_or-map, get_or_append_left, get_or_past, length-map, ◌↔◌, append-nil, get_or-replicate, length-replicate, AllByRecursion, slice_get, slice_index_or, arrival_at, arriving, arriving_at, Cell, Departure, Queued, admitted_arrives, Came, came_from, present, Served, listed, served, HasWaited, Marked, admission, arriving_from, departures_of, empty_ideal, IdealState, departures_from, departures_in, filled, ideal_slot, put_all, AreForPorts, ranking, CameFor, Keyed, limited_empty_agree, keyed, ports_kept, same_slot, SendsAlike, Agrees, Fabric, input, empty_fabric, FabricSlot, LimitedFabricSlot, LimitedRecord, slots_in, came_to, gone_in, list_of, IsInputBest, IsStable, all_both, all_weaker, found_at, has_there, Has, all_from_has, all_of_has, has_cases, has_left, has_right, opening, Runs, Switch, fewer, HasFor, length-filled, rest_of, among_put_all, list_after, put_all_keeps, put_all_new, stable_slot, admission_for_ports, arrivals_for, place_of, RunBy, came_or_was, was_waiting, marks_kept, ◌^◌, IsBefore, EachPair, inl, pairs_cross, pairs_joined}
 use Rattle.cq_ideal.proofs.Waiting.{sent_by}
 use Rattle.cq_stopped.proofs.Configured.{IsConfigured}
 use Rattle.cq_stopped.proofs.Lined.{each_departs, left_has, left_more, slot_in_order}

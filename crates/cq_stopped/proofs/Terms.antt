@@ -22,7 +22,7 @@ unfoldable pub use Rattle.cq_ideal.specs.Admission.{admission}
 pub use Rattle.cq_ideal.specs.{Ending.slots_of, IdealRun.empty_ideal}
 unfoldable pub use Rattle.cq_ideal.specs.Ending.{arriving_from}
 unfoldable pub use Rattle.cq_ideal.specs.IdealRun.{departures_of}
-pub use Rattle.cq_ideal.specs.IdealSlot.{IdealState, departures_from, filled, fronts, put_all, rests}
+pub use Rattle.cq_ideal.specs.IdealSlot.{IdealState, departures_from, filled, put_all}
 unfoldable pub use Rattle.cq_ideal.specs.IdealSlot.{all_told, departures_in, ideal_slot}
 pub use Rattle.cq_ideal.specs.Ranking.{AreForPorts, Ranking, ranking}
 pub use Rattle.cq_ideal.specs.Refused.{refused_counts, refused_in, with_refused}

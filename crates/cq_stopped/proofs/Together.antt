@@ -1,19 +1,22 @@
 -- All of it together: what a stopped run of a configured switch leaves is told by a state that can be taken up: its
 -- numbers are in range, it is sound, and it comes to what was left: the fabric and the departures, as each name tells
 -- of its cell; the figures, since as many names are of an input as cells came to it; and the marks and the counts,
--- since the arrivals that are not named are those that were refused. The text of that state is read as what was left,
--- so what goes on from there is the run.
-use Rattle.cq_stopped.proofs.Terms.{come_count-first, IsCount, IsInputBest, recorded, slots_of_figures, rules, ◌≡◌, ℕ, zero, suc, ◌+◌, ◌-◌, ◌<◌, ◌≤◌, ◌^◌, List, [], ◌∷◌, length, map, fold, max, sym, ap, ◌∙◌, arith, common_steps, length-map, length-map-range_with_len, AllByRecursion, enumerate_from, flat_map, slice_index_or, Queued, Scheduled, arriving_from, departures_of, Fabric, cushion_of, input, SlotRecord, fabric_in, marked_in, LimitedRecord, slots_in, figures_of, input_figures, slacks, gone_in, list_of, each_pair, all_both, Differ, Has, all_from_has, all_of_has, has_image, has_left, has_right, image_has, figures_told, frozen_told, taken_of, opening, IsWhole, IsParted, seen_as, sent_as, state_of, IsRead, Kept, Runs, Switch, switch_of, named_in, queued_in, Taken, Tables, openings_of, AreRankNumbers, IsInRange, IsNamed, IsSeen, IsSent, state_text, Named, Sent, State, told_state, CanBeTakenUp, StoppedRunsAreSound, few_kept, of_images, all_weaker, written_in_run, arriving_length, counts_more, figures_fold, stable_limited_too, empty_list, limited_numbered, IsFabricRun, all_made, all_give, length-replicate}
+-- since the walk over the arrivals of each input ends with its mark, and those that are not named are, counted by any
+-- test, those that were refused. The text of that state is read as what was left, so what goes on from there is the run.
+use Rattle.cq_stopped.proofs.Terms.{come_count-first, IsCount, IsInputBest, recorded, slots_of_figures, rules, ◌≡◌, ℕ, zero, suc, ◌+◌, ◌-◌, ◌<◌, ◌≤◌, ◌^◌, List, [], ◌∷◌, length, map, fold, max, sym, ap, ◌∙◌, arith, common_steps, length-map, length-map-range_with_len, AllByRecursion, enumerate_from, flat_map, slice_index_or, Queued, Scheduled, arriving_from, departures_of, Fabric, cushion_of, input, SlotRecord, fabric_in, marked_in, LimitedRecord, slots_in, figures_of, input_figures, slacks, gone_in, list_of, each_pair, all_both, Differ, Has, all_from_has, all_of_has, has_image, has_left, has_right, image_has, figures_told, frozen_told, taken_of, opening, IsWhole, IsParted, seen_as, sent_as, state_of, IsRead, Kept, Runs, Switch, switch_of, named_in, queued_in, Taken, Tables, openings_of, AreRankNumbers, IsInRange, IsNamed, IsSeen, IsSent, state_text, Named, Sent, State, told_state, CanBeTakenUp, StoppedRunsAreSound, few_kept, of_images, all_weaker, written_in_run, arriving_length, counts_more, figures_fold, stable_limited_too, empty_list, limited_numbered, IsFabricRun, all_made, all_give, length-replicate, ◌&&◌, ◌==◌, Bool, Some, false, filter, refl, get_or-map, get_or-replicate, range_with_len, Cell, all_in_row, sum_by_same, tally, tally_by_parts, tally_turned, mark_at, refused_counts, refused_in, with_refused, fabric_judged, admissions_in, coming, has_name, unnamed, AreWholePackets, Name, refused_here, Refused, whole, all_stand, tallies_up, packets_alike, tally_is, IsTally, cells_in, all_arriving, all_in_range, all_judged}
 use Rattle.cq_audit.proofs.Following.{run_within as of_its_slots}
 use Rattle.cq_resume.proofs.Joining.{parts_join as join}
 use Rattle.cq_resume.proofs.OneAnswer.{read_exact}
 use Rattle.cq_stopped.proofs.Beside.{none_first, all_proposed, most_of_all, IsRecordedWithin, RunsWithin, empty_within, run_within}
 use Rattle.cq_stopped.proofs.Configured.{least_of, AreLow, IsConfigured, configured}
 use Rattle.cq_stopped.proofs.Lined.{figures_are, AreMoved}
-use Rattle.cq_stopped.proofs.Ran.{Known, came_of}
+use Rattle.cq_stopped.proofs.Ran.{Known, came_in, came_of}
 use Rattle.cq_stopped.proofs.Standing.{is_of_one, state_sized, states_many, fabric_same, sent_same, arrivals_are, named_at, below_floors, keep_order, stand_in_order, has_shape, slack_kept}
 use Rattle.cq_stopped.proofs.Stepping.{Ended, stopped_is}
-use Rattle.cq_stopped.proofs.Walk.{packets_are, tally_are}
+use Rattle.cq_stopped.proofs.Walk.{Follow, Walks, as_name, counted_flat, has_as_name, same_counts, walked}
+use Rattle.cq_ideal.proofs.Standing.{of_input, refused_are as refused_of_input, stand_in}
+use Rattle.cq_resume.proofs.Adding.{Tallied, left_before, mark_at as walk_mark}
+use Rattle.cq_stopped.proofs.Joined.{by_places}
 use Rattle.cq_stopped.specs.Read.{kept_in_run, ReadRunsGoOn, StoppedRunsAreRead}
 
 -- ## Figures of inputs
@@ -128,6 +131,69 @@ module _ (w : Switch) (ranks : List (List ℕ)) (configured : IsConfigured w ran
       let outputs_told = states_many at known in
       search (arith, rules, seen_right, states_right, queued_right, has_left, has_right, sent_right, moved, figures_low)
 
+  -- ## The fourth clause, the marks and the counts
+
+  abbrev next : ℕ
+  next = at.frozen.next
+
+  abbrev names : List Name
+  names = map as_name (named_in st)
+
+  -- the walk over the arrivals at an input, from the mark down on
+  walk : (i : ℕ) → i < ports → Walks w i (λ a. has_name names a) next 0 false (mark_at at.frozen.marks i)
+      (refused_here w.limits i (arriving_from w.came 0 next) (admissions_in rs))
+  walk i inside =
+      let many = length-replicate ports false in
+      let down : mark_at (opening w ranks).marks i ≡ false = get_or-replicate ports i false false inside in
+      let start : Follow w.limits false (coming i 0 next w.came) = search (arith, rules, whole) in
+      rw down at (walked w i (omega (arith, configured.few)) (configured.packets.lines i inside)
+      (λ a. has_name names a) (came_of rs) next
+      (λ a. sym (has_as_name (named_in st) a) ∙ named_at at known a.slot a.cell.id.input) 0 next (opening w ranks)
+      (marked_in at.frozen) rs runs (omega arith) (omega arith)
+      (λ t k e. rw e (search (arith, rules, came_in, came_of))) (rw down start))
+
+  -- what was refused, by input
+  lost_here : (i : ℕ) → i < ports →
+      of_input i (refused_in (admissions_in rs)) ≡ cells_in (unnamed names (coming i 0 next w.came))
+  unfolding arriving_from
+  lost_here i inside = search (arith, rules, refused_of_input, fabric_judged, stand_in, runs, (walk i inside).lost_are)
+
+  lost_counted : (p : Cell → Bool) → length (filter p (refused_in (admissions_in rs)))
+      ≡ length (filter p (cells_in (left_before w.limits next w.came names ports)))
+  unfolding left_before arriving_from
+  lost_counted p =
+      let lost = refused_in (admissions_in rs) in
+      let low = all_judged (λ c. c.id.input < ports) w.limits (opening w ranks).marks (arriving_from w.came 0 next)
+      (admissions_in rs) (search (rules, fabric_judged, runs))
+      (search (rules, all_in_range, all_arriving, configured.packets.inputs)) in
+      let here : ℕ → ℕ = λ i. length (filter p (cells_in (unnamed names (coming i 0 next w.came)))) in
+      let parts = tally_by_parts p (λ c. 0) (λ (c : Cell). c.id.input) 1 (λ _. ports) lost
+      (search (arith, rules, all_weaker)) in
+      let same = sum_by_same (λ i. tally (λ (c : Cell). p c && c.id.input == i) lost) here (range_with_len 0 ports)
+      (all_in_row _ 0 ports (λ i lt. tally_turned p (λ c. c.id.input == i) lost
+      ∙ ap (λ (l : List Cell). length (filter p l)) (lost_here i (omega arith)))) in
+      omega (arith, counted_flat p (λ i. unnamed names (coming i 0 next w.came)) (range_with_len 0 ports))
+
+  abbrev counts : List Refused
+  counts = with_refused (refused_in (admissions_in rs)) (refused_counts w.limits [])
+
+  tallied : Tallied w.limits next w.came names ports at.frozen.marks counts
+  tallied =
+      let ends = λ (i : ℕ) (inside : i < ports). (walk i inside).ends in
+      let walked = by_places (walk_mark w.limits next w.came names) (Some false) in
+      let counted = lost_counted in
+      search (arith, rules, marks_many, walked, ends, get_or-map, length-map, same_counts, left_before, counted)
+
+  packets_are : AreWholePackets w st
+  unfolding state_of
+  packets_are = (packets_alike w st names (has_as_name (named_in st))).1 (search (rules, all_stand, tallied))
+
+  tally_are : IsTally w st (record { marks = at.frozen.marks; refused = counts })
+  unfolding state_of
+  tally_are = tally_is w st names (has_as_name (named_in st)) _ (configured.limits ∙ sym known.ports)
+      (tallies_up w.limits next w.came names ports configured.packets at.frozen.marks counts tallied _ configured.limits
+      refl refl)
+
   -- ## It comes to what was left
 
   figures_same : at.frozen.figures ≡ figures_told w.came st
@@ -140,10 +206,7 @@ module _ (w : Switch) (ranks : List (List ℕ)) (configured : IsConfigured w ran
 
   taken_same : at ≡ taken_of w st
   unfolding frozen_told state_of
-  taken_same =
-      let tally = tally_are w ranks st rs (marked_in at.frozen) configured.few configured.packets marks_many runs
-      (λ a. named_at at known a.slot a.cell.id.input) configured.limits in
-      search (arith, rules, fabric_same at known, sent_same at known, known, tally, figures_same)
+  taken_same = search (arith, rules, fabric_same at known, sent_same at known, known, tally_are, figures_same)
 
   -- ## It can be taken up
 
@@ -152,8 +215,8 @@ module _ (w : Switch) (ranks : List (List ℕ)) (configured : IsConfigured w ran
   can_be_taken_up =
       let known = known in
       let order = stand_in_order at known moved in
-      let packets = packets_are w ranks st rs (marked_in at.frozen) configured.few configured.packets marks_many runs in
-      search (rules, in_range, has_shape, arrivals_are, slack_kept, keep_order, below_floors, taken_same, named_at)
+      let packets = packets_are in
+      search (rules, in_range, has_shape, arrivals_are, slack_kept, keep_order, below_floors, taken_same)
 
 pub stopped_runs_are_sound : StoppedRunsAreSound
 stopped_runs_are_sound t s slots at made tables recorded early parted = search (rules, can_be_taken_up, configured)

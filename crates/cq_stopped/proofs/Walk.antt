@@ -1,15 +1,11 @@
--- The fourth clause, the marks and what was refused. First the arrivals at one input, slot by slot. The mark of the
--- input after a slot says whether its arrival was admitted, and so whether it is named. Only the first cell of a packet
--- moves the mark, up only where its output has a limit, and the other cells of the packet are for the same output. So a
--- walk over the arrivals that compares each with the mark before it ends, with the mark of the run: each packet is
--- named whole or not at all, and the mark is that of the packet that began last. And what was refused slot by slot is,
--- counted by any test, what is not named input by input.
-use Rattle.cq_stopped.proofs.Terms.{sum_by, sum_by-cons, ◌&&◌, ◌==◌, all_weaker, all_in_row, sum_by_same, tally, tally_by_parts, tally_turned, rules, ◌≡◌, ℕ, zero, suc, ◌+◌, ◌<◌, ◌≤◌, eqb, Bool, true, false, List, [], ◌∷◌, length, Option, None, Some, refl, ap, sym, ◌∙◌, arith, length-append, map, and_parts, and_right, cases_Bool, cases_lt, eq-eqb, eqb-true, le-ltb, lt-leb, common_steps, get_or-map, get_or-replicate, length-map, length-replicate, map-append, filter-append, cons_option, range_with_len, filter, is_some, not, flat_map, arrival_at, Arrival, arriving, arriving_at, Cell, Queued, is_from, admitted_at, marks_kept, Marked, admission, held_after, mark_after, mark_at, marks_after, unless, arriving_from, cells_refused, packets_refused, refused_counts, refused_in, with_refused, fabric_judged, Fabric, fabric_held, LimitedRecord, admissions_in, all_from_has, found_at, ComeBehind, IsLine, coming, has_limit, mark_on, ArePackets, has_name, unnamed, opening, Runs, AreWholePackets, Switch, is_named, key_of, named_in, Named, State, ArrivesIn, refused_here, where_up, Refused, is_between, one_comes, whole, all_stand, tallies_up, packets_alike, tally_is, IsTally, cells_in, Name, filter_none, most_ports, all_arriving, all_in_range, all_judged}
+-- The fourth clause and the marks: the arrivals at one input, slot by slot. The mark of the input after a slot says
+-- whether its arrival was admitted, and so whether it is named. Only the first cell of a packet moves the mark, up only
+-- where its output has a limit, and the other cells of the packet are for the same output. So a walk over the arrivals
+-- that compares each with the mark before it ends, with the mark of the run: each packet is named whole or not at all,
+-- and the mark is that of the packet that began last. And what was refused slot by slot is what is not named.
+use Rattle.cq_stopped.proofs.Terms.{sum_by, sum_by-cons, rules, ◌≡◌, ℕ, zero, suc, ◌+◌, ◌<◌, eqb, Bool, true, false, List, [], ◌∷◌, length, Option, None, Some, refl, arith, length-append, map, and_parts, and_right, cases_Bool, cases_lt, eq-eqb, eqb-true, le-ltb, lt-leb, common_steps, map-append, filter-append, cons_option, filter, is_some, not, flat_map, arrival_at, Arrival, arriving, arriving_at, Cell, Queued, is_from, admitted_at, marks_kept, Marked, admission, held_after, mark_after, mark_at, marks_after, unless, arriving_from, cells_refused, packets_refused, with_refused, Fabric, fabric_held, LimitedRecord, admissions_in, all_from_has, found_at, ComeBehind, IsLine, coming, has_limit, mark_on, has_name, Runs, Switch, is_named, key_of, Named, ArrivesIn, refused_here, where_up, Refused, is_between, one_comes, whole, cells_in, Name, filter_none, most_ports}
 use Rattle.cq_ideal.proofs.RestAtInput.{is_shown}
-use Rattle.cq_ideal.proofs.Standing.{of_input, refused_are as refused_of_input, stand_in}
-use Rattle.cq_resume.proofs.Adding.{Tallied, left_before, mark_at as walk_mark}
 use Rattle.cq_stopped.proofs.Ran.{came_in, came_of}
-use Rattle.cq_stopped.proofs.Joined.{by_places}
 use Rattle.cq_stopped.proofs.Queueing.{came_where}
 
 -- ## The mark of an input over one slot
@@ -49,7 +45,7 @@ module _ (i slot end : ℕ) where
 module _ (limits : List (Option ℕ)) where
   -- cells of packets one after another, after a mark: the first goes on with a packet that was refused only where its
   -- output has a limit
-  abbrev Follow : Bool → List Arrival → Type 0
+  abbrev pub Follow : Bool → List Arrival → Type 0
   Follow mark [] = Unit {0}
   Follow mark (a ∷ line) =
       ComeBehind a line × (eqb a.cell.id.index 0 ≡ false → mark ≡ true → has_limit limits a.cell.output ≡ true)
@@ -114,13 +110,13 @@ module _ (w : Switch) (i : ℕ) (few : i < most_ports) (whole : IsLine (filter (
 -- ## Cells, counted by input
 
 -- of lists of arrivals, one list after another, list by list
-counted_flat : (p : Cell → Bool) (f : ℕ → List Arrival) (is : List ℕ) →
+pub counted_flat : (p : Cell → Bool) (f : ℕ → List Arrival) (is : List ℕ) →
     length (filter p (cells_in (flat_map f is))) ≡ sum_by (λ i. length (filter p (cells_in (f i)))) is
 counted_flat p f [] = refl
 counted_flat p f (i ∷ is) = search (rules, map-append, filter-append, length-append, sum_by-cons, counted_flat p f is)
 
 -- counts of cells of which each test passes as many are the same
-same_counts : (xs ys : List Cell) → ((p : Cell → Bool) → length (filter p xs) ≡ length (filter p ys)) →
+pub same_counts : (xs ys : List Cell) → ((p : Cell → Bool) → length (filter p xs) ≡ length (filter p ys)) →
     (counts : List Refused) → with_refused xs counts ≡ with_refused ys counts
 unfolding cells_refused packets_refused
 same_counts xs ys same [] = refl
@@ -128,84 +124,13 @@ same_counts xs ys same (r ∷ counts) = grind (arith, common_steps, r.output, sa
 
 -- ## Names that stand for those of a state
 
-abbrev no_cell : Cell
+abbrev pub no_cell : Cell
 no_cell =
     record { id = record { input = 0; packet = 0; index = 0 }; output = 0; class = 0; last = false; at = 0; len = 0 }
 
-abbrev as_name : Named → Name
+abbrev pub as_name : Named → Name
 as_name c = record { queued = record { cell = no_cell; key = key_of c }; sent = None }
 
-has_as_name : (names : List Named) (a : Arrival) → is_named names a ≡ has_name (map as_name names) a
+pub has_as_name : (names : List Named) (a : Arrival) → is_named names a ≡ has_name (map as_name names) a
 has_as_name [] a = refl
 has_as_name (c ∷ names) a = grind (arith, common_steps, has_as_name names a)
-
--- ## Together
-
-module _ (w : Switch) (ranks : List (List ℕ)) (st : State) (rs : List LimitedRecord) (g : Marked Fabric)
-    (few : length w.machines ≤ most_ports) (are : ArePackets (length w.machines) w.came)
-    (many_marks : length g.marks ≡ length w.machines)
-    (runs : Runs w 0 (arriving_from w.came 0 st.head.next) (opening w ranks) rs g)
-    (named_is : (a : Arrival) → is_named (named_in st) a ≡ is_some (came_in (came_of rs) a.slot a.cell.id.input)) where
-  abbrev ports : ℕ
-  ports = length w.machines
-
-  abbrev next : ℕ
-  next = st.head.next
-
-  abbrev names : List Name
-  names = map as_name (named_in st)
-
-  marks_down : (i : ℕ) → i < ports → mark_at (opening w ranks).marks i ≡ false
-  marks_down i inside = get_or-replicate ports i false false inside
-
-  walk : (i : ℕ) → i < ports → Walks w i (λ a. has_name names a) next 0 (mark_at (opening w ranks).marks i)
-      (mark_at g.marks i) (refused_here w.limits i (arriving_from w.came 0 next) (admissions_in rs))
-  walk i inside =
-      let many = length-replicate ports false in
-      let start : Follow w.limits false (coming i 0 next w.came) = search (arith, rules, whole) in
-      walked w i (omega arith) (are.lines i inside) (λ a. has_name names a) (came_of rs) next
-      (λ a. sym (has_as_name (named_in st) a) ∙ named_is a) 0 next (opening w ranks) g rs runs (omega arith)
-      (omega arith) (λ t k e. rw e (search (arith, rules, came_in, came_of))) (rw (marks_down i inside) start)
-
-  ends_marked : (i : ℕ) → i < ports → walk_mark w.limits next w.came names i ≡ Some (mark_at g.marks i)
-  ends_marked i inside = rw (marks_down i inside) at (walk i inside).ends
-
-  -- what was refused, by input
-  lost_here : (i : ℕ) → i < ports →
-      of_input i (refused_in (admissions_in rs)) ≡ cells_in (unnamed names (coming i 0 next w.came))
-  unfolding arriving_from
-  lost_here i inside = search (arith, rules, refused_of_input, fabric_judged, stand_in, (walk i inside).lost_are)
-
-  lost_counted : (p : Cell → Bool) → length (filter p (refused_in (admissions_in rs)))
-      ≡ length (filter p (cells_in (left_before w.limits next w.came names ports)))
-  unfolding left_before arriving_from
-  lost_counted p =
-      let lost = refused_in (admissions_in rs) in
-      let low = all_judged (λ c. c.id.input < ports) w.limits (opening w ranks).marks (arriving_from w.came 0 next)
-      (admissions_in rs) (search (rules, fabric_judged)) (search (rules, all_in_range, all_arriving, are.inputs)) in
-      let here : ℕ → ℕ = λ i. length (filter p (cells_in (unnamed names (coming i 0 next w.came)))) in
-      let parts = tally_by_parts p (λ c. 0) (λ (c : Cell). c.id.input) 1 (λ _. ports) lost
-      (search (arith, rules, all_weaker)) in
-      let same = sum_by_same (λ i. tally (λ (c : Cell). p c && c.id.input == i) lost) here (range_with_len 0 ports)
-      (all_in_row _ 0 ports (λ i lt. tally_turned p (λ c. c.id.input == i) lost
-      ∙ ap (λ (l : List Cell). length (filter p l)) (lost_here i (omega arith)))) in
-      omega (arith, counted_flat p (λ i. unnamed names (coming i 0 next w.came)) (range_with_len 0 ports))
-
-  abbrev counts : List Refused
-  counts = with_refused (refused_in (admissions_in rs)) (refused_counts w.limits [])
-
-  known : Tallied w.limits next w.came names ports g.marks counts
-  known =
-      let walked = by_places (walk_mark w.limits next w.came names) (Some false) in
-      let counted = lost_counted in
-      search (arith, rules, walked, length-map, ends_marked, get_or-map, same_counts, cells_in, left_before, counted)
-
-  -- ## The fourth clause, the marks and the counts
-
-  pub packets_are : AreWholePackets w st
-  packets_are = (packets_alike w st names (has_as_name (named_in st))).1 (search (rules, all_stand, known))
-
-  pub tally_are : length w.limits ≡ ports → ports ≡ st.head.ports →
-      IsTally w st (record { marks = g.marks; refused = counts })
-  tally_are limits many = tally_is w st names (has_as_name (named_in st)) _ (limits ∙ many)
-      (tallies_up w.limits next w.came names ports are g.marks counts known _ limits refl refl)
