@@ -113,18 +113,7 @@ module _ (w : Switch) where
       grind (arith, common_steps, sum_by-append (λ (n : ℕ). n), arrived_list, buffer_few, slot_proposed slot f run.0)
   run_within few keeps slot _ f g _ run low all within = absurd run
 
-  pub all_proposed : (slots : ℕ) (ranks : List (List ℕ)) (g : Marked Fabric) (rs : List LimitedRecord) →
-      RunsWithin w.came 0 slots (opening w ranks) rs g → sum (flat_map proposals_in (slots_in rs)) ≤ 8192 * length
-      w.came
-  unfolding arriving_from
-  all_proposed slots ranks g rs run = omega (arith, none_first (length w.machines) ranks, come_count-first)
-
 -- the greatest is no more than all together
 pub most_of_all : (a : ℕ) (xs : List ℕ) → fold max a xs ≤ a + sum xs
 most_of_all a [] = omega arith
 most_of_all a (x ∷ xs) = grind (arith, common_steps, sum_by-cons, most_of_all (max a x) xs)
-
--- nothing is in the empty fabric
-pub empty_within : (ports : ℕ) (ranks : List (List ℕ)) → AllByRecursion AreLow ranks →
-    IsWithin 0 (empty_fabric ports ranks)
-empty_within ports ranks low = grind (arith, common_steps, get_or-replicate, get_or_past, length-replicate, cases_lt)
