@@ -7,5 +7,4 @@ pub mod Joined
 pub mod Standing
 pub mod Lined
 pub mod Walk
-pub mod Beside
 pub mod Together

@@ -2,17 +2,17 @@
 -- numbers are in range, it is sound, and it comes to what was left: the fabric and the departures, as each name tells
 -- of its cell; the figures, since as many names are of an input as cells came to it; and the marks and the counts,
 -- since the walk over the arrivals of each input ends with its mark, and those that are not named are, counted by any
--- test, those that were refused. The text of that state is read as what was left, so what goes on from there is the run.
+-- test, those that were refused. The text of that state is read as what was left, so what goes on from there is the
+-- run.
 use Rattle.cq_stopped.proofs.Terms.{come_count-first, IsCount, IsInputBest, recorded, slots_of_figures, rules, ◌≡◌, ℕ, zero, suc, ◌+◌, ◌-◌, ◌<◌, ◌≤◌, ◌^◌, List, [], ◌∷◌, length, map, fold, max, sym, ap, ◌∙◌, arith, common_steps, length-map, length-map-range_with_len, AllByRecursion, enumerate_from, flat_map, slice_index_or, Queued, Scheduled, arriving_from, departures_of, Fabric, cushion_of, input, SlotRecord, fabric_in, marked_in, LimitedRecord, slots_in, figures_of, input_figures, slacks, gone_in, list_of, each_pair, all_both, Differ, Has, all_from_has, all_of_has, has_image, has_left, has_right, image_has, figures_told, frozen_told, taken_of, opening, IsWhole, IsParted, seen_as, sent_as, state_of, IsRead, Kept, Runs, Switch, switch_of, named_in, queued_in, Taken, Tables, openings_of, AreRankNumbers, IsInRange, IsNamed, IsSeen, IsSent, state_text, Named, Sent, State, told_state, CanBeTakenUp, StoppedRunsAreSound, few_kept, of_images, all_weaker, written_in_run, arriving_length, counts_more, figures_fold, stable_limited_too, empty_list, limited_numbered, IsFabricRun, all_made, all_give, length-replicate, ◌&&◌, ◌==◌, Bool, Some, false, filter, refl, get_or-map, get_or-replicate, range_with_len, Cell, all_in_row, sum_by_same, tally, tally_by_parts, tally_turned, mark_at, refused_counts, refused_in, with_refused, fabric_judged, admissions_in, coming, has_name, unnamed, AreWholePackets, Name, refused_here, Refused, whole, all_stand, tallies_up, packets_alike, tally_is, IsTally, cells_in, all_arriving, all_in_range, all_judged, sum, proposals_in, ◌*◌}
 use Rattle.cq_audit.proofs.Following.{run_within as of_its_slots}
 use Rattle.cq_resume.proofs.Joining.{parts_join as join}
 use Rattle.cq_resume.proofs.OneAnswer.{read_exact}
-use Rattle.cq_stopped.proofs.Beside.{none_first, most_of_all, IsRecordedWithin, RunsWithin, run_within}
 use Rattle.cq_stopped.proofs.Configured.{least_of, AreLow, IsConfigured, configured}
 use Rattle.cq_stopped.proofs.Lined.{figures_are, AreMoved}
 use Rattle.cq_stopped.proofs.Ran.{Known, came_in, came_of}
 use Rattle.cq_stopped.proofs.Standing.{is_of_one, state_sized, states_many, fabric_same, sent_same, arrivals_are, named_at, below_floors, keep_order, stand_in_order, has_shape, slack_kept}
-use Rattle.cq_stopped.proofs.Stepping.{Ended, stopped_is}
+use Rattle.cq_stopped.proofs.Stepping.{none_first, most_of_all, IsRecordedWithin, Ended, stopped_is}
 use Rattle.cq_stopped.proofs.Walk.{Follow, Walks, as_name, counted_flat, has_as_name, same_counts, walked}
 use Rattle.cq_ideal.proofs.Standing.{of_input, refused_are as refused_of_input, stand_in}
 use Rattle.cq_resume.proofs.Adding.{Tallied, left_before, mark_at as walk_mark}
@@ -66,7 +66,7 @@ module _ (w : Switch) (ranks : List (List ℕ)) (configured : IsConfigured w ran
 
   stopped : Ended w ranks configured 0 at.frozen.next at.frozen.next (opening w ranks) rs (marked_in at.frozen)
       (came_of rs) (departures_of 0 (gone_in (slots_in rs)))
-  stopped = stopped_is w ranks configured at.frozen.next rs (marked_in at.frozen) runs
+  stopped = stopped_is w ranks configured at.frozen.next rs (marked_in at.frozen) (omega (arith, early, parted.next)) runs
 
   -- each input keeps its mark
   marks_many : length at.frozen.marks ≡ ports
@@ -83,15 +83,6 @@ module _ (w : Switch) (ranks : List (List ℕ)) (configured : IsConfigured w ran
       let written = written_in_run ports w.classes w.came configured.traffic configured.names w.limits w.machines in
       search (arith, rules, written, all_give, all_weaker, arriving_length, of_its_slots, empty_list, known.long)
 
-  within : RunsWithin w.came 0 at.frozen.next (opening w ranks) rs (marked_in at.frozen)
-  unfolding arriving_from
-  within =
-      let all = come_count-first w.came at.frozen.next in
-      let none = λ (i : ℕ). ap (λ (l : List Queued). length l) (empty_list ports i) in
-      run_within w configured.few configured.low 0 at.frozen.next (opening w ranks) (marked_in at.frozen) rs
-      stopped.slots (omega (arith, early, parted.next)) (omega (arith, configured.few_cells, none_first ports ranks))
-      (record { lists = λ i. omega (arith, none i); states = configured.openings_low })
-
   figures_are_of : at.frozen.figures ≡ figures_of ports (slots_in rs)
   figures_are_of = ap (λ (k : Kept). k.figures) parted.kept ∙ sym (figures_fold ports (slots_in rs))
 
@@ -101,16 +92,16 @@ module _ (w : Switch) (ranks : List (List ℕ)) (configured : IsConfigured w ran
   unfolding figures_of arriving_from
   figures_low =
       let all : sum (flat_map proposals_in (slots_in rs)) ≤ 8192 * length w.came =
-      omega (arith, within.proposed, none_first ports ranks, come_count-first w.came at.frozen.next) in
+      omega (arith, stopped.within.proposed, none_first ports ranks, come_count-first w.came at.frozen.next) in
       search (arith, rules, most_of_all, figures_are_of)
 
   seen_right : AllByRecursion IsSeen (map seen_as at.frozen.figures.inputs)
   unfolding figures_of
-  seen_right = search (arith, rules, figures_are_of, of_images, all_made, one_seen, within.records)
+  seen_right = search (arith, rules, figures_are_of, of_images, all_made, one_seen, stopped.within.records)
 
   states_right : AllByRecursion AreRankNumbers at.frozen.ranks
   states_right =
-      search (arith, rules, state_sized at known, known, rank_numbers at.frozen.ranks within.states)
+      search (arith, rules, state_sized at known, known, rank_numbers at.frozen.ranks stopped.within.states)
 
   queued_right : (names : List Named) → ((c : Named) → Has names c → Has (queued_in st) c) →
       AllByRecursion (IsNamed ports) names
@@ -204,7 +195,7 @@ module _ (w : Switch) (ranks : List (List ℕ)) (configured : IsConfigured w ran
       let once = each_pair Differ (named_in st) (arrivals_are at known).once in
       let run = recorded IsInputBest w.limits w.machines 0 _ _ _ rs runs in
       let in_slots = slots_of_figures IsInputBest w.machines ports _ _ _ (slots_in rs) run in
-      search (arith, rules, sent_same, known, figures_are, within, named_at, came_of, figures_are_of, limited_numbered)
+      search (arith, rules, sent_same, known, figures_are, named_at, came_of, figures_are_of, limited_numbered)
 
   taken_same : at ≡ taken_of w st
   unfolding frozen_told state_of
