@@ -4,6 +4,7 @@
 -- recorded slot by slot.
 use Rattle.cq_stopped.proofs.Terms.{Bool, Named, ◌&&◌, ◌≡◌, ◌≢◌, ℕ, ◌⊎◌, ◌<◌, ◌≤◌, ◌^◌, List, [], ◌++◌, length, map, Option, Some, ◌==◌, filter, slice_index_or, AllByRecursion, arriving_at, Departure, Queued, IdealState, Agrees, Fabric, IsAmong, input, LimitedRecord, came_to, list_of, machine_at, EachPair, Has, Switch}
 use Rattle.cq_ideal.proofs.FlowStands.{Stands}
+use Rattle.cq_stopped.proofs.Configured.{AreLow}
 
 -- a cell with its key, as the switch keys it
 pub record IsKeyed (w : Switch) (q : Queued) : Type 0 where
@@ -82,6 +83,8 @@ pub record Known (w : Switch) (n : ℕ) (f : Fabric) (ideal : IdealState) (cs : 
   pub placed : (i : ℕ) (c : Queued) → IsAmong c (input f i) → c.key.input ≡ i
   pub departed : AllByRecursion (IsSentRight w n) sent
   pub ordered : EachPair DepartsBefore sent
+  pub short : (i : ℕ) → length (input f i) ≤ n
+  pub low : AllByRecursion AreLow f.ranks
   pub long : length cs ≡ n
   pub origin : (j : ℕ) (q : Queued) → j < length w.machines → Has (pool_at j sent ideal) q →
       came_in cs q.key.slot q.key.input ≡ Some q

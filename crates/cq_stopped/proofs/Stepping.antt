@@ -5,12 +5,12 @@
 -- more than came. The ranks of what comes and of what leaves fit, so the numbers of the rank states do. A phase makes
 -- no more proposals than the number of ports squared, and none where no cell waits at an input; and in each slot in
 -- which a cell waits or comes one leaves, so there are no more such slots than cells that came.
-use Rattle.cq_stopped.proofs.Terms.{rules, ◌≡◌, ℕ, zero, suc, ◌+◌, ◌<◌, ◌≤◌, List, [], ◌∷◌, ◌++◌, length, Option, Some, None, Ok, ◌∙◌, ◌⊎◌, ⊎_elim, arith, length-append, cases_lt, common_steps, append_assoc, get_or-append-add, get_or-map, get_or_append_left, get_or_past, length-map, ◌↔◌, append-nil, get_or-replicate, length-replicate, AllByRecursion, slice_get, slice_index_or, arrival_at, arriving, arriving_at, Cell, Departure, Queued, admitted_arrives, Came, came_from, present, Served, listed, served, HasWaited, Marked, admission, arriving_from, departures_of, empty_ideal, IdealState, departures_from, departures_in, filled, ideal_slot, put_all, AreForPorts, ranking, CameFor, Keyed, limited_empty_agree, keyed, ports_kept, same_slot, SendsAlike, Fabric, input, empty_fabric, FabricSlot, LimitedFabricSlot, LimitedRecord, slots_in, came_to, gone_in, list_of, IsInputBest, IsStable, all_both, all_weaker, found_at, has_there, Has, all_from_has, all_of_has, has_cases, has_left, has_right, opening, Runs, Switch, fewer, HasFor, length-filled, rest_of, among_put_all, list_after, put_all_keeps, put_all_new, stable_slot, admission_for_ports, arrivals_for, place_of, came_or_was, was_waiting, marks_kept, IsBefore, EachPair, inl, pairs_cross, pairs_joined, IsFabric, IsCount, get_or-map-range_with_len, length-map-range_with_len, Arrival, ◌*◌, ◌-◌, fold, max, length-insert, sum_by-append, sum_by-cons, flat_map, sum, after_sent, arrived, Sound, buffer, SlotRecord, fabric_held, proposals_in, waiting-empty, all_wait, nothing_left, come_count-first, counted, empty_together, ap, empty_list}
+use Rattle.cq_stopped.proofs.Terms.{rules, ◌≡◌, ℕ, zero, suc, ◌+◌, ◌<◌, ◌≤◌, List, [], ◌∷◌, ◌++◌, length, Option, Some, None, Ok, ◌∙◌, ◌⊎◌, ⊎_elim, arith, length-append, cases_lt, common_steps, append_assoc, get_or-append-add, get_or-map, get_or_append_left, get_or_past, length-map, ◌↔◌, append-nil, get_or-replicate, length-replicate, AllByRecursion, slice_get, slice_index_or, arrival_at, arriving, arriving_at, Cell, Departure, Queued, admitted_arrives, Came, came_from, present, Served, listed, served, HasWaited, Marked, admission, arriving_from, departures_of, empty_ideal, IdealState, departures_from, departures_in, filled, ideal_slot, put_all, AreForPorts, ranking, CameFor, Keyed, limited_empty_agree, keyed, ports_kept, same_slot, SendsAlike, Fabric, input, empty_fabric, FabricSlot, LimitedFabricSlot, LimitedRecord, slots_in, came_to, gone_in, list_of, IsInputBest, IsStable, all_both, all_weaker, found_at, has_there, Has, all_from_has, all_of_has, has_cases, has_left, has_right, opening, Runs, Switch, fewer, length-filled, rest_of, among_put_all, list_after, put_all_keeps, put_all_new, stable_slot, admission_for_ports, arrivals_for, place_of, came_or_was, was_waiting, marks_kept, IsBefore, EachPair, inl, pairs_cross, pairs_joined, IsFabric, IsCount, get_or-map-range_with_len, length-map-range_with_len, ◌*◌, ◌-◌, fold, max, length-insert, sum_by-append, sum_by-cons, flat_map, sum, after_sent, arrived, Sound, buffer, SlotRecord, fabric_held, proposals_in, waiting-empty, all_wait, nothing_left, come_count-first, counted, empty_together, ap, empty_list}
 use Rattle.cq_ideal.proofs.Waiting.{sent_by}
 use Rattle.std.proofs.lemmas.List.Sums.{get_or-le-sum_by}
 use Rattle.cq_ideal.proofs.FlowRun.{come_count}
 use Rattle.cq_simulate.proofs.FabricCounts.{none_proposed as simulate_none, proposals_few, shorter, square_few}
-use Rattle.cq_stopped.proofs.Configured.{AreLow, IsConfigured}
+use Rattle.cq_stopped.proofs.Configured.{IsConfigured}
 use Rattle.cq_stopped.proofs.Lined.{each_departs, left_has, left_more, slot_in_order}
 use Rattle.cq_stopped.proofs.Queueing.{is_less, ranked_low, told_low, pairs_next, IsKnown, IsRanked, ranked_from}
 use Rattle.cq_stopped.proofs.Ran.{DepartsBefore, Follows, IsHeld, IsKeyed, IsOwn, IsSentRight, Known, Lane, came_in, left_at, pool_at, came_of}
@@ -29,15 +29,6 @@ came_then cs c t i q = (
   λ at. grind (arith, common_steps, get_or_append_left, get_or-append-add, get_or_past, cases_lt t (length cs)),
 )
 
--- a cell of the fabric is one of its output
-pub own_at : (w : Switch) (n : ℕ) (f : Fabric) (ideal : IdealState) (cs : List (List (Option Queued)))
-    (sent : List Departure) → Known w n f ideal cs sent → (j : ℕ) (q : Queued) → HasFor f j q →
-    (j < length w.machines) × IsOwn w n j q
-own_at w n f ideal cs sent known j q has =
-    let there = (known.agrees.same j q).1 has in
-    let inside : j < length w.machines = search (arith, rules, Has, get_or_past, cases_lt) in
-    search (rules, inside, known.lanes j inside, all_of_has, has_right (left_at j sent), there)
-
 -- ## What waits
 
 -- how many cells wait in a fabric
@@ -54,24 +45,10 @@ buffer_few f is j =
     let held = get_or-le-sum_by (λ (n : ℕ). n) (fabric_held f) j 0 in
     grind (arith, common_steps, held, get_or-map-range_with_len, length-map-range_with_len, get_or_past, cases_lt)
 
--- ## Bounds before a slot, and over it
-
-pub record IsWithin (slot : ℕ) (f : Fabric) : Type 0 where
-  pub lists : (i : ℕ) → length (input f i) ≤ slot
-  pub states : AllByRecursion AreLow f.ranks
-
 -- what is recorded of a slot
 pub record IsRecordedWithin (r : SlotRecord) : Type 0 where
   pub longest : (i : ℕ) → IsCount (length (input r.arrived i))
   pub cushions : (j : ℕ) → IsCount (length (buffer r.arrived j))
-
--- after so many slots from this one on, with these records
-pub record RunsWithin (came : List Arrival) (slot n : ℕ) (f : Marked Fabric) (rs : List LimitedRecord)
-    (g : Marked Fabric) : Type 0 where
-  pub states : AllByRecursion AreLow g.state.ranks
-  pub records : AllByRecursion IsRecordedWithin (slots_in rs)
-  pub proposed : sum (flat_map proposals_in (slots_in rs)) + 8192 * waits g.state
-      ≤ 8192 * (waits f.state + come_count (arriving_from came slot n))
 
 -- the greatest is no more than all together
 pub most_of_all : (a : ℕ) (xs : List ℕ) → fold max a xs ≤ a + sum xs
@@ -245,27 +222,6 @@ module _ (w : Switch) (ranks : List (List ℕ)) (configured : IsConfigured w ran
         Has (left q.cell.output ++ full q.cell.output) q → IsHeld next sent_next t i q
     held_at t i q slot input inside there = grind (arith, common_steps, made_is, length-map, lists_many, pool_is)
 
-    -- ## Together
-
-    known_next : Known w (n + 1) g.state next (cs ++ came ∷ []) sent_next
-    known_next = record {
-      agrees = alike.agrees;
-      ports = search (arith, rules, ports_kept, come, stable);
-      states = (its_served 0 (omega arith)).states ∙ known.states;
-      lanes = next_lane;
-      placed =
-          let before = was_waiting step.runs.fill.moves in
-          search (arith, rules, was_waiting step.runs.finish.moves, before, came_or_was, its_keys, known.placed);
-      departed = departed_next;
-      ordered = ordered_next;
-      long = grind (arith, common_steps, length-append);
-      origin = λ j q inside has. (came_then cs came q.key.slot q.key.input q).1
-          (search (arith, rules, its_came, was_or_new j q, pool_is j inside));
-      held = λ t i q is. ⊎_elim (search (arith, rules, known.held, many, held_at, pool_keeps q.cell.output q))
-          (λ now. search (arith, rules, its_came i q now.1, its_keys.outputs i q, held_at, has_right, put_all_new))
-          ((came_then cs came t i q).0 is);
-    }
-
     -- each input keeps its mark, and no more cells come in than arrive
     marks_stay : length g.marks ≡ length f.marks
     unfolding admission
@@ -286,26 +242,14 @@ module _ (w : Switch) (ranks : List (List ℕ)) (configured : IsConfigured w ran
     sent_is : Sound (n + 1) r.of_slot.sent
     sent_is = search (rules, after_sent, come, stable)
 
-    module _ (within : IsWithin n f.state) where
-      arrived_list : (i : ℕ) → length (input r.of_slot.arrived i) ≤ n + 1
-      arrived_list i = search (arith, rules, length-insert)
+    arrived_list : (i : ℕ) → length (input r.of_slot.arrived i) ≤ n + 1
+    arrived_list i = search (arith, rules, length-insert)
 
-      next_within : IsWithin (n + 1) g.state
-      next_within = record {
-        lists =
-            let first = shorter r.of_slot.first r.of_slot.arrived r.of_slot.filled step.runs.fill in
-            search (arith, rules, arrived_list, first, shorter r.of_slot.second r.of_slot.sent g.state);
-        states = rw (step.runs.finish.ranks, step.runs.depart.ranks, step.runs.fill.ranks)
-            (told_low w.machines configured.low r.of_slot.gone _ (ranked_low w.machines configured.low n 0
-            r.admission.cells f.state.ranks _ within.states step.runs.arrive.ranked)
-            (λ j q left. (first_own j q left).1.keyed.rank));
-      }
-
-      now_recorded : IsCount (n + 1) → IsCount (waits f.state) → IsRecordedWithin r.of_slot
-      now_recorded low all = record {
-        longest = λ i. omega (arith, low, arrived_list i);
-        cushions = λ j. rw step.runs.arrive.buffers (omega (arith, all, buffer_few f.state known.agrees.fabric j));
-      }
+    now_recorded : IsCount (n + 1) → IsCount (waits f.state) → IsRecordedWithin r.of_slot
+    now_recorded low all = record {
+      longest = λ i. omega (arith, low, arrived_list i);
+      cushions = λ j. rw step.runs.arrive.buffers (omega (arith, all, buffer_few f.state known.agrees.fabric j));
+    }
 
     -- ## How many proposals a slot makes
 
@@ -331,6 +275,34 @@ module _ (w : Switch) (ranks : List (List ℕ)) (configured : IsConfigured w ran
         (λ none. let no = none_proposed (omega arith) (omega arith) in omega (arith, fewer_wait, no))
         (cases_lt 0 (waits f.state + many_come))
 
+    -- ## Together
+
+    known_next : Known w (n + 1) g.state next (cs ++ came ∷ []) sent_next
+    known_next = record {
+      agrees = alike.agrees;
+      ports = search (arith, rules, ports_kept, come, stable);
+      states = (its_served 0 (omega arith)).states ∙ known.states;
+      lanes = next_lane;
+      placed =
+          let before = was_waiting step.runs.fill.moves in
+          search (arith, rules, was_waiting step.runs.finish.moves, before, came_or_was, its_keys, known.placed);
+      departed = departed_next;
+      ordered = ordered_next;
+      short =
+          let first = shorter r.of_slot.first r.of_slot.arrived r.of_slot.filled step.runs.fill in
+          search (arith, rules, arrived_list, first, shorter r.of_slot.second r.of_slot.sent g.state);
+      low = rw (step.runs.finish.ranks, step.runs.depart.ranks, step.runs.fill.ranks)
+          (told_low w.machines configured.low r.of_slot.gone _ (ranked_low w.machines configured.low n 0
+          r.admission.cells f.state.ranks _ known.low step.runs.arrive.ranked)
+          (λ j q left. (first_own j q left).1.keyed.rank));
+      long = grind (arith, common_steps, length-append);
+      origin = λ j q inside has. (came_then cs came q.key.slot q.key.input q).1
+          (search (arith, rules, its_came, was_or_new j q, pool_is j inside));
+      held = λ t i q is. ⊎_elim (search (arith, rules, known.held, many, held_at, pool_keeps q.cell.output q))
+          (λ now. search (arith, rules, its_came i q now.1, its_keys.outputs i q, held_at, has_right, put_all_new))
+          ((came_then cs came t i q).0 is);
+    }
+
   -- ## A run of a configured switch up to a slot: what is known of the empty fabric is known after each slot
 
   -- what is known at its end, and what is within bounds
@@ -338,42 +310,46 @@ module _ (w : Switch) (ranks : List (List ℕ)) (configured : IsConfigured w ran
       (cs : List (List (Option Queued))) (sent : List Departure) : Type 0 where
     pub ideal : IdealState
     pub known : Known w end g.state ideal cs sent
-    pub within : RunsWithin w.came a m f rs g
+    pub records : AllByRecursion IsRecordedWithin (slots_in rs)
+    pub proposed : sum (flat_map proposals_in (slots_in rs)) + 8192 * waits g.state
+        ≤ 8192 * (waits f.state + come_count (arriving_from w.came a m))
     pub marks : length g.marks ≡ length f.marks
 
   run_known : (m a end : ℕ) (f g : Marked Fabric) (rs : List LimitedRecord) (ideal : IdealState)
-      (cs : List (List (Option Queued))) (sent : List Departure) → Known w a f.state ideal cs sent → IsWithin a f.state →
-      IsCount (a + m) → IsCount (waits f.state + come_count (arriving_from w.came a m)) → end ≡ a + m →
+      (cs : List (List (Option Queued))) (sent : List Departure) → Known w a f.state ideal cs sent → IsCount end →
+      IsCount (waits f.state + come_count (arriving_from w.came a m)) → end ≡ a + m →
       Runs w a (arriving_from w.came a m) f rs g →
       Ended a m end f rs g (cs ++ came_of rs) (sent ++ departures_of a (gone_in (slots_in rs)))
   unfolding departures_of arriving_from come_count
-  run_known zero a end f g [] ideal cs sent known within low all is run =
+  run_known zero a end f g [] ideal cs sent known low all is run =
       grind (arith, common_steps, append-nil)
-  run_known (suc m) a end f g (r ∷ rs) ideal cs sent known within low all is run =
+  run_known (suc m) a end f g (r ∷ rs) ideal cs sent known low all is run =
       let next = known_next a f run.0 r ideal cs sent known run.1 in
-      let on = next_within a f run.0 r ideal cs sent known run.1 within in
-      let now = now_recorded a f run.0 r ideal cs sent known run.1 within (omega arith) (omega arith) in
+      let now = now_recorded a f run.0 r ideal cs sent known run.1 (omega arith) (omega arith) in
       let marks = marks_stay a f run.0 r ideal cs sent known run.1 in
       let few = few_come a f run.0 r ideal cs sent known run.1 in
       let less = fewer_wait a f run.0 r ideal cs sent known run.1 in
       let made = slot_proposed a f run.0 r ideal cs sent known run.1 in
-      let rest = run_known m (a + 1) end run.0 g rs _ _ _ next on (omega arith) (omega arith) (omega arith) run.2 in
+      let rest = run_known m (a + 1) end run.0 g rs _ _ _ next low (omega arith) (omega arith) run.2 in
       let sums = sum_by-append (λ (n : ℕ). n) (proposals_in r.of_slot) (flat_map proposals_in (slots_in rs)) in
       search (arith, rules, append_assoc, rest, now, sums)
-  run_known _ a end f g _ ideal cs sent known within low all is run = absurd run
+  run_known _ a end f g _ ideal cs sent known low all is run = absurd run
 
   -- nothing is known of the empty fabric but that
   known_first : Known w 0 (empty_fabric (length w.machines) ranks) (empty_ideal (length w.machines) ranks) [] []
-  known_first = search (rules, limited_empty_agree, length-replicate, Lane, get_or-replicate, get_or_past, cases_lt)
+  known_first =
+      let none = λ (i : ℕ). ap (λ (l : List Queued). length l) (empty_list (length w.machines) i) in
+      let all = configured.openings_low in
+      search (arith, rules, none, all, limited_empty_agree, length-replicate, Lane, get_or-replicate, get_or_past, cases_lt)
 
   pub stopped_is : (n : ℕ) (rs : List LimitedRecord) (f : Marked Fabric) → IsCount n →
       Runs w 0 (arriving_from w.came 0 n) (opening w ranks) rs f →
       Ended 0 n n (opening w ranks) rs f (came_of rs) (departures_of 0 (gone_in (slots_in rs)))
   unfolding arriving_from
   stopped_is n rs f low runs =
-      let none = λ (i : ℕ). ap (λ (l : List Queued). length l) (empty_list (length w.machines) i) in
-      let few : IsCount (waits (opening w ranks).state + come_count (arriving_from w.came 0 n)) =
-      omega (arith, configured.few_cells, none_first (length w.machines) ranks, come_count-first w.came n) in
-      run_known n 0 n (opening w ranks) f rs _ [] [] known_first
-      (record { lists = λ i. omega (arith, none i); states = configured.openings_low }) (omega (arith, low)) few
-      (omega arith) runs
+      run_known n 0 n (opening w ranks) f rs _ [] [] known_first low (omega (
+        arith,
+        configured.few_cells,
+        none_first (length w.machines) ranks,
+        come_count-first w.came n,
+      )) (omega arith) runs

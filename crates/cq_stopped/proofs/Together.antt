@@ -92,16 +92,16 @@ module _ (w : Switch) (ranks : List (List ℕ)) (configured : IsConfigured w ran
   unfolding figures_of arriving_from
   figures_low =
       let all : sum (flat_map proposals_in (slots_in rs)) ≤ 8192 * length w.came =
-      omega (arith, stopped.within.proposed, none_first ports ranks, come_count-first w.came at.frozen.next) in
+      omega (arith, stopped.proposed, none_first ports ranks, come_count-first w.came at.frozen.next) in
       search (arith, rules, most_of_all, figures_are_of)
 
   seen_right : AllByRecursion IsSeen (map seen_as at.frozen.figures.inputs)
   unfolding figures_of
-  seen_right = search (arith, rules, figures_are_of, of_images, all_made, one_seen, stopped.within.records)
+  seen_right = search (arith, rules, figures_are_of, of_images, all_made, one_seen, stopped.records)
 
   states_right : AllByRecursion AreRankNumbers at.frozen.ranks
   states_right =
-      search (arith, rules, state_sized at known, known, rank_numbers at.frozen.ranks stopped.within.states)
+      search (arith, rules, state_sized at known, known, rank_numbers at.frozen.ranks known.low)
 
   queued_right : (names : List Named) → ((c : Named) → Has names c → Has (queued_in st) c) →
       AllByRecursion (IsNamed ports) names
