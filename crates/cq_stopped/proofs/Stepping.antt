@@ -5,7 +5,7 @@
 -- more than came. The ranks of what comes and of what leaves fit, so the numbers of the rank states do. A phase makes
 -- no more proposals than the number of ports squared, and none where no cell waits at an input; and in each slot in
 -- which a cell waits or comes one leaves, so there are no more such slots than cells that came.
-use Rattle.cq_stopped.proofs.Terms.{rules, ◌≡◌, ℕ, zero, suc, ◌+◌, ◌<◌, ◌≤◌, List, [], ◌∷◌, ◌++◌, length, Option, Some, None, Ok, ◌∙◌, ◌⊎◌, ⊎_elim, arith, length-append, cases_lt, common_steps, append_assoc, get_or-append-add, get_or-map, get_or_append_left, get_or_past, length-map, ◌↔◌, append-nil, get_or-replicate, length-replicate, AllByRecursion, slice_get, slice_index_or, arrival_at, arriving, arriving_at, Cell, Departure, Queued, admitted_arrives, Came, came_from, present, Served, listed, served, HasWaited, Marked, admission, arriving_from, departures_of, empty_ideal, IdealState, departures_from, departures_in, filled, ideal_slot, put_all, AreForPorts, ranking, CameFor, Keyed, limited_empty_agree, keyed, ports_kept, same_slot, SendsAlike, Fabric, input, empty_fabric, FabricSlot, LimitedFabricSlot, LimitedRecord, slots_in, came_to, gone_in, list_of, IsInputBest, IsStable, all_both, all_weaker, found_at, has_there, Has, all_from_has, all_of_has, has_cases, has_left, has_right, opening, Runs, Switch, fewer, length-filled, rest_of, among_put_all, list_after, put_all_keeps, put_all_new, stable_slot, admission_for_ports, arrivals_for, place_of, came_or_was, was_waiting, marks_kept, IsBefore, EachPair, inl, pairs_cross, pairs_joined, IsFabric, IsCount, get_or-map-range_with_len, length-map-range_with_len, ◌*◌, ◌-◌, fold, max, length-insert, sum_by-append, sum_by-cons, flat_map, sum, after_sent, arrived, Sound, buffer, SlotRecord, fabric_held, proposals_in, waiting-empty, all_wait, nothing_left, come_count-first, counted, empty_together, ap, empty_list}
+use Rattle.cq_stopped.proofs.Terms.{rules, ◌≡◌, ℕ, zero, suc, ◌+◌, ◌<◌, ◌≤◌, List, [], ◌∷◌, ◌++◌, length, Option, Some, None, Ok, ◌∙◌, ◌⊎◌, ⊎_elim, arith, length-append, cases_lt, common_steps, append_assoc, get_or-append-add, get_or-map, get_or_append_left, get_or_past, length-map, ◌↔◌, append-nil, get_or-replicate, length-replicate, AllByRecursion, slice_get, slice_index_or, arrival_at, arriving, arriving_at, Cell, Departure, Queued, admitted_arrives, Came, came_from, present, Served, listed, served, HasWaited, Marked, admission, arriving_from, departures_of, empty_ideal, IdealState, departures_from, departures_in, filled, ideal_slot, put_all, AreForPorts, ranking, CameFor, Keyed, limited_empty_agree, keyed, ports_kept, same_slot, SendsAlike, Fabric, input, empty_fabric, FabricSlot, LimitedFabricSlot, LimitedRecord, slots_in, came_to, gone_in, list_of, IsInputBest, IsStable, all_both, all_weaker, found_at, has_there, Has, all_from_has, all_of_has, has_cases, has_left, has_right, Runs, Switch, fewer, length-filled, rest_of, among_put_all, list_after, put_all_keeps, put_all_new, stable_slot, admission_for_ports, arrivals_for, place_of, came_or_was, was_waiting, marks_kept, IsBefore, EachPair, inl, pairs_cross, pairs_joined, IsFabric, IsCount, get_or-map-range_with_len, length-map-range_with_len, ◌*◌, ◌-◌, fold, max, length-insert, sum_by-append, sum_by-cons, flat_map, sum, after_sent, arrived, Sound, buffer, SlotRecord, fabric_held, proposals_in, waiting-empty, all_wait, nothing_left, counted, empty_together, ap, empty_list}
 use Rattle.cq_ideal.proofs.Waiting.{sent_by}
 use Rattle.std.proofs.lemmas.List.Sums.{get_or-le-sum_by}
 use Rattle.cq_ideal.proofs.FlowRun.{come_count}
@@ -315,14 +315,13 @@ module _ (w : Switch) (ranks : List (List ℕ)) (configured : IsConfigured w ran
         ≤ 8192 * (waits f.state + come_count (arriving_from w.came a m))
     pub marks : length g.marks ≡ length f.marks
 
-  run_known : (m a end : ℕ) (f g : Marked Fabric) (rs : List LimitedRecord) (ideal : IdealState)
+  pub run_known : (m a end : ℕ) (f g : Marked Fabric) (rs : List LimitedRecord) (ideal : IdealState)
       (cs : List (List (Option Queued))) (sent : List Departure) → Known w a f.state ideal cs sent → IsCount end →
       IsCount (waits f.state + come_count (arriving_from w.came a m)) → end ≡ a + m →
       Runs w a (arriving_from w.came a m) f rs g →
       Ended a m end f rs g (cs ++ came_of rs) (sent ++ departures_of a (gone_in (slots_in rs)))
   unfolding departures_of arriving_from come_count
-  run_known zero a end f g [] ideal cs sent known low all is run =
-      grind (arith, common_steps, append-nil)
+  run_known zero a end f g [] ideal cs sent known low all is run = grind (arith, common_steps, append-nil)
   run_known (suc m) a end f g (r ∷ rs) ideal cs sent known low all is run =
       let next = known_next a f run.0 r ideal cs sent known run.1 in
       let now = now_recorded a f run.0 r ideal cs sent known run.1 (omega arith) (omega arith) in
@@ -336,20 +335,8 @@ module _ (w : Switch) (ranks : List (List ℕ)) (configured : IsConfigured w ran
   run_known _ a end f g _ ideal cs sent known low all is run = absurd run
 
   -- nothing is known of the empty fabric but that
-  known_first : Known w 0 (empty_fabric (length w.machines) ranks) (empty_ideal (length w.machines) ranks) [] []
+  pub known_first : Known w 0 (empty_fabric (length w.machines) ranks) (empty_ideal (length w.machines) ranks) [] []
   known_first =
       let none = λ (i : ℕ). ap (λ (l : List Queued). length l) (empty_list (length w.machines) i) in
-      let all = configured.openings_low in
-      search (arith, rules, none, all, limited_empty_agree, length-replicate, Lane, get_or-replicate, get_or_past, cases_lt)
-
-  pub stopped_is : (n : ℕ) (rs : List LimitedRecord) (f : Marked Fabric) → IsCount n →
-      Runs w 0 (arriving_from w.came 0 n) (opening w ranks) rs f →
-      Ended 0 n n (opening w ranks) rs f (came_of rs) (departures_of 0 (gone_in (slots_in rs)))
-  unfolding arriving_from
-  stopped_is n rs f low runs =
-      run_known n 0 n (opening w ranks) f rs _ [] [] known_first low (omega (
-        arith,
-        configured.few_cells,
-        none_first (length w.machines) ranks,
-        come_count-first w.came n,
-      )) (omega arith) runs
+      let all = configured.openings_low in let agree = limited_empty_agree in
+      search (arith, rules, none, all, agree, length-replicate, Lane, get_or-replicate, get_or_past, cases_lt)

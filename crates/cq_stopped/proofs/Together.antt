@@ -12,7 +12,7 @@ use Rattle.cq_stopped.proofs.Configured.{least_of, AreLow, IsConfigured, configu
 use Rattle.cq_stopped.proofs.Lined.{figures_are, AreMoved}
 use Rattle.cq_stopped.proofs.Ran.{Known, came_in, came_of}
 use Rattle.cq_stopped.proofs.Standing.{is_of_one, state_sized, states_many, fabric_same, sent_same, arrivals_are, named_at, below_floors, keep_order, stand_in_order, has_shape, slack_kept}
-use Rattle.cq_stopped.proofs.Stepping.{none_first, most_of_all, IsRecordedWithin, Ended, stopped_is}
+use Rattle.cq_stopped.proofs.Stepping.{none_first, most_of_all, IsRecordedWithin, Ended, known_first, run_known}
 use Rattle.cq_stopped.proofs.Walk.{Follow, Walks, as_name, counted_flat, has_as_name, same_counts, walked}
 use Rattle.cq_ideal.proofs.Standing.{of_input, refused_are as refused_of_input, stand_in}
 use Rattle.cq_resume.proofs.Adding.{Tallied, left_before, mark_at as walk_mark}
@@ -66,7 +66,13 @@ module _ (w : Switch) (ranks : List (List ℕ)) (configured : IsConfigured w ran
 
   stopped : Ended w ranks configured 0 at.frozen.next at.frozen.next (opening w ranks) rs (marked_in at.frozen)
       (came_of rs) (departures_of 0 (gone_in (slots_in rs)))
-  stopped = stopped_is w ranks configured at.frozen.next rs (marked_in at.frozen) (omega (arith, early, parted.next)) runs
+  unfolding arriving_from
+  stopped =
+      let few = configured.few_cells in let none = none_first ports ranks in
+      let come = come_count-first w.came at.frozen.next in
+      run_known w ranks configured at.frozen.next 0 at.frozen.next (opening w ranks) (marked_in at.frozen) rs _ [] []
+      (known_first w ranks configured) (omega (arith, early, parted.next)) (omega (arith, few, none, come))
+      (omega arith) runs
 
   -- each input keeps its mark
   marks_many : length at.frozen.marks ≡ ports
