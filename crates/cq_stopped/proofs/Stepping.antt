@@ -24,10 +24,8 @@ all_present P (o ∷ cells) each = grind (arith, common_steps, all_present P cel
 -- what came up to a slot, and what came in it
 came_then : (cs : List (List (Option Queued))) (c : List (Option Queued)) (t i : ℕ) (q : Queued) →
     (came_in (cs ++ c ∷ []) t i ≡ Some q) ↔ ((came_in cs t i ≡ Some q) ⊎ ((length cs ≡ t) × (came_to c i ≡ Some q)))
-came_then cs c t i q = (
-  λ is. grind (arith, common_steps, get_or_append_left, get_or-append-add, get_or_past, cases_lt t (length cs)),
-  λ at. grind (arith, common_steps, get_or_append_left, get_or-append-add, get_or_past, cases_lt t (length cs)),
-)
+came_then cs c t i q =
+    grind (arith, common_steps, get_or_append_left, get_or-append-add, get_or_past, cases_lt t (length cs))
 
 -- ## What waits
 
@@ -200,8 +198,7 @@ module _ (w : Switch) (ranks : List (List ℕ)) (configured : IsConfigured w ran
 
     departed_next : AllByRecursion (IsSentRight w (n + 1)) sent_next
     unfolding departures_in
-    departed_next = all_both (IsSentRight w (n + 1)) sent (departures_from n 0 r.of_slot.gone)
-        (search (arith, rules, all_weaker, IsSentRight)) (all_weaker LeavesNow _ (λ d leaves. leaves.0) _ leave_now)
+    departed_next = search (arith, rules, all_both, all_weaker, IsSentRight, leave_now)
 
     ordered_next : EachPair DepartsBefore sent_next
     unfolding departures_in
@@ -246,10 +243,7 @@ module _ (w : Switch) (ranks : List (List ℕ)) (configured : IsConfigured w ran
     arrived_list i = search (arith, rules, length-insert)
 
     now_recorded : IsCount (n + 1) → IsCount (waits f.state) → IsRecordedWithin r.of_slot
-    now_recorded low all = record {
-      longest = λ i. omega (arith, low, arrived_list i);
-      cushions = λ j. rw step.runs.arrive.buffers (omega (arith, all, buffer_few f.state known.agrees.fabric j));
-    }
+    now_recorded low all = search (arith, rules, arrived_list, buffer_few)
 
     -- ## How many proposals a slot makes
 
@@ -271,9 +265,7 @@ module _ (w : Switch) (ranks : List (List ℕ)) (configured : IsConfigured w ran
         search (arith, rules, simulate_none, empty.inputs, get_or_past, cases_lt)
 
     slot_proposed : sum (proposals_in r.of_slot) + 8192 * waits g.state ≤ 8192 * (waits f.state + many_come)
-    slot_proposed = ⊎_elim (λ (some : 0 < waits f.state + many_come). omega (arith, fewer_wait, proposed_few))
-        (λ none. let no = none_proposed (omega arith) (omega arith) in omega (arith, fewer_wait, no))
-        (cases_lt 0 (waits f.state + many_come))
+    slot_proposed = grind (arith, common_steps, fewer_wait, proposed_few, none_proposed, cases_lt)
 
     -- ## Together
 
