@@ -130,8 +130,7 @@ module _ (j slot : ℕ) (came : List (Option Queued)) (left waiting : List Queue
       grind (arith, common_steps, pair_of_has _ waiting x q both a b, never_both, not_before_itself)
   goes_ahead x q (inl a) (inr new) ahead = old_first x q (has_right left waiting x a) new
   goes_ahead x q (inr new) (inl b) ahead =
-      let earlier = before q (has_right left waiting q b) in
-      grind (arith, common_steps, earlier, come new.0 x new.1, less q x b new, never_both)
+      grind (arith, common_steps, before q, has_right left waiting q b, come new.0 x, less q x b new, never_both)
   goes_ahead x q (inr a) (inr b) ahead =
       grind (arith, common_steps, come a.0 x a.1, come b.0 q b.1, not_before_itself)
 

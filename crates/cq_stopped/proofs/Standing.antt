@@ -51,8 +51,7 @@ module _ {w : Switch} (at : Taken) {ideal : IdealState} {cs : List (List (Option
 
   waits_for : (j : ℕ) (q : Queued) → q.cell.output ≡ j → HasFor f j q → Waits q
   waits_for j q same has =
-      let own = own_at j q has in
-      let there = (known.agrees.same j q).1 has in search (arith, rules, kept_at, has_right, left_at)
+      let own = own_at j q has in search (arith, rules, kept_at, has_right, left_at)
 
   pub waits_at : (i : ℕ) (q : Queued) → Has (input f i) q → Waits q
   waits_at i q has = waits_for q.cell.output q refl (inl (i, has, refl))
@@ -99,8 +98,7 @@ module _ {w : Switch} (at : Taken) {ideal : IdealState} {cs : List (List (Option
   each_sent : (R : Departure → Departure → Type 0) →
       ((d e : Departure) → Has at.sent d → Has at.sent e → (d.output ≡ e.output → Follows d.queued e.queued) → R d e) →
       EachPair R at.sent
-  each_sent R tells =
-      pairs_in DepartsBefore R at.sent (λ d e first second before. tells d e first second before.ahead) known.ordered
+  each_sent R tells = search (rules, pairs_in DepartsBefore, known.ordered)
 
   -- and so of the lists: each cell stands in its list by what is known of it there
   each_listed : (R : Queued → Queued → Type 0) →

@@ -5,7 +5,7 @@
 -- more than came. The ranks of what comes and of what leaves fit, so the numbers of the rank states do. A phase makes
 -- no more proposals than the number of ports squared, and none where no cell waits at an input; and in each slot in
 -- which a cell waits or comes one leaves, so there are no more such slots than cells that came.
-use Rattle.cq_stopped.proofs.Terms.{rules, ◌≡◌, ℕ, zero, suc, ◌+◌, ◌<◌, ◌≤◌, List, [], ◌∷◌, ◌++◌, length, Option, Some, None, Ok, ◌∙◌, ◌⊎◌, ⊎_elim, arith, length-append, cases_lt, common_steps, append_assoc, get_or-append-add, get_or-map, get_or_append_left, get_or_past, length-map, ◌↔◌, append-nil, get_or-replicate, length-replicate, AllByRecursion, slice_get, slice_index_or, arrival_at, arriving, arriving_at, Cell, Departure, Queued, admitted_arrives, Came, came_from, present, Served, listed, served, HasWaited, Marked, admission, arriving_from, departures_of, empty_ideal, IdealState, departures_from, departures_in, filled, ideal_slot, put_all, AreForPorts, ranking, CameFor, Keyed, limited_empty_agree, keyed, ports_kept, same_slot, SendsAlike, Fabric, input, empty_fabric, FabricSlot, LimitedFabricSlot, LimitedRecord, slots_in, came_to, gone_in, list_of, IsInputBest, IsStable, all_both, all_weaker, found_at, has_there, Has, all_from_has, all_of_has, has_cases, has_left, has_right, Runs, Switch, fewer, length-filled, rest_of, among_put_all, list_after, put_all_keeps, put_all_new, stable_slot, admission_for_ports, arrivals_for, place_of, came_or_was, was_waiting, marks_kept, IsBefore, EachPair, inl, pairs_cross, pairs_joined, IsFabric, IsCount, get_or-map-range_with_len, length-map-range_with_len, ◌*◌, ◌-◌, fold, max, length-insert, sum_by-append, sum_by-cons, flat_map, sum, after_sent, arrived, Sound, buffer, SlotRecord, fabric_held, proposals_in, waiting-empty, all_wait, nothing_left, counted, empty_together, ap, empty_list}
+use Rattle.cq_stopped.proofs.Terms.{rules, ◌≡◌, ℕ, zero, suc, ◌+◌, ◌<◌, ◌≤◌, List, [], ◌∷◌, ◌++◌, length, Option, Some, None, Ok, ◌∙◌, ◌⊎◌, ⊎_elim, arith, length-append, cases_lt, common_steps, append_assoc, get_or-append-add, get_or-map, get_or_append_left, get_or_past, length-map, ◌↔◌, append-nil, get_or-replicate, length-replicate, AllByRecursion, slice_get, slice_index_or, arrival_at, arriving, arriving_at, Cell, Departure, Queued, admitted_arrives, Came, came_from, present, Served, listed, served, HasWaited, Marked, admission, arriving_from, departures_of, empty_ideal, IdealState, departures_from, departures_in, filled, ideal_slot, put_all, AreForPorts, ranking, CameFor, Keyed, limited_empty_agree, keyed, ports_kept, same_slot, SendsAlike, Fabric, input, empty_fabric, FabricSlot, LimitedFabricSlot, LimitedRecord, slots_in, came_to, gone_in, list_of, IsInputBest, IsStable, all_both, all_weaker, found_at, has_there, Has, all_from_has, all_of_has, has_cases, has_left, has_right, Runs, Switch, fewer, length-filled, rest_of, among_put_all, list_after, put_all_keeps, put_all_new, stable_slot, admission_for_ports, arrivals_for, place_of, came_or_was, was_waiting, marks_kept, IsBefore, EachPair, pairs_cross, pairs_joined, IsFabric, IsCount, get_or-map-range_with_len, length-map-range_with_len, ◌*◌, ◌-◌, fold, max, length-insert, sum_by-append, sum_by-cons, flat_map, sum, after_sent, arrived, Sound, buffer, SlotRecord, fabric_held, proposals_in, waiting-empty, all_wait, nothing_left, counted, empty_together, ap, empty_list}
 use Rattle.cq_ideal.proofs.Waiting.{sent_by}
 use Rattle.std.proofs.lemmas.List.Sums.{get_or-le-sum_by}
 use Rattle.cq_ideal.proofs.FlowRun.{come_count}
@@ -207,10 +207,7 @@ module _ (w : Switch) (ranks : List (List ℕ)) (configured : IsConfigured w ran
         let now = all_of_has LeavesNow _ e leave_now second in
         let before = all_of_has (IsSentRight w n) sent d known.departed first in
         let cross = pairs_cross Follows (left e.output) (full e.output) d.queued e.queued in
-        record {
-          order = inl (omega (arith, before.before, now.1));
-          ahead = λ same. cross (next_pairs e.output now.0.inside) (left_has sent d e.output same first) now.2;
-        })
+        search (arith, rules, cross, next_pairs, left_has))
 
     -- ## What came
 
@@ -249,8 +246,7 @@ module _ (w : Switch) (ranks : List (List ℕ)) (configured : IsConfigured w ran
 
     fewer_wait : waits g.state ≤ waits f.state + many_come - 1
     fewer_wait =
-        let less = (counted w.machines n r.admission.cells ideal _ alike.sent).fewer in
-        omega (arith, all_wait n f.state ideal known.agrees, all_wait (n + 1) g.state next alike.agrees)
+        omega (arith, counted w.machines n r.admission.cells ideal _ alike.sent, all_wait, alike.agrees)
 
     -- a phase makes no more than the number of ports squared
     proposed_few : sum (proposals_in r.of_slot) ≤ 8192
@@ -322,13 +318,12 @@ module _ (w : Switch) (ranks : List (List ℕ)) (configured : IsConfigured w ran
       let less = fewer_wait a f run.0 r ideal cs sent known run.1 in
       let made = slot_proposed a f run.0 r ideal cs sent known run.1 in
       let rest = run_known m (a + 1) end run.0 g rs _ _ _ next low (omega arith) (omega arith) run.2 in
-      let sums = sum_by-append (λ (n : ℕ). n) (proposals_in r.of_slot) (flat_map proposals_in (slots_in rs)) in
-      search (arith, rules, append_assoc, rest, now, sums)
+      search (arith, rules, append_assoc, rest, now, sum_by-append)
   run_known _ a end f g _ ideal cs sent known low all is run = absurd run
 
   -- nothing is known of the empty fabric but that
   pub known_first : Known w 0 (empty_fabric (length w.machines) ranks) (empty_ideal (length w.machines) ranks) [] []
   known_first =
       let none = λ (i : ℕ). ap (λ (l : List Queued). length l) (empty_list (length w.machines) i) in
-      let all = configured.openings_low in let agree = limited_empty_agree in
-      search (arith, rules, none, all, agree, length-replicate, Lane, get_or-replicate, get_or_past, cases_lt)
+      let agree = limited_empty_agree in
+      search (arith, rules, none, configured, agree, length-replicate, Lane, get_or-replicate, get_or_past, cases_lt)

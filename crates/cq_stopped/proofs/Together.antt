@@ -106,8 +106,7 @@ module _ (w : Switch) (ranks : List (List ℕ)) (configured : IsConfigured w ran
   seen_right = search (arith, rules, figures_are_of, of_images, all_made, one_seen, stopped.records)
 
   states_right : AllByRecursion AreRankNumbers at.frozen.ranks
-  states_right =
-      search (arith, rules, state_sized at known, known, rank_numbers at.frozen.ranks known.low)
+  states_right = search (arith, rules, state_sized, known, rank_numbers)
 
   queued_right : (names : List Named) → ((c : Named) → Has names c → Has (queued_in st) c) →
       AllByRecursion (IsNamed ports) names
@@ -214,8 +213,7 @@ module _ (w : Switch) (ranks : List (List ℕ)) (configured : IsConfigured w ran
   can_be_taken_up =
       let known = known in
       let order = stand_in_order at known moved in
-      let packets = packets_are in
-      search (rules, in_range, has_shape, arrivals_are, slack_kept, keep_order, below_floors, taken_same)
+      search (rules, in_range, has_shape, arrivals_are, slack_kept, keep_order, below_floors, taken_same, packets_are)
 
 pub stopped_runs_are_sound : StoppedRunsAreSound
 stopped_runs_are_sound t s slots at made tables recorded early parted = search (rules, can_be_taken_up, configured)
