@@ -1,7 +1,7 @@
 -- What is known of a run that was stopped before a slot. Beside the fabric stands the ideal switch that agrees with
 -- it. At each output there left some cells, and others wait; all of these are keyed as the switch keys them, no two of
 -- them have the same name, and of each flow those ahead came first. They are just the cells that came in, by what was
--- recorded slot by slot.
+-- recorded slot by slot. What left stands in order, and no list and no number of a rank state is too great.
 use Rattle.cq_stopped.proofs.Terms.{Bool, Named, ◌&&◌, ◌≡◌, ◌≢◌, ℕ, ◌⊎◌, ◌<◌, ◌≤◌, ◌^◌, List, [], ◌++◌, length, map, Option, Some, ◌==◌, filter, slice_index_or, AllByRecursion, arriving_at, Departure, Queued, IdealState, Agrees, Fabric, IsAmong, input, LimitedRecord, came_to, list_of, machine_at, EachPair, Has, Switch}
 use Rattle.cq_ideal.proofs.FlowStands.{Stands}
 use Rattle.cq_stopped.proofs.Configured.{AreLow}
