@@ -1,6 +1,6 @@
 -- Lists and buffers with their rooms. A cell that goes into a list takes the room that the list has for it, and a
 -- cell that leaves gives it back, so that no list and no buffer can hold more cells, or fewer, than before.
-use Rattle.cq_fabric.proofs.Terms.{zero, suc, common_steps, rules, ◌≡◌, ℕ, ◌+◌, ◌<◌, ◌≤◌, cond, List, [], ◌∷◌, ◌++◌, length, map, get_or, take, drop, Option, Some, None, refl, ◌∙◌, ⊎_elim, arith, replicate, is_some, slice_get, cases_lt, cond_both, length-map, get_or_default, get_or_past, ext_get_or, drop_all, take_all, append-nil, get_or-replicate, length-insert, Queued, first_for, without_first, fronts, rests, Waiting, cells_of, Buffered, cells_in, list_of, FirstKeysDiffer, orders_of, output_order, Moves, Orders, Partners, IsMatching, are_orders, HaveCells, HaveRoom, MovesRoom, list_spare, buffer_spare, partner_or_free, length_put, came_to, list_arrived, from_first, Queues, FitLists, KeysApart, CanCross, FitEach, AreSquare, list_room, buffer_room, fabric_of, no_list, list_at, list_with, front_of, popped, most_ports, cells-at, list_spare-at}
+use Rattle.cq_fabric.proofs.Terms.{common_steps, rules, ◌≡◌, ℕ, ◌+◌, ◌<◌, ◌≤◌, cond, List, [], ◌∷◌, ◌++◌, length, map, get_or, take, drop, Option, Some, None, refl, ◌∙◌, ⊎_elim, arith, replicate, is_some, slice_get, cases_lt, cond_both, length-map, get_or_default, get_or_past, ext_get_or, drop_all, take_all, append-nil, get_or-replicate, length-insert, Queued, first_for, without_first, fronts, rests, Waiting, cells_of, Buffered, cells_in, list_of, FirstKeysDiffer, orders_of, output_order, Moves, Orders, Partners, IsMatching, are_orders, HaveCells, HaveRoom, MovesRoom, list_spare, buffer_spare, partner_or_free, length_put, came_to, list_arrived, from_first, Queues, FitLists, KeysApart, CanCross, FitEach, AreSquare, list_room, buffer_room, fabric_of, no_list, list_at, list_with, front_of, popped, most_ports, cells-at, cells_in-at, no_buffer}
 use Rattle.std.proofs.Math.ListN.{get_or-map}
 use Rattle.std.proofs.lemmas.Simd.{map-map}
 
@@ -25,13 +25,12 @@ room-at lists i = get_or-map (λ (w : Waiting). length w.cells + w.spare) lists 
 -- a room is what waits and what is spare
 list_room-is : (lists : List Waiting) (i : ℕ) →
     get_or (map list_room lists) i 0 ≡ length (list_of (cells_of lists) i) + list_spare lists i
-list_room-is lists i = rw (cells-at lists i, list_spare-at lists i) (room-at lists i)
+list_room-is lists i = rw (cells-at lists i) (room-at lists i)
 
 pub buffer_room-is : (buffers : List Buffered) (j : ℕ) →
     get_or (map buffer_room buffers) j 0 ≡ length (list_of (cells_in buffers) j) + buffer_spare buffers j
-buffer_room-is [] j = omega arith
-buffer_room-is (b ∷ buffers) zero = refl
-buffer_room-is (b ∷ buffers) (suc j) = buffer_room-is buffers j
+buffer_room-is buffers j =
+    rw (cells_in-at buffers j) (get_or-map (λ (b : Buffered). length b.cells + b.spare) buffers j no_buffer)
 
 -- ## Lists of lists
 
@@ -46,7 +45,7 @@ same_rooms room new old long each =
 pub fit_each : (lists : List Waiting) (buffers : List Buffered) (came : List (Option Queued)) (n : ℕ) →
     AreSquare lists buffers n → FitLists came (shown lists buffers) → FitEach (cells_in buffers) came lists
 fit_each lists buffers came n square fit i c inside is =
-    search (rules, list_room-is, list_spare-at, length-map, square.outputs, cells-at)
+    search (rules, list_room-is, length-map, square.outputs, cells-at)
 
 room_with : (buffers : List (List Queued)) (came : Option Queued) (w : Waiting) →
     ((c : Queued) → came ≡ Some c → 0 < w.spare) → list_room (list_with buffers came w) ≡ list_room w

@@ -26,8 +26,8 @@ pub use Rattle.cq_prefs.specs.Moves.{Moves, list_taken}
 pub use Rattle.cq_prefs.specs.Orders.{Orders, no_offers, ports}
 pub use Rattle.cq_prefs.specs.Pairing.{IsInputBest, IsMatching, IsStable, Partners, partner_of, with_pair}
 pub use Rattle.cq_xbar.proofs.OneEach.{partner_or_free}
-pub use Rattle.cq_xbar.proofs.Turns.{cells-at, list_spare-at}
-pub use Rattle.cq_xbar.specs.Crossbar.{HaveCells, HaveRoom, MovesRoom, buffer_spare, list_spare}
+pub use Rattle.cq_xbar.proofs.Turns.{cells-at, cells_in-at}
+pub use Rattle.cq_xbar.specs.Crossbar.{HaveCells, HaveRoom, MovesRoom, buffer_spare, list_at, list_spare, no_buffer, no_list}
 pub use Rattle.cq_laws.proofs.Came.{came_cell, came_from, keyed_from}
 pub use Rattle.cq_laws.proofs.Falls.{rest_of}
 pub use Rattle.cq_laws.proofs.Members.{among_insert, from_first, was_waiting}
@@ -42,7 +42,7 @@ pub use Rattle.cq_laws.specs.Measures.{either_by}
 unfoldable pub use Rattle.cq_laws.specs.Measures.{slacks}
 pub use Rattle.cq_laws.specs.Phases.{Arrives, Departs, Transfers, came_to, list_arrived}
 pub use Rattle.cq_fabric.specs.Held.{HoldsFabric}
-pub use Rattle.cq_fabric.specs.Queues.{AreSquare, CanCross, ComeApart, Comes, FitEach, FitLists, KeysApart, Queues, Queues as Held, buffer_room, fabric_of, front_of, list_at, list_room, list_with, no_list, popped}
+pub use Rattle.cq_fabric.specs.Queues.{AreSquare, CanCross, ComeApart, Comes, FitEach, FitLists, KeysApart, Queues, Queues as Held, buffer_room, fabric_of, front_of, list_room, list_with, popped}
 pub use Rattle.cq_fabric.specs.Telling.{AllAreFilled, AreFilled, IsFilled}
 pub use Rattle.cq_fabric.specs.Terms.{IsNewest}
 pub use Rattle.cq_base.proofs.Putting.{length_put}

@@ -1,5 +1,5 @@
 -- What clauses see of the lists and buffers of a fabric: the cells that wait there, and how many more could.
-use Rattle.std.specs.Prelude.{◌≡◌, ◌≢◌, ℕ, ◌+◌, ◌-◌, ◌<◌, ◌≤◌, ◌^◌, if◌then◌else◌, is_some, All, List, [], length, map, drop, slice_get, slice_index, slice_index_or, Option, Some, None}
+use Rattle.std.specs.Prelude.{◌≡◌, ◌≢◌, ℕ, ◌+◌, ◌-◌, ◌<◌, ◌≤◌, ◌^◌, if◌then◌else◌, is_some, All, List, [], length, map, drop, slice_get, slice_index, Option, Some, None}
 use Rattle.cq_base.specs.declared.cell.Queued.{Queued}
 use Rattle.cq_base.specs.Cells.{HasOtherKey, MoreUrgentAhead, cushion, first_for, with_arrival}
 use Rattle.cq_base.specs.Limits.{most_ports}
@@ -7,6 +7,7 @@ use Rattle.cq_list.specs.InputList.{Waiting, cells_of}
 use Rattle.cq_urgency.specs.OutputBuffer.{Buffered}
 use Rattle.cq_prefs.specs.FirstCells.{list_of, HasCellFor, orders_of}
 use Rattle.cq_prefs.specs.Orders.{Orders, ports}
+use Rattle.cq_xbar.specs.Crossbar.{list_at}
 use Rattle.cq_laws.specs.Fabric.{Fabric, IsAmong}
 use Rattle.cq_laws.specs.Phases.{came_to}
 
@@ -61,14 +62,6 @@ pub record CanCross (q : Queues) : Type 0 where
   pub keys : (i j : ℕ) (c : Queued) → first_for j (list_of q.inputs i) ≡ Some c → HasOtherKey c (list_of q.buffers j)
 
 -- ## One list and one buffer
-
--- a list without cells, room or outputs
-abbrev pub no_list : Waiting
-no_list = record { cells = []; outputs = 0; spare = 0 }
-
--- the list of input i
-abbrev pub list_at : List Waiting → ℕ → Waiting
-list_at lists i = slice_index_or lists i no_list
 
 -- a list after a cell came to it, or none, over these buffers
 abbrev pub list_with : List (List Queued) → Option Queued → Waiting → Waiting

@@ -9,4 +9,5 @@ pub use Rattle.cq_prefs.specs.{Orders.ports, Renewal.AreSameWithout}
 pub use Rattle.cq_prefs.specs.Pairing.{IsFreeOutput, Partners, partner_of}
 pub use Rattle.cq_ledger.specs.Seats.{IsSeatOf}
 pub use Rattle.cq_base.proofs.Putting.{all_put}
-pub use Rattle.cq_xbar.proofs.Turns.{cells-at, no_list}
+pub use Rattle.cq_xbar.proofs.Turns.{cells-at}
+pub use Rattle.cq_xbar.specs.Crossbar.{no_list}

@@ -9,5 +9,5 @@ pub use Rattle.cq_prefs.specs.FirstCells.{HasCellFor, list_of}
 pub use Rattle.cq_prefs.specs.Moves.{Moves, list_taken, noted}
 unfoldable pub use Rattle.cq_prefs.specs.Moves.{transfers_of}
 pub use Rattle.cq_prefs.specs.Pairing.{ArePairs, IsFreeOutput, Partners, partner_of}
-pub use Rattle.cq_xbar.specs.Crossbar.{HaveCells, HaveRoom, IsSameOrNext, KeysAreNew, MovesOneEach, MovesRoom, NotesOneEach, buffer_spare, list_spare}
+pub use Rattle.cq_xbar.specs.Crossbar.{HaveCells, HaveRoom, IsSameOrNext, KeysAreNew, MovesOneEach, MovesRoom, NotesOneEach, buffer_at, list_at, no_buffer, no_list}
 pub use Rattle.cq_base.proofs.Putting.{length_put}

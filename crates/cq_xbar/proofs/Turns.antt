@@ -1,24 +1,10 @@
 -- The transfer of a matching, input by input. Once the inputs below n had their turn, their lists are without their
 -- first cells for their partners, the buffers of these partners have the cells, and all else is as before. No output
 -- has two partners, so the buffer that the next cell comes to is as before.
-use Rattle.cq_xbar.proofs.Terms.{common_steps, rules, ◌≡◌, ◌≢◌, ℕ, ◌+◌, ◌-◌, ◌<◌, ◌≤◌, cond, List, [], length, map, get_or, set, Option, Some, None, ◌∙◌, subst, arith, is_some, cases_lt, same_Some, length-map, length-set, get_or_past, get_or-set_same, get_or-set_other, get_or_default, ext_get_or, Queued, HasOtherKey, put, first_for, without_first, Waiting, cells_of, Buffered, cells_in, list_of, HasCellFor, Moves, Partners, partner_of, ArePairs, HaveCells, KeysAreNew, HaveRoom, MovesRoom, list_spare, buffer_spare}
+use Rattle.cq_xbar.proofs.Terms.{common_steps, rules, ◌≡◌, ◌≢◌, ℕ, ◌+◌, ◌-◌, ◌<◌, ◌≤◌, cond, List, length, map, get_or, set, Option, Some, None, ◌∙◌, subst, arith, is_some, cases_lt, same_Some, length-map, length-set, get_or_past, get_or-set_same, get_or-set_other, get_or_default, ext_get_or, Queued, HasOtherKey, put, first_for, without_first, Waiting, cells_of, Buffered, cells_in, list_of, HasCellFor, Moves, Partners, partner_of, ArePairs, HaveCells, KeysAreNew, HaveRoom, MovesRoom, buffer_at, list_at, no_buffer, no_list}
 use Rattle.std.proofs.Math.ListN.{get_or-map}
 
 -- ## The lists and the buffers
-
-abbrev pub no_list : Waiting
-no_list = record { cells = []; outputs = 0; spare = 0 }
-
-abbrev pub no_buffer : Buffered
-no_buffer = record { cells = []; spare = 0 }
-
--- the list of input i
-abbrev pub list_at : List Waiting → ℕ → Waiting
-list_at lists i = get_or lists i no_list
-
--- the buffer of output j
-abbrev pub buffer_at : List Buffered → ℕ → Buffered
-buffer_at buffers j = get_or buffers j no_buffer
 
 -- a list after its first cell for its partner, if it has one, left it
 abbrev pub list_left : Option ℕ → Waiting → Waiting
@@ -32,14 +18,8 @@ with_cell c b = record { cells = put c b.cells; spare = b.spare - 1 }
 pub cells-at : (lists : List Waiting) (i : ℕ) → list_of (cells_of lists) i ≡ (list_at lists i).cells
 cells-at lists i = get_or-map (λ (w : Waiting). w.cells) lists i no_list
 
-cells_in-at : (buffers : List Buffered) (j : ℕ) → list_of (cells_in buffers) j ≡ (buffer_at buffers j).cells
+pub cells_in-at : (buffers : List Buffered) (j : ℕ) → list_of (cells_in buffers) j ≡ (buffer_at buffers j).cells
 cells_in-at buffers j = get_or-map (λ (b : Buffered). b.cells) buffers j no_buffer
-
-pub list_spare-at : (lists : List Waiting) (i : ℕ) → list_spare lists i ≡ (list_at lists i).spare
-list_spare-at lists i = get_or-map (λ (w : Waiting). w.spare) lists i no_list
-
-buffer_spare-at : (buffers : List Buffered) (j : ℕ) → buffer_spare buffers j ≡ (buffer_at buffers j).spare
-buffer_spare-at buffers j = get_or-map (λ (b : Buffered). b.spare) buffers j no_buffer
 
 -- ## Input by input
 
@@ -87,7 +67,7 @@ module _ {m : Partners} {lists : List Waiting} {buffers : List Buffered} {n : �
     next_buffer = search (rules, get_or_default, pairs.ports, pairs.once)
 
     pub room_next : HaveRoom m buffers → 0 < (get_or buffers' j e).spare
-    room_next room = rw next_buffer (subst (λ s. 0 < s) (buffer_spare-at buffers j) (room n j p))
+    room_next room = rw next_buffer (room n j p)
 
     -- the next input's first cell for its partner crosses
     crossed_one : (c : Queued) (w : Waiting) (b : Buffered) → first_for j (list_at lists n).cells ≡ Some c →
@@ -128,11 +108,11 @@ module _ {m : Partners} {lists : List Waiting} {buffers : List Buffered} {lists'
   pub crossed_room : HaveCells m (cells_of lists) → HaveRoom m buffers → MovesRoom m lists buffers lists' buffers'
   crossed_room have room =
       record {
-        gained = λ i. grind (arith, common_steps, list_spare-at, taken_at i);
+        gained = λ i. grind (arith, common_steps, taken_at i);
         lost = λ i j p.
             let given = x.given i j (have i j p).0 in
-            grind (arith, common_steps, room i j p, have i j p, cells-at, buffer_spare-at, given, get_or_past);
-        kept = search (arith, rules, buffer_spare-at);
+            grind (arith, common_steps, room i j p, have i j p, cells-at, given, get_or_past);
+        kept = search (arith, rules);
       }
 
   pub crossed_outputs : map (λ w. w.outputs) lists' ≡ map (λ w. w.outputs) lists

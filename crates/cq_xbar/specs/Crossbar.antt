@@ -1,5 +1,5 @@
 -- What the transfer of a matching asks for, and what it does to the room of lists and buffers.
-use Rattle.std.specs.Prelude.{◌≡◌, ℕ, ◌+◌, ◌<◌, ◌⊎◌, ◌++◌, if◌then◌else◌, List, length, map, Some, is_some, nat_eq, slice_index_or}
+use Rattle.std.specs.Prelude.{◌≡◌, ℕ, ◌+◌, ◌<◌, ◌⊎◌, ◌++◌, if◌then◌else◌, List, [], length, map, Some, is_some, nat_eq, slice_index_or}
 use Rattle.std.specs.List.{IsDistinct}
 use Rattle.cq_base.specs.declared.cell.Queued.{Queued}
 use Rattle.cq_base.specs.declared.cell.Transfer.{Transfer}
@@ -21,13 +21,29 @@ KeysAreNew m lists buffers =
     (i j : ℕ) (c : Queued) → partner_of m i ≡ Some j → first_for j (list_of lists i) ≡ Some c →
     HasOtherKey c (list_of buffers j)
 
+-- a list without cells, room or outputs
+abbrev pub no_list : Waiting
+no_list = record { cells = []; outputs = 0; spare = 0 }
+
+-- a buffer without cells or room
+abbrev pub no_buffer : Buffered
+no_buffer = record { cells = []; spare = 0 }
+
+-- the list of input i
+abbrev pub list_at : List Waiting → ℕ → Waiting
+list_at lists i = slice_index_or lists i no_list
+
+-- the buffer of output j
+abbrev pub buffer_at : List Buffered → ℕ → Buffered
+buffer_at buffers j = slice_index_or buffers j no_buffer
+
 -- how many more cells the list of input i has room for
 abbrev pub list_spare : List Waiting → ℕ → ℕ
-list_spare lists i = slice_index_or (map (λ list. list.spare) lists) i 0
+list_spare lists i = (list_at lists i).spare
 
 -- how many more cells the buffer of output j has room for
 abbrev pub buffer_spare : List Buffered → ℕ → ℕ
-buffer_spare buffers j = slice_index_or (map (λ buffer. buffer.spare) buffers) j 0
+buffer_spare buffers j = (buffer_at buffers j).spare
 
 -- the buffer of each output that has a partner has room for a cell
 abbrev pub HaveRoom : Partners → List Buffered → Type 0
