@@ -46,6 +46,8 @@ left_by j w w' r c some cells outputs spare = grind (arith, common_steps)
 with_by : (c : Queued) (b b' : Buffered) → b'.cells ≡ put c b.cells → b'.spare + 1 ≡ b.spare → b' ≡ with_cell c b
 with_by c b b' cells spare = grind (arith, common_steps, b.spare)
 
+ruleset sets = (length-set, get_or-set_other, get_or-set_same, cases_lt, same_Some)
+
 module _ {m : Partners} {lists : List Waiting} {buffers : List Buffered} {n : ℕ} {lists' : List Waiting}
     {buffers' : List Buffered} (x : Crossed m lists buffers n lists' buffers') where
   -- the next input has no partner
@@ -69,14 +71,8 @@ module _ {m : Partners} {lists : List Waiting} {buffers : List Buffered} {n : �
     pub room_next : HaveRoom m buffers → 0 < (get_or buffers' j e).spare
     room_next room = rw next_buffer (room n j p)
 
-    -- the next input's first cell for its partner crosses
-    crossed_one : (c : Queued) (w : Waiting) (b : Buffered) → first_for j (list_at lists n).cells ≡ Some c →
-        n < length lists → w ≡ list_left (Some j) (list_at lists n) → b ≡ with_cell c (buffer_at buffers j) →
-        Crossed m lists buffers (n + 1) (set lists' n w) (set buffers' j b)
-    crossed_one c w b first inside is_left is_with =
-        search (rules, length-set, get_or-set_other, get_or-set_same, cases_lt, same_Some)
-
-    -- as is seen of a list and a buffer that were read, and of what was taken and put
+    -- the next input's first cell for its partner crosses, as is seen of a list and a buffer that were read, and of
+    -- what was taken and put
     module _ (d : Waiting) (r : Option Queued) (c : Queued) (inside : n < length lists)
         (first : r ≡ first_for j (get_or lists' n d).cells) (some : r ≡ Some c) where
       pub first_crosses : first_for j (list_of (cells_of lists) n) ≡ Some c
@@ -90,7 +86,7 @@ module _ {m : Partners} {lists : List Waiting} {buffers : List Buffered} {n : �
           b.cells ≡ put c (get_or buffers' j e).cells → b.spare + 1 ≡ (get_or buffers' j e).spare →
           Crossed m lists buffers (n + 1) (set lists' n w) (set buffers' j b)
       crossed_more w b cells outputs spare filled less =
-          search (rules, crossed_one, cells-at, first_crosses, next_list, left_by, next_buffer, with_by)
+          search (rules, sets, cells-at, first_crosses, next_list, left_by, next_buffer, with_by)
 
 -- ## After the last input
 

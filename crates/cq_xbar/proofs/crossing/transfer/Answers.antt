@@ -1,4 +1,4 @@
-use Rattle.cq_xbar.proofs.Terms.{rules, ◌∙◌, ◌≡◌, ◌<◌, length, sym, arith, append-nil, append_assoc, length-append, cells_of, transfers_of}
+use Rattle.cq_xbar.proofs.Terms.{rules, ◌∙◌, ◌≡◌, ◌<◌, length, sym, arith, append-nil, append_assoc, length-append, transfers_of}
 use Rattle.cq_xbar.proofs.Turns.{crossed_none, crossed_past, crossed_more, first_crosses, cell_next, room_next, key_next, crossed_moves, crossed_room, crossed_outputs}
 use Rattle.cq_xbar.proofs.Noting.{kept_few, noted_one, noted_past}
 use Rattle.cq_xbar.proofs.crossing.transfer.Goals as goal
@@ -22,7 +22,6 @@ push-requires c = search (arith, rules, kept_few)
 
 pub loop-input-preserved : goal.loop-input-preserved
 loop-input-preserved c =
-    let lists = cells_of c.args.lists.now in
     let n = c.loop-input.input in
     let inv = c.loop-input.invariant in
     let pairs = c.partner_of.ensures.pairs in
@@ -36,12 +35,11 @@ loop-input-preserved c =
           w.index-lists-input.result _ q inside w.take.ensures.first w.unwrap-queued.ensures in
           let found = first_crosses inv.crossed j w.index-buffers-output.result pairs p c.requires.buffers
           w.index-lists-input.result _ q inside w.take.ensures.first w.unwrap-queued.ensures in
-          let one = noted_one c.args.matching.now lists c.args.slot c.args.phase n j q p found in
-          rw (w.lists-is, w.buffers-is, w.note-is) (search (arith, rules, crossed, append_assoc, length-append))
+          rw (w.lists-is, w.buffers-is, w.note-is) (search
+          (arith, rules, crossed, found, noted_one, append_assoc, length-append))
       | in_default w ↦
           let none = sym c.partner_of.ensures.partner ∙ w.in_default.is in
-          let past = noted_past c.args.matching.now lists c.args.slot c.args.phase n none in
-          rw (w.lists-is, w.buffers-is, w.note-is) (search (arith, rules, crossed_past))
+          rw (w.lists-is, w.buffers-is, w.note-is) (search (arith, rules, crossed_past, noted_past))
     ]
 
 pub returns : goal.returns
