@@ -1,6 +1,6 @@
 -- How many cells for an output there are. An arrival brings one more, a transfer moves one from the inputs to the
 -- output's buffer, and a departure takes one away. So it is in each slot with stable matchings, whoever found them.
-use Rattle.cq_fabric.proofs.Terms.{rules, ◌≡◌, ℕ, zero, suc, ◌+◌, ◌≤◌, eqb, Bool, List, [], ◌∷◌, length, Option, Some, None, refl, ap, ⊎_elim, arith, common_steps, if◌then◌else◌, is_some, filter, insert, cond_both, length-drop, length-insert, Cell, Queued, arrival_at, is_for, first_for, without_first, Machine, list_of, HasCellFor, orders_of, list_taken, Partners, partner_of, IsMatching, IsStable, partner_or_free, length_put, Fabric, input, buffer, list_arrived, Transfers, SlotRecord, FabricSlot, came_cell, rest_of, Marked, admission, count_for, each_once, LimitedFabricSlot, LimitedRecord, waiting_for, held_for, is_output_order, outputs_at, admitted_at, get_or_past, drop}
+use Rattle.cq_fabric.proofs.Terms.{rules, ◌≡◌, ℕ, zero, suc, ◌+◌, ◌≤◌, eqb, Bool, List, [], ◌∷◌, length, Option, Some, None, refl, ap, ⊎_elim, arith, common_steps, if◌then◌else◌, is_some, filter, insert, cond_both, length-drop, length-insert, Cell, Queued, arrival_at, is_for, first_for, without_first, Machine, list_of, HasCellFor, orders_of, list_taken, Partners, partner_of, IsMatching, IsStable, partner_or_free, without_length, length_put, Fabric, input, buffer, list_arrived, Transfers, SlotRecord, FabricSlot, came_cell, rest_of, Marked, admission, count_for, each_once, LimitedFabricSlot, LimitedRecord, waiting_for, held_for, is_output_order, outputs_at, admitted_at, get_or_past, drop}
 
 abbrev bit : Bool → ℕ
 bit b = if b then 1 else 0
@@ -69,10 +69,6 @@ came_one : (f : Fabric) (j : ℕ) (came : Option Queued) (cell : Option Cell) (x
 came_one f j None cell xs is = omega arith
 came_one f j (Some c) cell xs is = grind (arith, common_steps, count_insert, is c refl)
 
-length_left : (k : ℕ) (xs : List Queued) → length (without_first k xs) ≤ length xs
-length_left k [] = omega arith
-length_left k (x ∷ xs) = grind (arith, common_steps, cond_both, length_left k xs)
-
 -- an input whose partner is output j has a cell for it
 offered : (m : Partners) (f : Fabric) → IsMatching (orders_of f.inputs) m → (i j : ℕ) → partner_of m i ≡ Some j →
     HasCellFor (input f i) j
@@ -93,7 +89,7 @@ moved m old new matching step j =
 module _ (ms : List Machine) (slot : ℕ) (cells : List (Option Cell)) (f g : Fabric) (r : SlotRecord)
     (step : FabricSlot IsStable ms slot cells f r g) where
   pub lists_kept : (i : ℕ) → length (input g i) ≤ length (input f i) + bit (is_some (arrival_at cells i))
-  lists_kept i = search (arith, rules, came_cell, length-insert, length_left)
+  lists_kept i = search (arith, rules, came_cell, length-insert, without_length)
 
   pub outputs_kept : (j : ℕ) → held_for j g ≤ held_for j f + count_for j cells
   outputs_kept j =

@@ -150,8 +150,7 @@ module _ {ms : List Machine} {slot : ℕ} {q0 : Queues} {ranks0 : List (List ℕ
               (λ free. grind (arith, common_steps, moved1.moves.kept j free, length_rest)) (partner_or_free m1 j)
 
           pub can_cross_second : CanCross q3
-          can_cross_second = can_cross (slot + 1) q3 ranks2 sound3 (λ i j c h e. search
-              (arith, rules, was_waiting moved1.moves i c, room1 i j c, no_longer j))
+          can_cross_second = search (arith, rules, can_cross, sound3, was_waiting moved1.moves, room1, no_longer)
 
           module _ {m2 : Partners} {q4 : Queues} (moved2 : HaveMoved m2 q3 q4) where
             -- what is recorded of the slot

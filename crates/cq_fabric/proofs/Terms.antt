@@ -25,7 +25,7 @@ pub use Rattle.cq_prefs.specs.FirstCells.{AreOrdersOf, FirstKeysDiffer, HasCellF
 pub use Rattle.cq_prefs.specs.Moves.{Moves, list_taken}
 pub use Rattle.cq_prefs.specs.Orders.{Orders, no_offers, ports}
 pub use Rattle.cq_prefs.specs.Pairing.{IsInputBest, IsMatching, IsStable, Partners, partner_of, with_pair}
-pub use Rattle.cq_xbar.proofs.OneEach.{partner_or_free}
+pub use Rattle.cq_xbar.proofs.OneEach.{partner_or_free, without_length}
 pub use Rattle.cq_xbar.proofs.Turns.{cells-at, cells_in-at}
 pub use Rattle.cq_xbar.specs.Crossbar.{HaveCells, HaveRoom, MovesRoom, buffer_spare, list_at, list_spare, no_buffer, no_list}
 pub use Rattle.cq_laws.proofs.Came.{came_cell, came_from, keyed_from}

@@ -5,7 +5,7 @@ use Rattle.cq_xbar.proofs.Terms.{common_steps, rules, ◌≡◌, ℕ, zero, suc,
 
 -- ## Cells
 
-without_length : (j : ℕ) (xs : List Queued) → IsSameOrNext (length (without_first j xs)) (length xs)
+pub without_length : (j : ℕ) (xs : List Queued) → IsSameOrNext (length (without_first j xs)) (length xs)
 without_length j [] = inl refl
 without_length j (x ∷ xs) = grind (arith, common_steps, cond_both, without_length j xs)
 
