@@ -204,6 +204,12 @@ sent_in_slot t came sent one none traffic h =
 abbrev is_last : Arrival → Bool
 is_last a = a.cell.last
 
+-- of a packet's arrivals the last one alone is marked
+last_alone : (f : ℕ → Arrival) (last : ℕ) → ((i : ℕ) → (f i).cell.last ≡ (i == last)) → (ns : List ℕ) →
+    filter is_last (map f ns) ≡ map f (filter (λ i. i == last) ns)
+last_alone f last marks [] = refl
+last_alone f last marks (i ∷ ns) = grind (arith, common_steps, last_alone f last marks ns)
+
 module _ (t : Tables) (captures : List (List Captured)) where
   -- the packet of an arriving cell, with the stamp of its slot
   abbrev with_slot : Arrival → OutPacket
@@ -216,13 +222,6 @@ module _ (t : Tables) (captures : List (List Captured)) where
   outs [] all = refl
   outs (d ∷ sent) all = search (arith, rules, eq-eqb, as_arrival, outs sent all.1)
 
--- of a packet's arrivals the last one alone is marked
-last_alone : (f : ℕ → Arrival) (last : ℕ) → ((i : ℕ) → (f i).cell.last ≡ (i == last)) → (ns : List ℕ) →
-    filter is_last (map f ns) ≡ map f (filter (λ i. i == last) ns)
-last_alone f last marks [] = refl
-last_alone f last marks (i ∷ ns) = grind (arith, common_steps, last_alone f last marks ns)
-
-module _ (t : Tables) (captures : List (List Captured)) where
   abbrev arrival_of : ℕ → ℕ → Arrival
   arrival_of k i = record { slot = start t captures 0 k + i; cell = cell_of t captures 0 k i }
 
@@ -243,24 +242,20 @@ module _ (t : Tables) (captures : List (List Captured)) where
       let n = cells t captures 0 k in
       search (arith, rules, some_cells k, last_alone (arrival_of k) (n - 1), marked k, one_is (n - 1) 0 n)
 
-  lasts : (n a : ℕ) → filter is_last (flat_map (arrivals_of t captures 0) (range_with_len a n)) ≡ map last_of
-      (range_with_len a n)
-  lasts zero a = refl
-  lasts (suc n) a = simp (filter-append, flat_map, lasts_of, lasts n (a + 1))
-
 module _ (t : Tables) (packets : List Captured) where
   abbrev one : List (List Captured)
   one = packets ∷ []
 
-  as_passed : (n a : ℕ) → map (with_slot t one) (map (last_of t one) (range_with_len a n)) ≡ map
-      (as_it_leaves t packets) (range_with_len a n)
+  as_passed : (n a : ℕ) →
+      map (with_slot t one) (filter is_last (flat_map (arrivals_of t one 0) (range_with_len a n)))
+      ≡ map (as_it_leaves t packets) (range_with_len a n)
   unfolding cell_of
   as_passed zero a = refl
-  as_passed (suc n) a = ap (λ (l : List OutPacket). as_it_leaves t packets a ∷ l) (as_passed n (a + 1))
+  as_passed (suc n) a = grind (arith, common_steps, filter-append, flat_map, lasts_of, as_passed n (a + 1))
 
   pub all_leave_is : (sent : List Departure) → AreTables t → ports_of t.setup ≡ 1 → NoLimits t.limits →
       ideal_departures t (arrivals t one) ≡ Ok sent → packets_out t one sent 0 ≡ all_leave t packets
   unfolding packets_out arrivals arrivals_at
   all_leave_is sent are single none h =
       let in_slot = sent_in_slot t (arrivals t one) sent single none (traffic_is t one are (sym single)) h in
-      grind (arith, common_steps, outs, in_slot.output, in_slot.cells, append-nil, lasts, as_passed)
+      grind (arith, common_steps, outs, in_slot.output, in_slot.cells, append-nil, as_passed)
