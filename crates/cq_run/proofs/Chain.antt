@@ -1,6 +1,6 @@
 -- One judgement after another. Where the first ends without an answer, so do both; where it has one, both end as the
 -- second does. A name that the second is to read is to be read by both, since the first comes to the same without it,
--- or misses it. First, the count of faults where an answer tells of none.
+-- or misses it. First, the count of faults where an answer tells of none, and facts of told contents.
 use Rattle.cq_run.proofs.Terms.{rules, arith, ◌≡◌, ◌∙◌, ◌⊎◌, ℕ, List, ap, Option, None, Some, IfSome, Result, Ok, Err, common_steps, Contents, Space, Closed, Mode, Refusal, Missing, Halt, ◌>>=◌, IsHaltOf, Judges, InTurn, Pace, Ahead, Uncounted, AnyName, Call, Fails, Lasts}
 use Rattle.std.specs.FinMap.{remove}
 use Rattle.cq_run.proofs.Stays.{Stays}
@@ -24,6 +24,17 @@ name_after pace R S old mid new i e h = grind (arith, common_steps)
 pub counts_of : {A : Type 0} (j : Contents → Result A Refusal) (R : List ℕ → Type 0) (old new : Space)
     (result : Result A Halt) → Judges Ahead j R old new result → Uncounted Ahead (AnyName R) old.faults new.faults
 counts_of j R old new result h = grind (arith, common_steps)
+
+-- ## Told contents
+
+-- a fact that follows from two others
+pub told_two : {A : Type 0} (told : Option A) (P Q R : A → Type 0) → ((m : A) → P m → Q m → R m) → IfSome told P →
+    IfSome told Q → IfSome told R
+told_two told P Q R f g h = grind (arith, common_steps)
+
+-- a fact that always holds
+pub told_any : {A : Type 0} (told : Option A) (P : A → Type 0) → ((m : A) → P m) → IfSome told P
+told_any told P f = grind (arith, common_steps)
 
 -- ## The rest of a judgement
 
@@ -92,11 +103,6 @@ module _ {A : Type 0} {j : Contents → Result A Refusal} {p : Pace} {old new : 
   pub judges_at : {R : List ℕ → Type 0} {halt : Halt} → Judges InTurn j R old new (Err halt) →
       Judges p j R old new (Err halt)
   judges_at h = grind (arith, common_steps)
-
-  -- an answer says nothing of names that are unread
-  pub judges_any : {q : Pace} {R S : List ℕ → Type 0} {x : A} → Judges p j R old new (Ok x) →
-      Judges q j S old new (Ok x)
-  judges_any h = record { ok = h.ok; halt = tt; closed = h.closed; told = h.told; uncounted = h.uncounted }
 
 module _ {A : Type 0} {p : Pace} {r : Result A Refusal} {R : List ℕ → Type 0} {at : Space} where
   -- a computation that ends without an answer, where nothing was read

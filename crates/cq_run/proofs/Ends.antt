@@ -7,9 +7,8 @@ use Rattle.cq_run.specs.declared.stop.Stop.{Stop}
 use Rattle.cq_run.specs.declared.stop.Stop.TheVariants.{Cut, Halted}
 use Rattle.cq_run.specs.declared.stop.Unwritten.{Unwritten}
 use Rattle.cq_run.specs.Ending.{CommandEnds, IsPlanned, CallsFor, EndsFor, WhereHalted, status_of}
-use Rattle.cq_run.proofs.Chain.{fails_after, counts_same}
+use Rattle.cq_run.proofs.Chain.{fails_after, counts_same, told_any}
 use Rattle.cq_run.proofs.Planned.{known_faults, counts_known}
-use Rattle.cq_run.proofs.Told.{told_any}
 use Rattle.cq_base.specs.declared.status.Status.TheVariants as status
 
 file_from : (ws : List (List ℕ × List ℕ)) (name : List ℕ) (old mid new : Space) → mid.told ≡ old.told →

@@ -4,7 +4,6 @@ pub mod Stays
 pub mod Crossed
 pub mod Chain
 pub mod Ports
-pub mod Told
 pub mod Planned
 pub mod Within
 pub mod Reached

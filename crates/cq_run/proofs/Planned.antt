@@ -1,9 +1,8 @@
 -- From one judgement after another to a plan that meets what is aimed at: for each command what is judged of what it
 -- reads, and a plan that it comes to.
-use Rattle.cq_run.proofs.Terms.{resumed_best, resumed_slack, parted_best, parted_slack, rules, arith, ◌≡◌, ◌∙◌, ℕ, List, [], ◌∷◌, refl, ap, Result, Ok, Err, IfOk, IfErr, IsOk, common_steps, Departure, soak_captures, soak_tables, Captured, Tables, Call, Contents, Space, Closed, Command, Ideal, Run, Soak, Pass, Audit, Part, Resume, Given, Refusal, Halt, Aim, Reporting, Meets, Exactly, Auditing, Resuming, IsGiven, IsPassage, AreRead, IsAudited, AreGiven, IsJudged, IsHaltOf, Judges, Pace, InTurn, Uncounted, Plan, known_to, Reader, ◌>>=◌, ideally_sent, capture_in, text_in, state_in, capture_out, passed, audited, file_alone, IsCrossing, IsIdeal, IsPassing, plain_tables, AreTables, Lasts, capture_of_all, trace_of, Audited, State, IsAuditHalted, IsAuditPassed, IsPartHalt, IsResumeHalt, IsResuming, IsPartText, written, recursion_from_All}
+use Rattle.cq_run.proofs.Terms.{resumed_best, resumed_slack, parted_best, parted_slack, rules, arith, ◌≡◌, ◌∙◌, ℕ, List, [], ◌∷◌, refl, ap, Result, Ok, Err, IfOk, IfErr, IsOk, common_steps, Departure, soak_captures, soak_tables, Captured, Tables, Call, Contents, Space, Closed, Command, Ideal, Run, Soak, Pass, Audit, Part, Resume, Given, Refusal, Halt, Aim, Reporting, Meets, Exactly, Auditing, Resuming, IsGiven, IsPassage, AreRead, IsAudited, AreGiven, IsJudged, IsHaltOf, Judges, Pace, InTurn, Uncounted, Plan, known_to, Reader, ◌>>=◌, ideally_sent, capture_in, text_in, state_in, capture_out, passed, audited, file_alone, IsCrossing, IsIdeal, IsPassing, plain_tables, AreTables, Lasts, capture_of_all, trace_of, Audited, State, IsAuditHalted, IsAuditPassed, IsPartHalt, IsResumeHalt, IsResuming, IsPartText, written, recursion_from_All, IfSome_then}
 use Rattle.cq_run.proofs.Stopped.{taken_up}
-use Rattle.cq_run.proofs.Chain.{judges_computed, judges_computed_err}
-use Rattle.cq_run.proofs.Told.{told_any, told_map, told_two}
+use Rattle.cq_run.proofs.Chain.{judges_computed, judges_computed_err, told_any, told_two}
 use Rattle.cq_run.proofs.Crossed.{sent_ok}
 use Rattle.cq_run.proofs.Reached.{computed_halts, computed_plans, given_so, read_told, Reached, begun, read_on, settled}
 use Rattle.cq_run.proofs.OnePort.{all_leave_is, none_limited}
@@ -72,7 +71,7 @@ module _ {S : Type 0} {space : S → Space} {may_fail : Call → S → S → Typ
       IsJudged space may_fail keeps p (Run config) old now result
   run_judged {given = given} is (Ok plan) crossing refused = computed_plans _ _ (given_so asked.Run is)
       crossing.is_sent (crossing.records, crossing.keeps_up.runs, crossing.written)
-      (search (rules, recursion_from_All)) (λ r. let read = read_told is r in search (arith, rules, told_map))
+      (search (rules, recursion_from_All)) (λ r. let read = read_told is r in search (arith, rules, IfSome_then))
   run_judged is (Err halt) crossing refused = computed_halts _ _ (given_so asked.Run is) halt refused
 
   -- the same of the ideal switch
@@ -128,7 +127,7 @@ module _ {S : Type 0} {space : S → Space} {keeps : S → S → Type 0}
           IsJudged space may_fail keeps InTurn (Pass from to) old new result
       passing_judged (Ok plan) is refused =
           computed_plans _ _ at_packets is.is_sent (plan_passed from to packets plan is) (rw is.writes (refl, tt))
-          (λ r. told_map (space old).told _ _ (passage_at from to packets plan is r are) (h r).ok)
+          (λ r. IfSome_then (space old).told (h r).ok (passage_at from to packets plan is r are))
       passing_judged (Err halt) is refused = computed_halts _ _ at_packets halt refused
 
 -- ## An audit: the configuration, its captures, the trace, the log, and then the ideal run
@@ -238,7 +237,7 @@ module _ {S : Type 0} {space : S → Space} {keeps : S → S → Type 0} {old no
       IsJudged space may_fail keeps InTurn (Part config slots name) old now result
   part_judged {slots = slots} (Ok plan) are (text, text_is, written) halted =
       settled (given_so (asked.Part slots name) is) (Ok plan) (_, refl, (text, text_is, written))
-      (rw written (refl, tt)) (λ r. search (arith, rules, told_map, stops_as, read_told is r))
+      (rw written (refl, tt)) (λ r. search (arith, rules, IfSome_then, stops_as, read_told is r))
   part_judged {slots = slots} (Err halt) are text halted =
       settled (given_so (asked.Part slots name) is) (Err halt) (grind (arith, common_steps)) tt (λ r. tt)
 

@@ -4,12 +4,11 @@
 -- later inputs say nothing but what the count of faults may show.
 use Rattle.cq_run.proofs.Terms.{rules, ◌≡◌, ◌<◌, ℕ, ◌+◌, List, [], ◌∷◌, ◌++◌, length, take, drop, get_or, refl, arith, length-take-le, Result, Ok, Err, Option, Some, IfSome, IfOk, IfErr, MatchOption, common_steps, take_more, Contents, Space, Closed, Captured, PortRow, Refusal, Halt, Judges, Halts, InTurn, Ahead, AnyName, Uncounted, Reader, ◌>>=◌, packets_at, captures_from, Spells, Call, Fails, Lasts, Reads}
 use Rattle.cq_run.proofs.Stays.{captures_from_stay, packets_stay}
-use Rattle.cq_run.proofs.Chain.{judges_then, judges_after, judges_both, judges_computed, judges_as, counts_of, name_after, fails_after}
+use Rattle.cq_run.proofs.Chain.{judges_then, judges_after, judges_both, judges_computed, judges_as, counts_of, name_after, fails_after, told_any}
 use Rattle.cq_run.specs.declared.decoding.Decoding.{Decoding}
 use Rattle.cq_run.specs.Decoding.{HasBegun, IsBegunFor, source}
 use Rattle.cq_run.specs.Input.{IsHaltFor, IsInFront}
 use Rattle.cq_run.proofs.TextRead.{capture_halts, capture_is}
-use Rattle.cq_run.proofs.Told.{told_any}
 
 abbrev Packets : Type 0
 Packets = List Captured

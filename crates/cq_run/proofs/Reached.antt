@@ -1,13 +1,17 @@
 -- What is known at a moment of judging a command. All that was judged so far was accepted: no fault was counted, the
 -- file space is closed, its contents are as before, and of these the command comes to what is left to judge. So where a
 -- name that is read next is unread or refused, or what was read is judged, that is what the command comes to.
-use Rattle.cq_run.proofs.Terms.{rules, arith, ◌≡◌, ◌⊎◌, ℕ, IsTrue, List, subst, inl, inr, length, Option, IfOk, IfSome, Result, Ok, Err, common_steps, AllByRecursion, Captured, Tables, Call, Fails, Lasts, Reads, Closed, Contents, Space, Command, Given, Refusal, Halt, NoMemory, Refused, Unread, Aim, Auditing, Crossing, Denies, Exactly, Meets, Parting, Resuming, Departure, switched, command_asking, ideally_sent, state_in, text_in, EndsGiven, IsGiven, judged_of_given, Emulates, AreRead, IsJudged, IsHaltOf, Judges, Pace, InTurn, Plan, Decides, IsDenial, known_to, Reader, meaning_of, ◌>>=◌, MayRead, MayWrite, captures_in, judged, tables_in, AreTables, ports_of}
+use Rattle.cq_run.proofs.Terms.{rules, arith, ◌≡◌, ◌⊎◌, ℕ, IsTrue, List, subst, inl, inr, length, Option, IfOk, IfSome, Result, Ok, Err, common_steps, AllByRecursion, Captured, Tables, Call, Fails, Lasts, Reads, Closed, Contents, Space, Command, Given, Refusal, Halt, NoMemory, Refused, Unread, Aim, Auditing, Crossing, Denies, Exactly, Meets, Parting, Resuming, Departure, switched, command_asking, ideally_sent, state_in, text_in, EndsGiven, IsGiven, judged_of_given, Emulates, AreRead, IsJudged, IsHaltOf, Judges, Pace, InTurn, Plan, Decides, IsDenial, known_to, Reader, meaning_of, ◌>>=◌, MayRead, MayWrite, captures_in, judged, tables_in, AreTables, ports_of, IsErrAnd}
 use Rattle.cq_run.specs.declared.denial.Denial.TheVariants.{LongLog, LongTrace}
 use Rattle.cq_run.specs.declared.judge.Asked.{Asked}
 use Rattle.cq_run.specs.declared.judge.Asked.TheVariants as asked
 use Rattle.cq_run.proofs.Chain.{ComesTo, comes_to_itself, goes_on, judges_back, judges_computed_err, judges_more, judges_then, counts_same, judges_after, judges_at, fails_after}
 use Rattle.cq_run.proofs.TextRead.{from_front}
 use Rattle.cq_run.proofs.Stays.{Stays, captures_from_stay, tables_stay}
+
+-- what the exit of a `?` returns, where the conversion of the error is told by an equation
+pub exit_is : {T E : Type 0} {e : E} (r : Result T E) → IsErrAnd r (λ y. y ≡ e) → r ≡ Err e
+exit_is r h = grind (arith, common_steps)
 
 -- ## What is computed of all that was read
 

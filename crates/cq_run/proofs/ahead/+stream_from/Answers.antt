@@ -1,6 +1,6 @@
 use Rattle.cq_run.proofs.Terms.{rules, ◌≡◌, [], arith, nil_from_length, common_steps}
 use Rattle.cq_run.proofs.Ports.{file_ends, none_arrive, together}
-use Rattle.cq_run.proofs.Told.{exit_is}
+use Rattle.cq_run.proofs.Reached.{exit_is}
 use Rattle.cq_run.proofs.ahead.+stream_from.Goals as goal
 
 -- `c.in-Some.ensures.cases.0` says that the rows are the first and the rest.

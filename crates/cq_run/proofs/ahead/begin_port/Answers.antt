@@ -1,6 +1,6 @@
 use Rattle.cq_run.proofs.Terms.{arith, rules}
 use Rattle.cq_run.proofs.Chain.{judges_then}
-use Rattle.cq_run.proofs.Told.{exit_is}
+use Rattle.cq_run.proofs.Reached.{exit_is}
 use Rattle.cq_run.proofs.ahead.begin_port.Goals as goal
 
 -- the name that is read is that of the row, as in `read_port`

@@ -1,7 +1,6 @@
 use Rattle.cq_run.proofs.Terms.{inl, Err}
 use Rattle.cq_run.proofs.Planned.{at_log, audit_judged}
-use Rattle.cq_run.proofs.Told.{exit_is}
-use Rattle.cq_run.proofs.Reached.{given_so, read_ends}
+use Rattle.cq_run.proofs.Reached.{given_so, read_ends, exit_is}
 use Rattle.cq_run.specs.declared.judge.Asked.TheVariants as asked
 use Rattle.cq_run.proofs.judge.audit.Goals as goal
 

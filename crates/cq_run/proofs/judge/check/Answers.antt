@@ -1,7 +1,7 @@
 use Rattle.cq_run.proofs.Terms.{◌≡◌, ℕ, List, refl, Result, Ok, Tables, Lasts, Closed, Space, Check, Exactly, Judges, InTurn, checked, ◌>>=◌, tables_in, Call, Err, Halt, IfErr, IfOk, IsJudged, NoMemory, Plan}
-use Rattle.cq_run.proofs.Reached.{Reached, begun, no_memory, read_ends, read_on, settled}
+use Rattle.cq_run.proofs.Reached.{Reached, begun, no_memory, read_ends, read_on, settled, exit_is}
 use Rattle.cq_run.proofs.Stays.{tables_stay}
-use Rattle.cq_run.proofs.Told.{told_any, exit_is}
+use Rattle.cq_run.proofs.Chain.{told_any}
 use Rattle.cq_run.proofs.judge.check.Goals as goal
 
 module _ {S : Type 0} {space : S → Space} {keeps : S → S → Type 0} {config : List ℕ} {old : S}

@@ -1,5 +1,5 @@
 use Rattle.cq_run.proofs.Terms.{arith, rules, crossed, left_in_packets}
-use Rattle.cq_run.proofs.Told.{exit_is}
+use Rattle.cq_run.proofs.Reached.{exit_is}
 use Rattle.cq_run.proofs.judge.cross.Goals as goal
 
 pub switch_by_crossbar-requires-clause-captures : goal.switch_by_crossbar-requires-clause-captures

@@ -1,7 +1,6 @@
 use Rattle.cq_run.proofs.Terms.{rules, ◌∙◌, ap, arith, length, List, PortRow}
 use Rattle.cq_run.proofs.Planned.{run_judged}
-use Rattle.cq_run.proofs.Told.{exit_is}
-use Rattle.cq_run.proofs.Reached.{asked_ends, captures_end, given_read}
+use Rattle.cq_run.proofs.Reached.{asked_ends, captures_end, given_read, exit_is}
 use Rattle.cq_run.specs.declared.judge.Asked.TheVariants as asked
 use Rattle.cq_run.proofs.judge.cross_ahead.Goals as goal
 

@@ -1,5 +1,5 @@
 use Rattle.cq_run.proofs.Terms.{arith, rules, resumed}
-use Rattle.cq_run.proofs.Told.{exit_is}
+use Rattle.cq_run.proofs.Reached.{exit_is}
 use Rattle.cq_run.proofs.judge.go_on.Goals as goal
 
 pub build_crossed-requires-clause-left : goal.build_crossed-requires-clause-left

@@ -1,6 +1,5 @@
 use Rattle.cq_run.proofs.Planned.{ideal_judged, part_judged, resume_judged, run_judged}
-use Rattle.cq_run.proofs.Told.{exit_is}
-use Rattle.cq_run.proofs.Reached.{given_so, read_ends}
+use Rattle.cq_run.proofs.Reached.{given_so, read_ends, exit_is}
 use Rattle.cq_run.specs.declared.judge.Asked.TheVariants as asked
 use Rattle.cq_run.proofs.judge.judge_captures.Goals as goal
 

@@ -1,5 +1,4 @@
-use Rattle.cq_run.proofs.Reached.{asked_ends, tables_end}
-use Rattle.cq_run.proofs.Told.{exit_is}
+use Rattle.cq_run.proofs.Reached.{asked_ends, tables_end, exit_is}
 use Rattle.cq_run.proofs.judge.judge_configured.Goals as goal
 
 pub returns-in_err-tables : goal.returns-in_err-tables

@@ -1,7 +1,6 @@
 use Rattle.cq_run.proofs.Terms.{arith, rules}
 use Rattle.cq_run.proofs.Planned.{at_capture}
-use Rattle.cq_run.proofs.Reached.{no_memory}
-use Rattle.cq_run.proofs.Told.{exit_is}
+use Rattle.cq_run.proofs.Reached.{no_memory, exit_is}
 use Rattle.cq_run.proofs.judge.pass.Goals as goal
 
 pub pass_over-work-requires-clause-plain : goal.pass_over-work-requires-clause-plain

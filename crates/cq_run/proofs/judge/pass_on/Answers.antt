@@ -1,6 +1,6 @@
 use Rattle.cq_run.proofs.Terms.{arith, rules, ap, sym, ◌∙◌, ◌≡◌, ◌∷◌, [], length, List, Captured}
 use Rattle.cq_run.proofs.Crossed.{switched_whole}
-use Rattle.cq_run.proofs.Told.{exit_is}
+use Rattle.cq_run.proofs.Reached.{exit_is}
 use Rattle.cq_run.proofs.judge.pass_on.Goals as goal
 
 pub switch_by_crossbar-requires-clause-captures : goal.switch_by_crossbar-requires-clause-captures

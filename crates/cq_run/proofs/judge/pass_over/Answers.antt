@@ -1,7 +1,6 @@
 use Rattle.cq_run.proofs.Terms.{arith, rules, plain_tables}
 use Rattle.cq_run.proofs.Planned.{at_capture, passing_judged}
-use Rattle.cq_run.proofs.Reached.{read_ends}
-use Rattle.cq_run.proofs.Told.{exit_is}
+use Rattle.cq_run.proofs.Reached.{read_ends, exit_is}
 use Rattle.cq_run.proofs.judge.pass_over.Goals as goal
 
 pub pass_on-requires-clause-port : goal.pass_on-requires-clause-port

@@ -1,5 +1,4 @@
-use Rattle.cq_run.proofs.Told.{exit_is}
-use Rattle.cq_run.proofs.Reached.{asked_ends, tables_end}
+use Rattle.cq_run.proofs.Reached.{asked_ends, tables_end, exit_is}
 use Rattle.cq_run.specs.declared.judge.Asked.TheVariants as asked
 use Rattle.cq_run.proofs.judge.run_ahead.Goals as goal
 

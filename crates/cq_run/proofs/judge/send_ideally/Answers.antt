@@ -1,6 +1,6 @@
 use Rattle.cq_run.proofs.Terms.{arith, rules}
 use Rattle.cq_run.proofs.Crossed.{switched_whole}
-use Rattle.cq_run.proofs.Told.{exit_is}
+use Rattle.cq_run.proofs.Reached.{exit_is}
 use Rattle.cq_run.proofs.judge.send_ideally.Goals as goal
 
 pub build_switched-requires : goal.build_switched-requires

@@ -1,5 +1,5 @@
 use Rattle.cq_run.proofs.Terms.{arith, common_steps, rules}
-use Rattle.cq_run.proofs.Told.{exit_is}
+use Rattle.cq_run.proofs.Reached.{exit_is}
 use Rattle.cq_run.proofs.parting.part_by_crossbar.Goals as goal
 
 pub returns-clause-text : goal.returns-clause-text

@@ -1,6 +1,6 @@
 use Rattle.cq_run.proofs.Terms.{arith, rules}
 use Rattle.cq_run.proofs.Crossed.{are_given}
-use Rattle.cq_run.proofs.Told.{exit_is}
+use Rattle.cq_run.proofs.Reached.{exit_is}
 use Rattle.cq_run.proofs.parting.resume_by_crossbar.Goals as goal
 
 pub resume_by_schedule-run-requires-clause-made : goal.resume_by_schedule-run-requires-clause-made

@@ -1,6 +1,6 @@
 use Rattle.cq_run.proofs.Stopped.{resumed_by, taken_up}
 use Rattle.cq_run.proofs.Terms.{arith, common_steps, refl}
-use Rattle.cq_run.proofs.Told.{exit_is}
+use Rattle.cq_run.proofs.Reached.{exit_is}
 use Rattle.cq_run.proofs.parting.resume_by_schedule.Goals as goal
 
 pub resume_fabric-run-requires-clause-sound : goal.resume_fabric-run-requires-clause-sound

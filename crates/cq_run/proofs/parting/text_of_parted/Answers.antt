@@ -1,6 +1,6 @@
 use Rattle.cq_run.proofs.Terms.{arith, rules, common_steps}
 use Rattle.cq_run.proofs.Stopped.{part_long, same_state}
-use Rattle.cq_run.proofs.Told.{exit_is}
+use Rattle.cq_run.proofs.Reached.{exit_is}
 use Rattle.cq_run.proofs.parting.text_of_parted.Goals as goal
 
 -- there are few ports, and as many lists

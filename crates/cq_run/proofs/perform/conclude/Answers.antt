@@ -1,6 +1,6 @@
 use Rattle.cq_run.proofs.Terms.{arith, rules}
 use Rattle.cq_run.proofs.Ends.{cut_short, judging_ends, performed}
-use Rattle.cq_run.proofs.Told.{exit_is}
+use Rattle.cq_run.proofs.Reached.{exit_is}
 use Rattle.cq_run.proofs.perform.conclude.Goals as goal
 
 pub returns-in-Err-clause-ends : goal.returns-in-Err-clause-ends

@@ -1,7 +1,7 @@
 use Rattle.cq_run.proofs.Terms.{arith, rules}
 use Rattle.cq_run.proofs.Chain.{judges_then}
 use Rattle.cq_run.proofs.TextRead.{capture_halts, capture_is}
-use Rattle.cq_run.proofs.Told.{exit_is}
+use Rattle.cq_run.proofs.Reached.{exit_is}
 use Rattle.cq_run.proofs.reading.read_input.Goals as goal
 
 pub returns-in_err-bytes-clause-judges : goal.returns-in_err-bytes-clause-judges

@@ -2,7 +2,7 @@ use Rattle.cq_run.proofs.Terms.{Reader, rules, arith, sym, length-append, captur
 use Rattle.cq_run.proofs.Chain.{fails_after}
 use Rattle.cq_run.proofs.TextRead.{from_front}
 use Rattle.cq_run.proofs.Ports.{ends_all, reads_more}
-use Rattle.cq_run.proofs.Told.{exit_is}
+use Rattle.cq_run.proofs.Reached.{exit_is}
 use Rattle.cq_run.proofs.reading.read_inputs.Goals as goal
 
 pub ports-init : goal.ports-init
@@ -21,20 +21,19 @@ returns-in_err-capture-clause-judges g c = λ r. rw (exit_is _ c.from_residual.e
     (c.ports.invariant.judged r).uncounted c.ports.invariant.kept) (c.ports.invariant.judged r)
     (c.in_err-capture.ensures.judges r))
 
-pub returns-clause-judges : goal.returns-clause-judges
-returns-clause-judges g c = λ r. search (arith, rules, take_all, c.ports.invariant.judged r)
-
-pub returns-clause-each : goal.returns-clause-each
-returns-clause-each g c = search (arith, rules)
-
 pub read_port-requires-clause-closed : goal.read_port-requires-clause-closed
 read_port-requires-clause-closed g c = (c.ports.invariant.judged from_front).closed
 
 pub returns-in_err-put_capture-clause-judges : goal.returns-in_err-put_capture-clause-judges
-returns-in_err-put_capture-clause-judges g c = λ r.
-    let was = c.ports.invariant.judged r in
-    let now = c.in_ok-capture.ensures.judges r in
-    rw (exit_is _ c.from_residual-in_err-put_capture.ensures.1) (search (arith, rules))
+returns-in_err-put_capture-clause-judges g c =
+    λ r. search (arith, rules, exit_is, c.ports.invariant.judged r, c.in_ok-capture.ensures.judges r)
+
+pub returns : goal.returns
+returns g c = record {
+  judges = λ r. search (arith, rules, take_all, c.ports.invariant.judged r);
+  kept = c.ports.invariant.kept;
+  each = search (arith, rules);
+}
 
 -- ## No writing was begun
 
@@ -43,6 +42,3 @@ returns-in_err-capture-clause-kept g c = search (arith, rules, g.met.F.Files.las
 
 pub returns-in_err-put_capture-clause-kept : goal.returns-in_err-put_capture-clause-kept
 returns-in_err-put_capture-clause-kept g c = search (arith, rules, g.met.F.Files.lasts_unbegun.both)
-
-pub returns-clause-kept : goal.returns-clause-kept
-returns-clause-kept g c = c.ports.invariant.kept

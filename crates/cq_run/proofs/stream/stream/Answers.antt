@@ -1,5 +1,5 @@
 use Rattle.cq_run.proofs.Terms.{arith, rules, sym}
-use Rattle.cq_run.proofs.Told.{exit_is}
+use Rattle.cq_run.proofs.Reached.{exit_is}
 use Rattle.cq_run.proofs.stream.stream.Goals as goal
 
 -- want of memory for the name: nothing was read

@@ -1,6 +1,6 @@
 use Rattle.cq_run.proofs.Terms.{arith, rules, recursion_from_All, common_steps, inl}
 use Rattle.cq_run.proofs.Audits.{both_passed, ranks_fit}
-use Rattle.cq_run.proofs.Told.{exit_is}
+use Rattle.cq_run.proofs.Reached.{exit_is}
 use Rattle.cq_run.proofs.switching.audit_over.Goals as goal
 
 -- ## What judging the log asks for

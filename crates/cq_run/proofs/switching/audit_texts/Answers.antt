@@ -1,5 +1,5 @@
 use Rattle.cq_run.proofs.Terms.{inl}
-use Rattle.cq_run.proofs.Told.{exit_is}
+use Rattle.cq_run.proofs.Reached.{exit_is}
 use Rattle.cq_run.proofs.switching.audit_texts.Goals as goal
 
 pub returns-in_err-schedule-clause-halted : goal.returns-in_err-schedule-clause-halted

@@ -1,5 +1,5 @@
 use Rattle.cq_run.proofs.Terms.{arith, rules}
-use Rattle.cq_run.proofs.Told.{exit_is}
+use Rattle.cq_run.proofs.Reached.{exit_is}
 use Rattle.cq_run.proofs.switching.ideal_text.Goals as goal
 
 pub returns-clause-text : goal.returns-clause-text
