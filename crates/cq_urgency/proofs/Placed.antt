@@ -44,26 +44,7 @@ set_order pool block (x ∷ xs) zero number inside is there once =
 set_order pool block (x ∷ xs) (suc i) number inside is there once =
     grind (arith, common_steps, sum_by-cons, times_read, get_or-set_other, differs, set_order pool block xs i number)
 
--- ## Fields that stand for blocks
-
--- the fields are in order, and stand for these blocks
-pub record Kept (pool : List (List Queued)) (first : ℕ) (order counts free : List ℕ) (blocks : List (List Queued)) :
-    Type 0 where
-  pub placed : ArePlaced pool first order counts free
-  pub seen : in_order pool order ≡ blocks
-
-pub kept : {pool : List (List Queued)} {first : ℕ} {order counts free : List ℕ} {most : ℕ} {v : BlocksView} →
-    ArePlaced pool first order counts free → record { blocks = in_order pool order; most = most } ≡ v →
-    Kept pool first order counts free v.blocks
-kept p view = record { placed = p; seen = ap (λ (w : BlocksView). w.blocks) view }
-
-module _ {pool : List (List Queued)} {first : ℕ} {order counts free : List ℕ} {blocks : List (List Queued)}
-    (w : Kept pool first order counts free blocks) where
-  pub as_many : length order ≡ length blocks
-  as_many = grind (arith, common_steps, length-map)
-
-  pub as_many_counts : counts ≡ counts_behind blocks
-  as_many_counts = w.placed.counted ∙ ap counts_behind w.seen
+-- ## Counts of blocks
 
 -- the cells of the first block and the counts behind it add up to the cells
 pub counts_all : (blocks : List (List Queued)) (counts : List ℕ) → counts ≡ counts_behind blocks → 0 < length blocks →
@@ -86,48 +67,20 @@ pub count_there : (blocks : List (List Queued)) (counts : List ℕ) (behind with
 count_there blocks counts behind within is some =
     grind (arith, common_steps, length-map, get_or-map, get_or_past, cases_lt, length-drop, get_or-drop)
 
--- the block at a place in the order
-module _ {pool : List (List Queued)} {first : ℕ} {order counts free : List ℕ} {blocks : List (List Queued)}
-    (w : Kept pool first order counts free blocks) (i : ℕ) {number : ℕ} (inside : i < length blocks)
-    (is : number ≡ get_or order i number) where
-  pub in_order_there : i < length order
-  in_order_there = let many = as_many w in omega arith
-
-  pub in_pool : number < length pool
-  in_pool = grind (arith, common_steps, in_order_there, times_read, has_inside)
-
-  pub not_freed : times number free ≡ 0
-  not_freed = search (arith, rules, in_order_there, bit_le, times_read)
-
-  pub block_same : block_at pool number ≡ block_at blocks i
-  block_same = let read = get_or-map (λ (n : ℕ). block_at pool n) order i number [] in_order_there in cc (read, w.seen)
-
-  -- what is read in the pool is the block
-  pub read_is : {read : List Queued} → read ≡ get_or pool number read → read ≡ block_at blocks i
-  read_is e = grind (arith, common_steps, get_or_read, in_pool, block_same)
-
-  pub changed : (block : List Queued) (counts' : List ℕ) → counts' ≡ counts_behind (set blocks i block) →
-      Kept (set pool number block) first order counts' free (set blocks i block)
-  changed block counts' counted = grind (arith, common_steps, in_order_there, set_order, in_pool, bit_le, length-set)
-
--- the count at a place behind the first is that of the block there
-pub count_is : (blocks : List (List Queued)) (counts : List ℕ) (i behind : ℕ) {count : ℕ} →
-    counts ≡ counts_behind blocks → i ≡ behind + 1 → i < length blocks → count ≡ get_or counts behind count →
-    count ≡ length (block_at blocks i)
-count_is blocks counts i behind is e inside read =
-    grind (arith, common_steps, get_or-map, length-map, length-drop, get_or-drop)
-
 -- the counts where a block changes
 pub count_first : (blocks : List (List Queued)) (block : List Queued) (i : ℕ) (counts : List ℕ) →
     counts ≡ counts_behind blocks → i ≡ 0 → counts ≡ counts_behind (set blocks i block)
 count_first blocks block i counts is e = grind (arith, common_steps, drop-set-lt)
 
-pub count_behind : (blocks : List (List Queued)) (block : List Queued) (i behind count : ℕ) (counts : List ℕ) →
-    counts ≡ counts_behind blocks → i ≡ behind + 1 → count ≡ length block →
-    set counts behind count ≡ counts_behind (set blocks i block)
-count_behind blocks block i behind count counts is e long = grind (arith, common_steps, map-set, drop-set-add)
+-- one cell more behind the first block
+pub count_grown : (blocks : List (List Queued)) (block : List Queued) (i behind : ℕ) {count : ℕ} (counts : List ℕ) →
+    counts ≡ counts_behind blocks → i ≡ behind + 1 → i < length blocks → count ≡ get_or counts behind count →
+    length block ≡ length (block_at blocks i) + 1 →
+    set counts behind (count + 1) ≡ counts_behind (set blocks i block)
+count_grown blocks block i behind counts is e inside read more =
+    grind (arith, common_steps, map-set, drop-set-add, get_or-map, length-map, length-drop, get_or-drop)
 
--- ## A block that comes in
+-- ## The number of a free block
 
 -- the number of a free block is one of the pool's
 pub free_there : (pool : List (List Queued)) (free free' : List ℕ) (number : ℕ) →
@@ -142,16 +95,66 @@ comes_free pool free free' block block' number within whole e =
     let inside = free_there pool free free' number within whole in
     grind (arith, common_steps, get_or-set_same, get_or-set_other, sum_by_push, length-set, length_push)
 
-module _ {pool : List (List Queued)} {first : ℕ} {order counts free : List ℕ} {blocks : List (List Queued)}
-    (w : Kept pool first order counts free blocks) {pool' : List (List Queued)} {free' : List ℕ} {block : List Queued}
-    {number : ℕ} (q : ComesIn pool free pool' free' block number) where
-  fresh : times number order ≡ 0
-  fresh = grind (arith, common_steps, bit_same, bit_le)
+-- ## Fields that stand for blocks
 
-  pub come : (first' i : ℕ) (counts' : List ℕ) → i ≤ length order → first' ≡ get_or (insert order i number) 0 first' →
-      counts' ≡ counts_behind (insert blocks i block) →
-      Kept pool' first' (insert order i number) counts' free' (insert blocks i block)
-  come first' i counts' le led counted = search (rules, map-insert, same_order, fresh, sum_by-insert, length-insert)
+-- the fields are in order, and stand for these blocks
+pub record Kept (pool : List (List Queued)) (first : ℕ) (order counts free : List ℕ) (blocks : List (List Queued)) :
+    Type 0 where
+  pub placed : ArePlaced pool first order counts free
+  pub seen : in_order pool order ≡ blocks
+
+pub kept : {pool : List (List Queued)} {first : ℕ} {order counts free : List ℕ} {most : ℕ} {v : BlocksView} →
+    ArePlaced pool first order counts free → record { blocks = in_order pool order; most = most } ≡ v →
+    Kept pool first order counts free v.blocks
+kept p view = record { placed = p; seen = ap (λ (w : BlocksView). w.blocks) view }
+
+module _ {pool : List (List Queued)} {first : ℕ} {order counts free : List ℕ} {blocks : List (List Queued)}
+    (w : Kept pool first order counts free blocks) where
+  pub as_many : length order ≡ length blocks
+  as_many = grind (arith, common_steps, length-map)
+
+  pub as_many_counts : counts ≡ counts_behind blocks
+  as_many_counts = w.placed.counted ∙ ap counts_behind w.seen
+
+  -- the block at a place in the order
+  module _ (i : ℕ) {number : ℕ} (inside : i < length blocks) (is : number ≡ get_or order i number) where
+    pub in_order_there : i < length order
+    in_order_there = let many = as_many in omega arith
+
+    pub in_pool : number < length pool
+    in_pool = grind (arith, common_steps, in_order_there, times_read, has_inside)
+
+    pub not_freed : times number free ≡ 0
+    not_freed = search (arith, rules, in_order_there, bit_le, times_read)
+
+    pub block_same : block_at pool number ≡ block_at blocks i
+    block_same = grind (arith, common_steps, get_or-map, in_order_there)
+
+    -- what is read in the pool is the block
+    pub read_is : {read : List Queued} → read ≡ get_or pool number read → read ≡ block_at blocks i
+    read_is e = grind (arith, common_steps, get_or_read, in_pool, block_same)
+
+    pub changed : (block : List Queued) (counts' : List ℕ) → counts' ≡ counts_behind (set blocks i block) →
+        Kept (set pool number block) first order counts' free (set blocks i block)
+    changed block counts' counted = grind (arith, common_steps, in_order_there, set_order, in_pool, bit_le, length-set)
+
+  -- another block comes in
+  module _ {pool' : List (List Queued)} {free' : List ℕ} {block : List Queued} {number : ℕ}
+      (q : ComesIn pool free pool' free' block number) where
+    fresh : times number order ≡ 0
+    fresh = grind (arith, common_steps, bit_same, bit_le)
+
+    pub come : (first' i : ℕ) (counts' : List ℕ) → i ≤ length order → first' ≡ get_or (insert order i number) 0 first' →
+        counts' ≡ counts_behind (insert blocks i block) →
+        Kept pool' first' (insert order i number) counts' free' (insert blocks i block)
+    come first' i counts' le led counted = search (rules, map-insert, same_order, fresh, sum_by-insert, length-insert)
+
+  -- the first block is in order where it is another one
+  pub popped : 0 < length blocks → (block : List Queued) →
+      Kept (set pool first block) first order counts free (set blocks 0 block)
+  popped some block = search (rules, changed, count_first, as_many_counts)
+
+-- ## A block that comes in
 
 -- the first block
 pub started : (pool pool' : List (List Queued)) (first : ℕ) (order counts free free' : List ℕ) (block : List Queued)
@@ -249,12 +252,6 @@ freed pool first first' (x ∷ xs) counts free blocks w some led =
     grind (arith, common_steps, sum_by-cons, sum_by_push, length_push, drop-map)
 
 -- ## The first cell taken out
-
--- the first block is in order where it is another one
-pub popped : {pool : List (List Queued)} {first : ℕ} {order counts free : List ℕ} {blocks : List (List Queued)} →
-    (w : Kept pool first order counts free blocks) → 0 < length blocks → (block : List Queued) →
-    Kept (set pool first block) first order counts free (set blocks 0 block)
-popped {blocks = blocks} w some block = search (rules, changed, count_first, as_many_counts)
 
 pub read_set : (pool : List (List Queued)) {number : ℕ} {block read : List Queued} → number < length pool →
     read ≡ get_or (set pool number block) number read → read ≡ block

@@ -5,7 +5,7 @@
 --
 -- A full block that is split keeps each place: in its front half, or in its back half behind 32 cells more.
 use Rattle.cq_urgency.specs.declared.blocks.Spot.{Spot}
-use Rattle.cq_urgency.proofs.Terms.{cases_lt, rules, ◌≡◌, ℕ, zero, suc, ◌+◌, ◌<◌, ◌≤◌, true, false, List, [], ◌∷◌, ◌++◌, length, take, Some, length-append, length-set, length-take, length-drop, get_or-set_same, arith, sym, subst, common_steps, slice_get, AllByRecursion, cases_Bool, take-append-le, take-take, take-set, length-insert, get_or-insert_below, get_or-insert_at, sum_by_more, Key, Queued, is_before, IsBefore, IsRising, cushion, key_laws, all_at, flattened, block_at, halved, AreFilled, AreBegun, IsSpot, starts_before, all_weaker, all_front, all_back, most_cells, drop, ap, few_kept, filter_all, filter_none, refl}
+use Rattle.cq_urgency.proofs.Terms.{cases_lt, rules, ◌≡◌, ℕ, zero, suc, ◌+◌, ◌<◌, ◌≤◌, true, false, List, [], ◌∷◌, ◌++◌, length, take, Some, length-append, length-set, length-take, length-drop, get_or-set_same, arith, sym, subst, common_steps, slice_get, AllByRecursion, cases_Bool, take-append-le, take-take, take-set, length-insert, get_or-insert_below, get_or-insert_at, sum_by_more, Key, Queued, is_before, IsBefore, IsRising, cushion, key_laws, all_at, flattened, block_at, halved, AreFilled, AreBegun, IsSpot, starts_before, all_weaker, all_front, all_back, most_cells, ap, few_kept, filter_all, filter_none, refl}
 use Rattle.cq_urgency.proofs.Flattened.{length-flattened}
 use Rattle.cq_urgency.proofs.Halving.{cushion-append}
 
@@ -104,20 +104,15 @@ module _ (blocks : List (List Queued)) (ahead i o : ℕ) (spot : IsSpot blocks a
   pub longer : length (halved blocks i) ≡ length blocks + 1
   longer = grind (arith, common_steps, length-set, length-insert)
 
-  first_half : block_at (halved blocks i) i ≡ take 32 (block_at blocks i)
-  first_half = grind (arith, common_steps, length-set, get_or-insert_below, get_or-set_same)
-
-  second_half : block_at (halved blocks i) (i + 1) ≡ drop 32 (block_at blocks i)
-  second_half = grind (arith, common_steps, length-set, get_or-insert_at)
-
   ahead_same : take i (halved blocks i) ≡ take i blocks
   ahead_same = grind (arith, common_steps, length-set, length-take, take-append-le, take-take, take-set)
 
   front_length : length (block_at (halved blocks i) i) ≡ 32
-  front_length = let half = ap length first_half in let len = length-take 32 (block_at blocks i) in omega arith
+  front_length =
+      grind (arith, common_steps, length-set, get_or-insert_below, get_or-set_same, length-take 32 (block_at blocks i))
 
   back_length : length (block_at (halved blocks i) (i + 1)) ≡ 32
-  back_length = let half = ap length second_half in let len = length-drop 32 (block_at blocks i) in omega arith
+  back_length = grind (arith, common_steps, length-set, get_or-insert_at, length-drop 32 (block_at blocks i))
 
   in_front_half : o ≤ 32 → IsSpot (halved blocks i) ahead i o
   in_front_half early = grind (arith, common_steps, longer, front_length, ahead_same)
@@ -125,15 +120,10 @@ module _ (blocks : List (List Queued)) (ahead i o : ℕ) (spot : IsSpot blocks a
   in_back_half : (p : ℕ) → p + 32 ≡ o → IsSpot (halved blocks i) ahead (i + 1) p
   in_back_half p late = grind (arith, common_steps, longer, back_length, sum_by_more, front_length, ahead_same)
 
-pub spot_halved : (blocks : List (List Queued)) (ahead : ℕ) (was now : Spot) →
-    IsSpot blocks ahead was.block was.within → length (block_at blocks was.block) ≡ most_cells →
-    (was.within ≤ 32 → now ≡ was) →
-    (32 < was.within → (now.block ≡ was.block + 1) × (now.within + 32 ≡ was.within)) →
-    IsSpot (halved blocks was.block) ahead now.block now.within
-    × (length (block_at (halved blocks was.block) now.block) < most_cells)
-spot_halved blocks ahead was now spot full front back =
-    let before = in_front_half blocks ahead was.block was.within spot full in
-    let behind = in_back_half blocks ahead was.block was.within spot full now.within in
-    let first = front_length blocks ahead was.block was.within spot full in
-    let second = back_length blocks ahead was.block was.within spot full in
-    search (arith, rules, cases_lt 32 was.within, before, behind)
+  pub spot_halved : (was now : Spot) → was.block ≡ i → was.within ≡ o → (o ≤ 32 → now ≡ was) →
+      (32 < o → (now.block ≡ i + 1) × (now.within + 32 ≡ o)) →
+      IsSpot (halved blocks i) ahead now.block now.within
+      × (length (block_at (halved blocks i) now.block) < most_cells)
+  spot_halved was now block within front back =
+      let behind = in_back_half now.within in
+      search (arith, rules, cases_lt 32 o, in_front_half, behind, front_length, back_length)

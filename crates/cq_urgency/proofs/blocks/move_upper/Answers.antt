@@ -1,4 +1,4 @@
-use Rattle.cq_urgency.proofs.Terms.{rules, ap, length, drop, block_at, length-take, length-drop, arith, set-get_or}
+use Rattle.cq_urgency.proofs.Terms.{rules, block_at, length-take, length-drop, arith, set-get_or}
 use Rattle.cq_urgency.proofs.Placed.{read_from, read_to, moved_more, moved_all}
 use Rattle.cq_urgency.proofs.blocks.move_upper.Goals as goal
 
@@ -11,9 +11,7 @@ at-queued-requires c = search (arith, rules, read_from)
 pub insert-requires-clause-inside : goal.insert-requires-clause-inside
 insert-requires-clause-inside c =
     let half = length-drop 32 (block_at c.args.pool.now.items c.args.from) in
-    let size = length-take c.moved.place (drop 32 (block_at c.args.pool.now.items c.args.from)) in
-    let same = ap length (read_to _ _ _ _ _ c.requires.from c.requires.to c.requires.apart c.requires.full
-    c.moved.invariant.moved _ c.index_mut.ensures.value) in omega arith
+    search (arith, rules, half, read_to, length-take)
 
 pub insert-requires-clause-room : goal.insert-requires-clause-room
 insert-requires-clause-room c = search (arith, rules, read_to, length-take)

@@ -14,6 +14,4 @@ pub at-requires : goal.at-requires
 at-requires c = search (arith, rules, some)
 
 pub returns-then-precedes : goal.returns-then-precedes
-returns-then-precedes c =
-    let cells = some (goal.at.returns-then-precedes c).After-len-within in
-    search (arith, rules, spot_end c.args.key c.args.blocks.now.blocks, cells)
+returns-then-precedes c = search (arith, rules, spot_end, some_at)

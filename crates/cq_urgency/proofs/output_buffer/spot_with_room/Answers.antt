@@ -1,4 +1,4 @@
-use Rattle.cq_urgency.proofs.Terms.{rules, ◌≡◌, ◌≤◌, List, length, ap, arith, ℕ, Queued, most_cells}
+use Rattle.cq_urgency.proofs.Terms.{refl, rules, ◌≡◌, ◌≤◌, List, length, ap, arith, ℕ, Queued, most_cells}
 use Rattle.cq_urgency.proofs.Filled.{filled_halved, room_to_split}
 use Rattle.cq_urgency.proofs.Flattened.{flattened-halved}
 use Rattle.cq_urgency.proofs.Spots.{longer, spot_halved}
@@ -23,5 +23,6 @@ in_halves-requires c =
 pub returns : goal.returns
 returns c =
     let all = full c.len.result _ _ c.len.ensures.len c.len.ensures.fits c.if-len-lt-MOST_CELLS.false c.block.ensures in
-    let spot = spot_halved _ _ _ _ c.spot_of-spot.ensures all c.in_halves.ensures.front c.in_halves.ensures.back in
-    search (arith, rules, all, spot, flattened-halved, filled_halved)
+    let spot = spot_halved _ _ _ _ c.spot_of-spot.ensures all c.spot_of-spot.result _ refl refl
+    c.in_halves.ensures.front in
+    search (arith, rules, all, spot, c.in_halves.ensures.back, flattened-halved, filled_halved)

@@ -1,5 +1,5 @@
-use Rattle.cq_urgency.proofs.Terms.{◌+◌, ◌-◌, arith, rules, refl, ap, List, length, length-set, length-insert, Queued}
-use Rattle.cq_urgency.proofs.Placed.{kept, as_many_counts, in_pool, read_is, changed, count_is, count_first, count_behind}
+use Rattle.cq_urgency.proofs.Terms.{◌-◌, arith, rules, ap, List, length, length-set, length-insert, Queued}
+use Rattle.cq_urgency.proofs.Placed.{kept, as_many_counts, in_pool, read_is, changed, count_first, count_grown}
 use Rattle.cq_urgency.proofs.blocks.Blocks.insert.Goals as goal
 
 pub index_mut-requires : goal.index_mut-requires
@@ -22,23 +22,20 @@ invariant_of-self c =
 pub returns-then-block-eq0-clause-blocks : goal.returns-then-block-eq0-clause-blocks
 returns-then-block-eq0-clause-blocks c =
     let w = kept c.self.invariant.0 c.self.view_is in
-    let same = read_is w c.args.block c.requires.block c.number_at-number.ensures c.index_mut.ensures.value in
-    let k = changed w c.args.block c.requires.block c.number_at-number.ensures c.insert.new.self _ refl in cc (k.seen)
+    search (arith, rules, changed w c.args.block, read_is w c.args.block)
 
 pub invariant_of-self-2 : goal.invariant_of-self-2
 invariant_of-self-2 c =
     let w = kept c.self.invariant.0 c.self.view_is in
     let same = read_is w c.args.block c.requires.block c.number_at-number.ensures c.index_mut.ensures.value in
     let more = length-insert c.index_mut.result.now c.args.place c.args.queued in
-    let count = count_is c.args.self.now.blocks _ c.args.block (c.args.block - 1) (as_many_counts w) (omega arith)
-    c.requires.block c.index_mut-2.ensures.value in
-    let k = changed w c.args.block c.requires.block c.number_at-number.ensures c.insert.new.self _
-    (count_behind c.args.self.now.blocks _ c.args.block (c.args.block - 1) (c.index_mut-2.result.now + 1) _
-    (as_many_counts w) (omega arith) (omega (arith, ap length same, ap length c.insert.ensures, more))) in
+    let counted = count_grown c.args.self.now.blocks c.insert.new.self c.args.block (c.args.block - 1) _
+    (as_many_counts w) (omega arith) c.requires.block c.index_mut-2.ensures.value
+    (omega (arith, ap length same, ap length c.insert.ensures, more)) in
+    let k = changed w c.args.block c.requires.block c.number_at-number.ensures c.insert.new.self _ counted in
     (k.placed, omega (arith, length-set {A = List Queued}))
 
 pub returns-clause-blocks : goal.returns-clause-blocks
 returns-clause-blocks c =
     let w = kept c.self.invariant.0 c.self.view_is in
-    let same = read_is w c.args.block c.requires.block c.number_at-number.ensures c.index_mut.ensures.value in
-    let k = changed w c.args.block c.requires.block c.number_at-number.ensures c.insert.new.self _ refl in cc (k.seen)
+    search (arith, rules, changed w c.args.block, read_is w c.args.block)
