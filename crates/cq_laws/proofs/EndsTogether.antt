@@ -9,7 +9,7 @@ use Rattle.cq_laws.proofs.InputBest.{stable_too}
 use Rattle.cq_laws.proofs.KeptParts.{departures_on, transfers_both}
 use Rattle.cq_laws.proofs.OneRun.{only_run}
 use Rattle.cq_laws.proofs.Parted.{ends_with, Reach, fewer_fit, reach, run_length, run_of_whole}
-use Rattle.cq_laws.proofs.QuietSlots.{empty_is, quiet_departures, quiet_figures_of_run, quiet_run, quiet_transfers_of_run}
+use Rattle.cq_laws.proofs.QuietSlots.{adds_nothing, empty_is, quiet_run}
 use Rattle.cq_laws.proofs.WholeRuns.{empty_agree, empty_together, same_run, same_stop, traffic_for_empty}
 
 -- ## The same end
@@ -151,7 +151,5 @@ module _ (ms : List Machine) (ports class_count : ℕ) (ranks : List (List ℕ))
   begins_whole =
       let both = sym (take-append-drop n rs) ∙ ap (λ (l : List SlotRecord). take n rs ++ l) quiet in
       let sent = departures_on (take n rs) idle 0 n (omega (arith, cut)) in
-      let none = quiet_transfers_of_run in
-      let same = quiet_figures_of_run in
       let moved = transfers_both (take n rs) idle in
-      search (arith, rules, is_whole, sent, moved, quiet_departures, none, append-nil, figures_fold, fold-append, same)
+      search (arith, rules, is_whole, sent, moved, adds_nothing, append-nil, figures_fold, fold-append)

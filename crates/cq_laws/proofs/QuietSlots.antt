@@ -1,9 +1,9 @@
 -- Where no cell waits and none comes, nothing is offered: the matching of nobody is the only one, nothing moves, and
 -- no figure changes. Only the rank machines are told that their outputs were idle.
-use Rattle.cq_laws.proofs.Terms.{common_steps, rules, ◌≡◌, ℕ, zero, suc, ◌+◌, false, List, [], ◌∷◌, length, map, Option, None, refl, ap, arith, All, min, is_some, filter_map, replicate, fold, enumerate_from, length-map, length-replicate, ext_get_or, sum_by-replicate, Queued, Figures, no_arrivals, Machine, Fabric, empty_fabric, IsEmptyFabric, Transfers, FabricSlot, FabricRun, InputFigures, departures_in, departures_of, idle_at, length-idle, nobody_sends, none_at, nothing_left, ranked_none, all_empty, ports, outputs_of, proposals, orders_of, transfers_of, gone_in, transfers_in, transfers_of_run, slacks, proposals_in, either_by, input_after, output_after, figures_after, OutputFigures, most_ports, IdealState, IsInputBest, no_departures}
+use Rattle.cq_laws.proofs.Terms.{common_steps, rules, ◌≡◌, ℕ, zero, suc, ◌+◌, false, List, [], ◌∷◌, length, map, Option, None, refl, ap, arith, All, min, is_some, filter_map, replicate, enumerate_from, length-map, length-replicate, ext_get_or, sum_by-replicate, Queued, Figures, no_arrivals, Machine, Fabric, empty_fabric, IsEmptyFabric, Transfers, FabricSlot, FabricRun, InputFigures, departures_in, departures_of, idle_at, length-idle, nobody_sends, none_at, nothing_left, ranked_none, all_empty, ports, outputs_of, proposals, orders_of, transfers_of, transfers_in, transfers_of_run, slacks, proposals_in, either_by, input_after, output_after, figures_after, OutputFigures, most_ports, IdealState, IsInputBest, no_departures}
 use Rattle.std.proofs.lemmas.List.Elements.{All-replicate}
 use Rattle.std.proofs.lemmas.List.Folds.{list_any_none}
-use Rattle.cq_laws.specs.Quiet.{idled, quiet_slot, quiet_slots, idled_for, KeepLaws}
+use Rattle.cq_laws.specs.Quiet.{idled, quiet_slot, quiet_slots, idled_for, AddNothing, KeepLaws}
 use Rattle.cq_laws.proofs.AddingUp.{map-constant}
 use Rattle.cq_laws.proofs.OneRun.{outputs_at}
 use Rattle.cq_laws.proofs.WholeRuns.{empty_list}
@@ -92,24 +92,12 @@ empty_is f empty square = grind (arith, common_steps, all_none)
 -- ## Many such slots
 
 module _ (ms : List Machine) (n : ℕ) where
-  pub quiet_transfers_of_run : (count slot : ℕ) (ranks : List (List ℕ)) →
-      transfers_of_run (quiet_slots ms count slot n ranks) ≡ []
-  unfolding transfers_of_run
-  quiet_transfers_of_run zero slot ranks = refl
-  quiet_transfers_of_run (suc count) slot ranks =
-      grind (arith, common_steps, quiet_transfers, quiet_transfers_of_run count (slot + 1) (idled ms n ranks))
-
-  pub quiet_departures : (count slot : ℕ) (ranks : List (List ℕ)) →
-      departures_of slot (gone_in (quiet_slots ms count slot n ranks)) ≡ []
-  unfolding departures_of departures_in quiet_slot
-  quiet_departures zero slot ranks = refl
-  quiet_departures (suc count) slot ranks = simp (no_departures, quiet_departures count (slot + 1) (idled ms n ranks))
-
-  pub quiet_figures_of_run : (count slot : ℕ) (ranks : List (List ℕ)) (x : Figures) →
-      fold figures_after x (quiet_slots ms count slot n ranks) ≡ x
-  quiet_figures_of_run zero slot ranks x = refl
-  quiet_figures_of_run (suc count) slot ranks x =
-      grind (arith, common_steps, quiet_figures, quiet_figures_of_run count (slot + 1) (idled ms n ranks) x)
+  pub adds_nothing : (count slot : ℕ) (ranks : List (List ℕ)) → AddNothing slot (quiet_slots ms count slot n ranks)
+  unfolding departures_of departures_in transfers_of_run quiet_slot
+  adds_nothing zero slot ranks = search rules
+  adds_nothing (suc count) slot ranks =
+      let rest = adds_nothing count (slot + 1) (idled ms n ranks) in
+      search (arith, rules, quiet_transfers ms slot n ranks, quiet_figures ms slot n ranks, no_departures, rest)
 
 -- ## Machines that keep the laws are not changed by a second idle slot: many quiet slots are one
 
