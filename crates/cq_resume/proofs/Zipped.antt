@@ -114,17 +114,10 @@ module _ (ports classes : ℕ) (came : List Arrival) (traffic : IsTraffic ports 
   abbrev pub IsFor : Queued → Type 0
   IsFor q = (q.cell.output < ports) × (q.cell.class < classes)
 
-  one_for : (c : Named) (q : Queued) → IsTold came next c q → IsFor q
+  pub one_for : (c : Named) (q : Queued) → IsTold came next c q → IsFor q
   one_for c q is =
       let found = found_at came c.slot c.input q.cell in
       search (arith, rules, all_of_has (IsOfSwitch ports classes) came, traffic.in_range, found, told_facts)
-
-  pub told_for : (names : List Named) (told : List Queued) → AreFound came next names told → AllByRecursion IsFor told
-  told_for = each_right (IsTold came next) IsFor one_for
-
-  pub gone_for : (sent : List Sent) (gone : List Gone) → AreGone came next sent gone →
-      AllByRecursion (λ g. IsFor g.queued) gone
-  gone_for = each_right (IsGone came next) (λ (g : Gone). IsFor g.queued) (λ d g is. one_for d.cell g.queued is.1)
 
 -- ## Sorted names
 
