@@ -270,13 +270,10 @@ module _ (w : Switch) (s : State) (f : Found) (found : IsFound w.came s f) where
   unfolding fabric_told
   no_input i past = grind (arith, common_steps, length-map-range_with_len, get_or_past)
 
-  pub buffer_there : (j : ℕ) → j < s.head.ports → buffer (fabric_told w.came s) j ≡ filter (is_for j) f.buffered.items
-  unfolding fabric_told
-  buffer_there j inside = grind (arith, common_steps, get_or-map-range_with_len, buffer_is)
-
   cushion_is : (c : Queued) → c.cell.output < s.head.ports →
       cushion_of (fabric_told w.came s) c ≡ length (cushion_in f.buffered.items c)
-  cushion_is c inside = grind (arith, common_steps, buffer_there, filter_both)
+  unfolding fabric_told
+  cushion_is c inside = search (arith, rules, get_or-map-range_with_len, buffer_is, filter_both)
 
   module _ (inputs : AllByRecursion (λ q. q.key.input < s.head.ports) f.listed.items)
       (outputs : AllByRecursion (λ q. q.cell.output < s.head.ports) f.listed.items) where
