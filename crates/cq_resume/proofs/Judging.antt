@@ -129,11 +129,9 @@ module _ (w : Switch) (s : State) (f : Found) (found : IsFound w.came s f) where
       let sends = pairs_alike Left (IsSentBefore w.came) IsGoneBefore
       (λ d e g h first second. grind (arith, common_steps, told_facts)) s.sent f.sent.items found.sent in
       let times = all_alike Left (λ d. (d.cell.slot ≤ d.slot) × (d.slot < next)) (IsTimely next)
-      (λ d g is. grind (arith, common_steps, told_facts)) s.sent f.sent.items found.sent in
-      let moved = All-from_recursion (λ (t : Transfer). t.slot < next) s.moved in
-      let in_time = All-from_recursion (λ (d : Sent). (d.cell.slot ≤ d.slot) × (d.slot < next)) s.sent in (
+      (λ d g is. grind (arith, common_steps, told_facts)) s.sent f.sent.items found.sent in (
         (λ stand. search (arith, rules, recursion_from_All)),
-        (λ is. search (arith, rules, moved, in_time, sends.1 is.2.ordered, times.1 is.2.timely)),
+        (λ is. search (arith, rules, All-from_recursion, sends.1 is.2.ordered, times.1 is.2.timely)),
       )
 
   -- ## Floors
