@@ -175,10 +175,7 @@ module _ (w : Switch) (s : State) (f : Found) (found : IsFound w.came s f) where
       search (arith, rules, has_left, has_moved told f.names.items (waiting_name by.0) back)
   mate c o (inr left) =
       let by = zip_mate Left s.sent f.sent.items found.sent left.0 left.1 in
-      let here = has_right (map waiting_name f.listed.items ++ map waiting_name f.buffered.items) _ _
-      (has_image sent_name f.sent.items by.0 by.1) in
-      let own = subst (λ (e : Named). Told e by.0.queued) left.2 by.2.1 in
-      (sent_name by.0, has_moved told f.names.items (sent_name by.0) back here, own, cc)
+      search (arith, rules, has_right, has_image sent_name, has_moved told f.names.items (sent_name by.0) back)
 
   module _ (c d : Named) (m n : Name) (first : Told c m.queued) (second : Told d n.queued) where
     of_one : OfOneFlow w.came c d ↔ InOneFlow m n
