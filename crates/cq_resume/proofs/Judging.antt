@@ -104,7 +104,7 @@ module _ (w : Switch) (s : State) (names : List Name)
       IsTally w s x
   tally_is x many up =
       let as_one : is_named (named_in s) ≡ has_name names = λ k a. same a k in
-      search (arith, rules, mapped_alike, as_one)
+      search (arith, rules, as_one)
 
 -- ## Of the cells that were found
 
@@ -319,9 +319,7 @@ module _ (w : Switch) (s : State) (f : Found) (found : IsFound w.came s f) where
   unfolding frozen_told figures_told fabric_told
   taken_is x t tally next slots proposals most inputs outputs refused marks ranks lists buffers sent note =
       let inputs_are = mapped_alike _ _ (λ (at : ℕ × Seen). figures_are at.0 at.1) (enumerate_from 0 s.inputs) in
-      let lists_are = mapped_alike _ _ list_is (range_with_len 0 s.head.ports) in
-      let buffers_are = mapped_alike _ _ buffer_is (range_with_len 0 s.head.ports) in
-      search (arith, rules, sent_is)
+      search (arith, rules, sent_is, mapped_alike, list_is, buffer_is)
 
 -- ## The inputs that are named
 
