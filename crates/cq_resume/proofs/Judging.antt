@@ -216,9 +216,8 @@ module _ (w : Switch) (s : State) (f : Found) (found : IsFound w.came s f) where
           let d = get_or s.sent i e in
           let g = get_or s.sent j e in
           let order = stand.sent i j e lt inside in
-          let other = sent_differ i j e lt inside in
           let turned = leave hold g.cell d.cell (Some g.slot) (Some d.slot) in
-          search (arith, rules, turned, has_at s.sent i e, has_at s.sent j e, cases_order);
+          search (arith, rules, turned, has_at s.sent i e, has_at s.sent j e, cases_order, sent_differ i j e);
       after = has_all BehindAll s.sent (λ d gone. has_all (Behind d) (queued_in s) (λ c has one.
           let other = pairs_cross Differ (queued_in s) _ c d.cell differ has (has_image _ s.sent d gone) in
           search (arith, rules, leave hold c d.cell None (Some d.slot), cases_order)));

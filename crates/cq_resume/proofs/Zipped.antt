@@ -23,12 +23,10 @@ module _ {A B : Type 0} (R : A → B → Type 0) where
 
   -- each of the one list has its own in the other
   pub zip_has : (xs : List A) (ys : List B) → AllZip R xs ys → (y : B) → Has ys y → (x : A) × Has xs x × R x y
-  zip_has = zip_by (λ xs ys. (y : B) → Has ys y → (x : A) × Has xs x × R x y) (λ y has. absurd has)
-      (search (arith, rules))
+  zip_has = zip_by _ (λ y has. absurd has) (search (arith, rules))
 
   pub zip_mate : (xs : List A) (ys : List B) → AllZip R xs ys → (x : A) → Has xs x → (y : B) × Has ys y × R x y
-  zip_mate = zip_by (λ xs ys. (x : A) → Has xs x → (y : B) × Has ys y × R x y) (λ x has. absurd has)
-      (search (arith, rules))
+  zip_mate = zip_by _ (λ x has. absurd has) (search (arith, rules))
 
   pub zip_both : (xs : List A) (ys : List B) (xs' : List A) (ys' : List B) → AllZip R xs ys → AllZip R xs' ys' →
       AllZip R (xs ++ xs') (ys ++ ys')
@@ -43,8 +41,7 @@ module _ {A B : Type 0} (R : A → B → Type 0) where
   -- what is said of each item of the one list is said of its own in the other
   pub all_alike : (P : A → Type 0) (Q : B → Type 0) → ((x : A) (y : B) → R x y → P x ↔ Q y) → (xs : List A)
       (ys : List B) → AllZip R xs ys → AllByRecursion P xs ↔ AllByRecursion Q ys
-  all_alike P Q same = zip_by (λ xs ys. AllByRecursion P xs ↔ AllByRecursion Q ys) ((λ _. tt), (λ _. tt))
-      (λ x y xs ys own zips rest. let here = same x y own in grind (arith, common_steps))
+  all_alike P Q same = zip_by _ (search rules) (search (arith, rules))
 
   -- what holds of each item by its own
   pub each_right : (Q : B → Type 0) → ((x : A) (y : B) → R x y → Q y) → (xs : List A) (ys : List B) → AllZip R xs ys →
@@ -228,8 +225,7 @@ module _ (came : List Arrival) (s : State) where
       IsOnlyFor 1 ((x : X) × Has xs x × Miss x) f → IsOnlyFor 1 (AreArrivals came s → ⊥) f
   missed name Miss give xs named (refusal.Unsound k) is =
       search (arith, rules, all_has (CanBe came s.head.next) (named_in s), lt-ltb)
-  missed name Miss give xs named refusal.NoMemory is = tt
-  missed name Miss give xs named f is = absurd is
+  missed name Miss give xs named f is = search rules
 
   -- names that belong to those of the state, and the same in another order
   module _ {told names : List Name} (same : IsPermutation told names)
