@@ -182,12 +182,9 @@ module _ (w : Switch) (s : State) (in_range : IsInRange s) (shape : HasShape w s
 
   -- ## It is sound
 
-  -- of two names for one output the first is ahead; of two at one input
+  -- of two names for one output the first is ahead
   abbrev IsFirst : Named → Named → Type 0
   IsFirst c d = output_of w.came c ≡ output_of w.came d → is_ahead c d ≡ true
-
-  abbrev IsFirstThere : Named → Named → Type 0
-  IsFirstThere c d = c.input ≡ d.input → IsFirst c d
 
   -- and of two cells
   abbrev Leads : Queued → Queued → Type 0
@@ -214,7 +211,7 @@ module _ (w : Switch) (s : State) (in_range : IsInRange s) (shape : HasShape w s
 
   keep_order : ListsKeepOrder f
   keep_order i =
-      let kept = pairs_kept_with IsFirstThere IsFirst (at_input i) in
+      let kept = pairs_kept_with (λ (c d : Named). c.input ≡ d.input → IsFirst c d) IsFirst (at_input i) in
       let ahead = pairs_looked_up t IsFirst Leads in
       of_list (EachPair Leads) tt i (search (arith, rules, ahead, in_order, its_output, kept, each_pair, eqb-true))
 
