@@ -13,10 +13,6 @@ use Rattle.cq_resume.specs.Neighbours.{IsOfNeighbours}
 use Rattle.cq_base.proofs.Each.{one_there}
 use Rattle.cq_resume.proofs.Cut.{none_kept}
 
--- it holds of each and each later one below a place
-abbrev pub PairsBelow : {X : Type 0} → (X → X → Type 0) → List X → ℕ → Type 0
-PairsBelow {X} R xs n = (i j : ℕ) (d : X) → i < j → j < n → R (get_or xs i d) (get_or xs j d)
-
 -- ## Neighbours
 
 module _ {X : Type 0} (R : X → X → Type 0) (xs : List X) where
@@ -89,7 +85,7 @@ module _ {X : Type 0} (input lane : X → ℕ) (R : X → X → Type 0) where
   -- what is known before a place: the items of one lane stand in order, and the last ones at the input of the one
   -- before it
   pub record Lanes (xs : List X) (lanes n : ℕ) (last : List (Option X)) : Type 0 where
-    pub pairs : PairsBelow InLane xs n
+    pub pairs : (i j : ℕ) (d : X) → i < j → j < n → InLane (get_or xs i d) (get_or xs j d)
     pub ends : (d : X) → AreLast xs n (input (get_or xs (n - 1) d)) last
     pub long : length last ≡ lanes
 
@@ -149,8 +145,7 @@ module _ {X : Type 0} (input lane : X → ℕ) (R : X → X → Type 0) where
         -- one item more
         pub lanes_next : Lanes xs lanes (n + 1) then
         lanes_next =
-            search
-            (rules, cases_eq, are.each, goes_on, test_there, get_or_default, last_then, length-set, long_now, known)
+            search (rules, are.each, goes_on, test_there, get_or_default, last_then, length-set, long_now, known)
 
       -- one that stands behind all of its lane may come
       pub lanes_stop : may ≡ false → (false ≡ true) ↔ AllPairs InLane xs
