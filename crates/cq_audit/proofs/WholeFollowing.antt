@@ -63,8 +63,7 @@ module _ (limits : List (Option ℕ)) (ms : List Machine) (came : List Arrival) 
           moved rs ≡ before_slot n note → Halfway m n rs end
       halfway m n rs end le run told =
           let r = reach (LimitedFabricSlot IsStable limits ms) came start rs m n end le run in
-          let parts = moved_parts (take m rs) (drop m rs) in
-          let whole = take-append-drop m rs in search (arith, rules, all_before, run_later, before_is, before_later)
+          search (arith, rules, moved_parts, take-append-drop m rs, all_before, run_later, before_is, before_later)
 
       -- ## A whole run that moves what the lines up to its end say
 
@@ -76,11 +75,9 @@ module _ (limits : List (Option ℕ)) (ms : List Machine) (came : List Arrival) 
 
       not_longer : (a b : IsFollowed) → length a.records < length b.records → ⊥
       not_longer a b lt =
-          let n = length a.records in
           let run = whole_run a.records a.end a.runs in
-          let other = whole_run b.records b.end b.runs in
-          let h = halfway n (length b.records) b.records b.end (omega arith) other b.told in
-          search (arith, rules, one_stable_run, whole_going n b.records b.end lt b.runs)
+          let h = halfway (length a.records) (length b.records) b.records b.end in
+          search (arith, rules, whole_run, h, one_stable_run, whole_going)
 
       pub one_length : (a b : IsFollowed) → length a.records ≡ length b.records
       one_length a b = grind (arith, common_steps, not_longer a b, not_longer b a, cases_lt)
@@ -116,8 +113,7 @@ module _ (limits : List (Option ℕ)) (ms : List Machine) (came : List Arrival) 
       -- so they have none
       none_settled : (slot phase : ℕ) (fault : PhaseFault) → IsSettled slot phase → FaultAt slot phase fault → ⊥
       none_settled slot phase fault s f =
-          let same = one_begun slot phase s.fabric f.fabric s.begins f.begins in
-          search (arith, rules, phase_is_exact.never_both)
+          search (arith, rules, one_begun slot phase s.fabric f.fabric, phase_is_exact.never_both)
 
       -- where the second phase begins the first is
       first_of : (slot phase : ℕ) (f : Fabric) → Begun slot phase f → phase ≡ 2 → IsSettled slot 1
@@ -184,8 +180,7 @@ module _ (limits : List (Option ℕ)) (ms : List Machine) (came : List Arrival) 
           let n = length w.records in
           let run = whole_run w.records w.end w.runs in
           let at = reached_at slot phase fault f in
-          ⊎_elim (λ (within : slot < n). none_passed slot phase fault (passed slot n w.records w.end within run
-          w.told (whole_going slot w.records w.end within w.runs)) f)
+          ⊎_elim (λ (within : slot < n). search (arith, rules, none_passed slot phase fault, passed, whole_going))
           (λ (behind : n ≤ slot). search (arith, rules, halfway n slot at.1.records at.0, one_stable_run))
           (cases_lt slot n)
 
@@ -202,15 +197,9 @@ module _ (limits : List (Option ℕ)) (ms : List Machine) (came : List Arrival) 
       -- ## Refusals
 
       -- a fault of a phase, or a line that is left
-      abbrev OfFault : AuditRefusal → Type 0
-      OfFault refusal = (slot : ℕ) × (phase : ℕ) × (fault : PhaseFault) × (refusal ≡ phase_refusal slot phase fault)
-          × FaultAt slot phase fault
-
-      abbrev OfLeft : AuditRefusal → Type 0
-      OfLeft refusal = (n : ℕ) × (refusal ≡ Left n) × IsLeftAt limits ms came start note n
-
       fault_or_left : (refusal : AuditRefusal) → IsNoOf limits ms came start note refusal →
-          OfFault refusal ⊎ OfLeft refusal
+          ((slot : ℕ) × (phase : ℕ) × (fault : PhaseFault) × (refusal ≡ phase_refusal slot phase fault)
+          × FaultAt slot phase fault) ⊎ ((n : ℕ) × (refusal ≡ Left n) × IsLeftAt limits ms came start note n)
       fault_or_left refusal wrong = grind (arith, common_steps)
 
       pub one_no_of : (r s : AuditRefusal) → IsNoOf limits ms came start note r →
