@@ -1,7 +1,7 @@
 -- The lines of a phase have one verdict. Of two faults neither comes before the other. And where the lines are the
 -- transfers of a stable matching, the line of an input is what is noted of it: it names the input's first cell for its
 -- partner. So no line is wrong, the pairs that the lines tell are the matching, and none blocks it.
-use Rattle.cq_audit.proofs.Terms.{common_steps, rules, ◌≡◌, ℕ, zero, suc, ◌+◌, ◌<◌, ◌≤◌, ◌⊎◌, List, length, Option, None, Some, refl, ap, sym, subst, ◌∙◌, arith, filter_map, range_with_len, option_map, cases_lt, cases_eq, ext_get_or, length-map, Queued, Transfer, HasCellFor, list_of, output_order, noted, transfers_of, IsListed, Partners, partner_of, is_output_order, outputs_at, transfers_tell, IsPhaseExact, IsPhaseFault, IsStableTold, IsWrongLine, first_id, line_of_input, output_told, told, PhaseFault}
+use Rattle.cq_audit.proofs.Terms.{common_steps, rules, ◌≡◌, ℕ, zero, suc, ◌+◌, ◌<◌, ◌≤◌, ◌⊎◌, List, length, Option, None, Some, refl, ap, sym, ◌∙◌, arith, filter_map, range_with_len, option_map, cases_lt, cases_eq, ext_get_or, length-map, Queued, Transfer, HasCellFor, list_of, output_order, noted, transfers_of, Partners, partner_of, offer_of, transfers_tell, IsPhaseExact, IsPhaseFault, IsStableTold, IsWrongLine, first_id, line_of_input, output_told, told, PhaseFault}
 use Rattle.cq_audit.specs.declared.phase.PhaseFault.TheVariants.{WrongLine, Blocking}
 use Rattle.cq_audit.proofs.LinesMoved.{line_later, some_of, told_at, told_size}
 
@@ -61,9 +61,7 @@ module _ (lists : List (List Queued)) (slot phase : ℕ) (lines : List Transfer)
 
   partner_told : (i : ℕ) → i < length m → partner_of m i ≡ output_told lines i
   unfolding note
-  partner_told i inside = rw (line_is_note i inside) (output_noted i (partner_of m i) (λ j joined.
-      ((is_output_order (list_of lists i)).offered j).0
-      (subst (λ order. IsListed order j) (outputs_at lists i) (is.stable.matching.offered i j joined))))
+  partner_told i inside = search (arith, rules, line_is_note, output_noted, offer_of)
 
   pub told_is : told (length lists) lines ≡ m
   told_is = ext_get_or None (told (length lists) lines) m (told_size (length lists) lines ∙ sym size)

@@ -33,7 +33,7 @@ pub use Rattle.cq_prefs.specs.Moves.{Moves, noted}
 unfoldable pub use Rattle.cq_prefs.specs.Moves.{transfers_of}
 pub use Rattle.cq_prefs.specs.Orders.{AreOffers, IsListed, IsOffered, Orders, outputs_of, place_in, place_of, ports}
 pub use Rattle.cq_prefs.specs.Pairing.{HasBetterInput, HasBetterOutput, IsFreeOutput, IsMatching, IsStable, Partners, depth, partner_of, partner_place, with_pair}
-pub use Rattle.cq_laws.proofs.OneRun.{one_arrival, one_departure, one_transfer, outputs_at, same_record}
+pub use Rattle.cq_laws.proofs.OneRun.{offer_of, one_arrival, one_departure, one_transfer, outputs_at, same_record}
 pub use Rattle.cq_laws.proofs.Parted.{reach, run_length, run_of_whole}
 pub use Rattle.cq_laws.proofs.Told.{transfers_tell}
 pub use Rattle.cq_laws.proofs.WholeRuns.{empty_agree, empty_list, empty_together}
