@@ -64,8 +64,7 @@ module _ (lists : List (List Queued)) (slot phase : ℕ) (lines : List Transfer)
   partner_told i inside = search (arith, rules, line_is_note, output_noted, offer_of)
 
   pub told_is : told (length lists) lines ≡ m
-  told_is = ext_get_or None (told (length lists) lines) m (told_size (length lists) lines ∙ sym size)
-      (search (arith, rules, told_size, size, told_at, partner_told))
+  told_is = search (arith, rules, ext_get_or None (told (length lists) lines) m, told_size, size, told_at, partner_told)
 
 -- ## One verdict
 
