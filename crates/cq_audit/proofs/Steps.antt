@@ -68,12 +68,11 @@ module _ (limits : List (Option ℕ)) (ms : List Machine) (came : List Arrival) 
             ranking ms slot 0 (fabric_admission limits (arriving came slot) f).cells f.state.ranks ≡ Err fault →
             whole_limited_run limits ms came (empty_limited ports ranks) ≡ Err fault
         fault_there fault is =
-            let start = empty_limited ports ranks in
-            let at : slot ≡ 0 + length (first_slots came slot) = omega (arith, arriving_length came 0 slot) in
             let here = (same_limited_fault limits ms slot (arriving came slot) f beside.after fault agree_now).1 is in
-            let parts = limited_parts limits ms 0 slot (first_slots came slot) (arriving came slot ∷ []) start at in
+            let parts = limited_parts limits ms 0 slot (first_slots came slot) (arriving came slot ∷ []) in
             let stops = run_fault limits ms slot (arriving came slot) [] beside.after fault here in
-            search (rules, limited_whole_fault limits ms ports ranks came (slot + 1), first_more came slot)
+            let later = limited_whole_fault limits ms ports ranks came (slot + 1) in
+            search (arith, rules, later, first_more came slot, arriving_length, parts)
 
         -- the ranks of what is admitted in the next slot fit
         pub ranks_fit : IsOk (whole_limited_run limits ms came (empty_limited ports ranks)) →
@@ -92,10 +91,8 @@ module _ (limits : List (Option ℕ)) (ms : List Machine) (came : List Arrival) 
     over_there f rs run =
         let n = last limits ms ports ranks came in
         let ran = ok_from _ whole in
-        let ends = limited_ends limits ms ports ranks came ran.0 ran.1 in
-        let alike = beside ports ranks n f rs run classes traffic in
         let agrees = agree_now ports ranks n f rs run classes traffic in
-        search (arith, rules, empty_together n f.state alike.after.state agrees.states)
+        search (arith, rules, limited_ends limits ms ports ranks came ran.0, empty_together n f.state, agrees.states)
 
     -- so a run that is over at no slot up to this one has no more slots
     pub slots_bounded : (slot : ℕ) (f : Marked Fabric) (rs : List LimitedRecord) →
@@ -104,10 +101,9 @@ module _ (limits : List (Option ℕ)) (ms : List Machine) (came : List Arrival) 
         AfterBy (LimitedFabricSlot IsStable limits ms) came (empty_limited_fabric ports ranks) rs m g →
         end_of came ≤ m → IsEmptyFabric g.state → ⊥) → slot < enough came
     slots_bounded slot f rs run not_over =
-        let few = limited_not_more limits ms ports ranks came in
         let far = reach (LimitedFabricSlot IsStable limits ms) came (empty_limited_fabric ports ranks) rs
         (last limits ms ports ranks came) slot f in
-        search (arith, rules, far, run, over_there, not_over, cases_lt)
+        search (arith, rules, limited_not_more limits ms ports ranks came, far, over_there, not_over, cases_lt)
 
 -- ## What is known before a slot
 
@@ -200,12 +196,11 @@ module _ {M : List ℕ → Machine} {came : List Arrival} {lines : List Transfer
         cells ≡ arriving came slot → SlotReplayed (map M now.fixed) slot cells rest left now new note note' →
         Replaying M came lines first (slot + 1) left new note'
     at_next cells left new note' are had =
-        let one = one_each in
         let more_moved = rw transfers_one at (moved_parts b.records (had.of_slot ∷ [])) in
         let joined = all_go_on (LimitedFabricSlot IsStable first.limits (map M first.fixed))
         (IsLimitedFault first.limits (map M first.fixed)) in
         let long = arriving_length came 0 slot in
-        search (arith, rules, first_more, take-append-le, not_over, append_assoc, length-append, none_next)
+        search (arith, rules, one_each, first_more, take-append-le, not_over, append_assoc, length-append, none_next)
 
     -- ## A fault
 
