@@ -138,8 +138,7 @@ module _ {M : List ℕ → Machine} {slot : ℕ} {cells : List (Option Cell)} {l
           let few = few_cross one.crossed.pairs q1.inputs slot 1 one.crossed.told.stable.matching in
           let same = ap length one.crossed.told.moved in
           let long = first_long in
-          search
-          (arith, rules, second_long, can_cross_second, ranked, arrived, room, moved1, have_sent, all_weaker)
+          search (rules, arith, second_long, can_cross_second, ranked, arrived, room, moved1, have_sent, all_weaker)
 
       half : IsHalfPast ms slot (in_phase slot 1 lines) (fabric_of q1 ranks1.states) (fabric_of q3 ranks2.states)
       half =
@@ -201,13 +200,12 @@ module _ {n : ℕ} {q : Queues} {l : LimiterView} (new : AreNew n q l) (ranks : 
 
   pub opening_is : {states : List (List ℕ)} → ranks.states ≡ states →
       marked l.marks (fabric_of q ranks.states) ≡ empty_limited_fabric n states
-  opening_is same = grind (arith, common_steps, first_fabric)
+  opening_is same = grind (arith, common_steps)
 
   pub in_step_first : {ms : List Machine} → AreForOneSwitch ms → length ms ≡ n → length ranks.states ≡ n →
       IsInStep ms 0 (shown ranks q l)
   in_step_first one ports long =
-      let held = (holds_first n ranks.states q l new.inputs new.buffers new.limits new.held).held in
-      search (arith, rules, first_fabric, empty_agree n ranks.states, length-replicate)
+      search (arith, rules, holds_first, first_fabric, empty_agree n ranks.states, length-replicate)
 
 -- ## After slots in which nothing happens
 

@@ -27,15 +27,13 @@ go_by-requires-2 g c = second_goes (known g (goal.at.go_by-requires-2 g c).After
 pub returns-in_err-behind-clause-fault : goal.returns-in_err-behind-clause-fault
 returns-in_err-behind-clause-fault g c =
     let begins = known g (goal.at.returns-in_err-behind-clause-fault g c).After-self in
-    let p = err_from_is_err_and c.from_residual.result c.from_residual.ensures.1 in
-    rw (p.1, p.2) (first_fault begins c.come.ensures c.in_err-behind.field-0.0 c.in_err-behind.ensures.fault)
+    search (arith, rules, err_from_is_err_and, first_fault begins c.come.ensures)
 
 pub returns-in_err-rest-clause-fault : goal.returns-in_err-rest-clause-fault
 returns-in_err-rest-clause-fault g c =
     let begins = known g (goal.at.returns-in_err-rest-clause-fault g c).After-self in
-    let p = err_from_is_err_and c.from_residual-in_err-rest.result c.from_residual-in_err-rest.ensures.1 in
-    rw (p.1, p.2) (second_fault begins c.come.ensures c.in_ok-behind.ensures.gone_by c.send.ensures
-    c.in_err-rest.field-0.0 c.in_err-rest.ensures.fault)
+    let fault = second_fault begins c.come.ensures c.in_ok-behind.ensures.gone_by c.send.ensures in
+    search (arith, rules, err_from_is_err_and, fault)
 
 pub returns-clause-slot : goal.returns-clause-slot
 returns-clause-slot g c = replayed (known g (goal.at.returns-clause-slot g c).After-self) c.come.ensures
