@@ -12,8 +12,7 @@ use Rattle.cq_audit.proofs.TellingLines.{line_holds, line_is_of, no_line}
 
 module _ (o : Orders) (m : Partners) (matching : IsMatching o m) (none : (i j : ℕ) → IsBlocking o m i j → ⊥) where
   settled : (i j : ℕ) → IsOffered o i j → partner_of m i ≢ Some j → HasBetterOutput o m i j ⊎ HasBetterInput o m i j
-  settled i j offered outside = ⊎_elim (λ joined. grind (arith, common_steps, none i j, cases_lt))
-      (λ free. grind (arith, common_steps, none i j, cases_lt)) (sender m j)
+  settled i j offered outside = search (arith, rules, none i j, cases_lt, sender m j)
 
 -- ## What the lines tell
 
@@ -50,8 +49,7 @@ module _ (lists : List (List Queued)) (lines : List Transfer) where
     told_matching = record {
       size = told_size (length lists) lines ∙ sym (length-map lists output_order);
       offered = λ i j is. let line = some_of (λ t. t.output) (line_of_input i lines) j (told_line i j is) in
-          let first = names_first i line.0 line.1 in
-          search (arith, rules, outputs_at lists i, is_output_order (list_of lists i), some_of, first);
+          search (arith, rules, outputs_at lists i, is_output_order (list_of lists i), some_of, names_first i line.0);
       once = search (arith, rules, apart, told_line, cases_lt);
     }
 

@@ -1,7 +1,7 @@
 -- The lines of a phase, told one after another. Their inputs rise, so where a line has its turn, those before it are of
 -- lesser inputs and those behind it of greater ones: it is the line of its input, and an output that is taken then is
 -- taken by a lesser input's line.
-use Rattle.cq_audit.proofs.Terms.{common_steps, rules, ◌≡◌, ◌≢◌, ℕ, ◌+◌, ◌<◌, ◌≤◌, ◌⊎◌, List, [], ◌∷◌, ◌++◌, length, map, get_or, take, drop, None, Some, refl, sym, ◌∙◌, arith, replicate, AllByRecursion, range_with_len, ⊎_elim, cases_eq, cond_both, eq-eqb, eqb-true, length-map, length-replicate, length-set, get_or-set_same, get_or-set_other, ext_get_or, get_or-map-range_with_len, length-map-range_with_len, take-append-drop, take_more, drop_more, find-append, all_back, all_weaker, Queued, Transfer, Waiting, cells_of, list_of, Partners, partner_of, with_pair, IsFreeOutput, nobody, IsOf, AreRight, IsFirstWrong, IsWrongLine, RiseByInput, first_id, line_of_input, output_told, told, get_or-map}
+use Rattle.cq_audit.proofs.Terms.{common_steps, rules, ◌≡◌, ◌≢◌, ℕ, ◌+◌, ◌<◌, ◌≤◌, ◌⊎◌, List, [], ◌∷◌, ◌++◌, length, map, get_or, take, drop, None, Some, refl, sym, ◌∙◌, arith, replicate, AllByRecursion, range_with_len, cases_eq, cond_both, eq-eqb, eqb-true, length-map, length-replicate, length-set, get_or-set_same, get_or-set_other, ext_get_or, get_or-map-range_with_len, length-map-range_with_len, take-append-drop, take_more, drop_more, find-append, all_back, all_weaker, Queued, Transfer, Waiting, cells_of, list_of, Partners, partner_of, with_pair, IsFreeOutput, nobody, IsOf, AreRight, IsFirstWrong, IsWrongLine, RiseByInput, first_id, line_of_input, output_told, told, get_or-map}
 use Rattle.cq_audit.specs.Pairs.{CanBeJoined}
 
 -- the list of an input that is one
@@ -106,11 +106,8 @@ module _ (lists : List (List Queued)) (lines front rest : List Transfer) (t : Tr
       record {
         size = search (arith, rules, length-set, had.size);
         told = λ i. grind (arith, common_steps, get_or-set_same, get_or-set_other, had.told, own, other, cases_eq);
-        right = λ i wrong. ⊎_elim (λ (at : i ≡ t.input). grind (arith, common_steps, own, other, had.told, free))
-            (λ (away : i ≢ t.input).
-            let low : i < t.input = before i wrong.line (sym (other i away) ∙ wrong.stands) in
-            had.right i (same_wrong lists (front ++ t ∷ []) front i (λ j le. other j (λ e. omega arith)) wrong))
-            (cases_eq i t.input);
+        right = λ i wrong.
+            search (arith, rules, own, other, had.told, free, before, had.right i, same_wrong, cases_eq i t.input);
       }
 
 -- the same of the line at place n
