@@ -78,8 +78,7 @@ module _ (slot : ℕ) where
 
 module _ (ports : ℕ) where
   pub first_least : (lines : List Transfer) → AreInOrder ports lines → FirstIsLeast lines
-  first_least [] order = tt
-  first_least (t ∷ lines) order = grind (arith, common_steps, all_weaker)
+  first_least lines order = grind (arith, common_steps, all_weaker)
 
   -- lines of no earlier slot are of no earlier phase than its first
   pub none_from : (slot : ℕ) (lines : List Transfer) → AreInOrder ports lines →
@@ -115,7 +114,6 @@ module _ (ports slot phase : ℕ) where
       ⊎_elim (λ (here : is_at slot phase t ≡ true).
       let step = first_later (λ u. not (is_at slot phase u)) t note (ap not here) in
       let next : end ≡ suc rest = omega arith in
-      let front = all_front (IsTransferBefore t) (take rest note) (drop rest note) (rw had.whole at order.1) in
-      rw next (search (arith, rules, all_give, and_parts, eqb-true)))
+      rw next (search (arith, rules, all_front (IsTransferBefore t), had.whole, all_give, and_parts, eqb-true)))
       (λ away. grind (arith, common_steps, first_here, eq-eqb, cases_lt, all_behind, none_of_it))
       (cases_Bool (is_at slot phase t))

@@ -2,7 +2,7 @@
 -- before it: by its input in a phase, by its phase in a slot, and by its slot. A cell that waits at an input came to
 -- it and keeps its numbers. So where all cells that come fit the numbers of a line, the transfers of a run are those
 -- of a log.
-use Rattle.cq_audit.proofs.Terms.{common_steps, rules, ◌≡◌, ℕ, zero, suc, ◌+◌, ◌<◌, ◌≤◌, ◌^◌, List, [], ◌∷◌, length, Option, None, Some, refl, arith, IfSome, AllByRecursion, filter_map, range_with_len, Cell, Queued, Transfer, arrival_at, Arrival, arriving, first_for, log_of, IsTraffic, Machine, Marked, admission, arriving_from, admitted_arrives, list_of, noted, transfers_of, IsStable, Partners, Fabric, IsEmptyFabric, input, FabricSlot, SlotRecord, LimitedFabricRun, LimitedFabricSlot, LimitedRecord, slots_in, transfers_in, transfers_of_run, run_of_whole, Leads, one_found, Comes, IsLog, StableRun, IsTransfer, IsOf, IsTransferBefore, all_weaker, all_both, all_found, came_from, all_give, most_ports, EachPair, Has, from_first, pairs_looked_up, looked_up, all_from_has, all_of_has, pairs_joined, came_or_was, was_waiting, all_made, partner_of}
+use Rattle.cq_audit.proofs.Terms.{common_steps, rules, ◌≡◌, ℕ, zero, suc, ◌+◌, ◌<◌, ◌≤◌, ◌^◌, List, [], ◌∷◌, length, Option, None, Some, refl, arith, IfSome, AllByRecursion, filter_map, range_with_len, Cell, Queued, Transfer, arrival_at, Arrival, arriving, first_for, log_of, IsTraffic, Machine, Marked, admission, arriving_from, admitted_arrives, list_of, noted, transfers_of, IsStable, Partners, Fabric, input, FabricSlot, SlotRecord, LimitedFabricRun, LimitedFabricSlot, LimitedRecord, slots_in, transfers_in, transfers_of_run, run_of_whole, Leads, one_found, Comes, IsLog, StableRun, IsTransfer, IsOf, IsTransferBefore, all_weaker, all_both, all_found, came_from, all_give, most_ports, EachPair, Has, from_first, pairs_looked_up, looked_up, all_from_has, all_of_has, pairs_joined, came_or_was, was_waiting, all_made, partner_of}
 use Rattle.cq_audit.proofs.Following.{run_later, slot_at, transfers_at}
 use Rattle.cq_traffic.proofs.ForPorts.{place_of}
 
@@ -137,7 +137,6 @@ module _ (ports classes : ℕ) (came : List Arrival) (traffic : IsTraffic ports 
       IsLog ports (transfers_of_run (slots_in rs)) (log_of (transfers_of_run (slots_in rs)))
   unfolding log_of
   stable_log limits ms start end rs few long empty whole =
-      let run =
-      run_of_whole (LimitedFabricSlot IsStable limits ms) came start rs (λ f. IsEmptyFabric f.state) end whole in
+      let run = run_of_whole (LimitedFabricSlot IsStable limits ms) came start rs _ end whole in
       let written = written_in_run limits ms (length rs) start end rs few long empty run in
       search (arith, rules, leads_written ports None _ written tt)
