@@ -1,7 +1,7 @@
 -- The lines of a phase have one verdict. Of two faults neither comes before the other. And where the lines are the
 -- transfers of a stable matching, the line of an input is what is noted of it: it names the input's first cell for its
 -- partner. So no line is wrong, the pairs that the lines tell are the matching, and none blocks it.
-use Rattle.cq_audit.proofs.Terms.{common_steps, rules, ◌≡◌, ℕ, zero, suc, ◌+◌, ◌<◌, ◌≤◌, ◌⊎◌, List, length, Option, None, Some, refl, ap, sym, ◌∙◌, arith, filter_map, range_with_len, option_map, cases_lt, cases_eq, ext_get_or, length-map, Queued, Transfer, HasCellFor, list_of, output_order, noted, transfers_of, Partners, partner_of, offer_of, transfers_tell, IsPhaseExact, IsPhaseFault, IsStableTold, IsWrongLine, first_id, line_of_input, output_told, told, PhaseFault}
+use Rattle.cq_audit.proofs.Terms.{common_steps, rules, ◌≡◌, ℕ, zero, suc, ◌+◌, ◌<◌, ◌≤◌, ◌⊎◌, List, length, Option, None, Some, refl, ap, ◌∙◌, arith, filter_map, range_with_len, cases_lt, cases_eq, ext_get_or, length-map, Queued, Transfer, list_of, output_order, noted, transfers_of, Partners, partner_of, offer_of, transfers_tell, IsPhaseExact, IsPhaseFault, IsStableTold, IsWrongLine, first_id, line_of_input, output_told, told, PhaseFault}
 use Rattle.cq_audit.specs.declared.phase.PhaseFault.TheVariants.{WrongLine, Blocking}
 use Rattle.cq_audit.proofs.LinesMoved.{line_later, some_of, told_at, told_size}
 
@@ -55,13 +55,9 @@ module _ (lists : List (List Queued)) (slot phase : ℕ) (lines : List Transfer)
   none_wrong i wrong = search (arith, rules, line_names i wrong.line wrong.stands, told_partner)
 
   -- an input that has a partner has a cell for it, and so a line
-  output_noted : (i : ℕ) (p : Option ℕ) → ((j : ℕ) → p ≡ Some j → HasCellFor (list_of lists i) j) →
-      p ≡ option_map (λ (t : Transfer). t.output) (noted slot phase i (list_of lists i) p)
-  output_noted i p offered = grind (arith, common_steps)
-
   partner_told : (i : ℕ) → i < length m → partner_of m i ≡ output_told lines i
   unfolding note
-  partner_told i inside = search (arith, rules, line_is_note, output_noted, offer_of)
+  partner_told i inside = grind (arith, common_steps, line_is_note, offer_of lists m is.stable i)
 
   pub told_is : told (length lists) lines ≡ m
   told_is = search (arith, rules, ext_get_or None (told (length lists) lines) m, told_size, size, told_at, partner_told)
