@@ -1,5 +1,5 @@
 -- Pairs that are told from both sides. One more pair is told from both, where its ends were free.
-use Rattle.cq_audit.proofs.Terms.{rules, ◌≡◌, ℕ, ◌<◌, length, replicate, None, Some, refl, arith, cases_eq, length-set, get_or-set_same, get_or-set_other, Partners, partner_of, with_pair, IsFreeOutput, nobody, common_steps}
+use Rattle.cq_audit.proofs.Terms.{none_unless, rules, ◌≡◌, ℕ, ◌<◌, length, replicate, None, arith, cases_eq, length-set, get_or-set_same, get_or-set_other, Partners, partner_of, with_pair, IsFreeOutput, nobody, common_steps}
 use Rattle.cq_audit.specs.Pairs.{AreMirrored}
 
 pub none_mirrored : (n : ℕ) → AreMirrored (replicate n None) (replicate n None)
@@ -7,10 +7,7 @@ none_mirrored n = search (arith, rules, nobody)
 
 module _ (m w : Partners) (mirror : AreMirrored m w) where
   pub free_there : (j : ℕ) → IsFreeOutput m j → partner_of w j ≡ None
-  free_there j free = elim (partner_of w j) as (λ o. partner_of w j ≡ o → partner_of w j ≡ None) [
-    | None ↦ λ is. is
-    | Some i ↦ λ is. absurd (free i (mirror.back i j is))
-  ] refl
+  free_there j free = none_unless (partner_of w j) (λ i is. free i (mirror.back i j is))
 
   pub free_back : (i : ℕ) → partner_of m i ≡ None → IsFreeOutput w i
   free_back i free j is = grind (arith, common_steps, mirror.back)
