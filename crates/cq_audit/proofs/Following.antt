@@ -73,8 +73,6 @@ module _ (limits : List (Option ℕ)) (ms : List Machine) where
       transfers_of_run (slots_in rs) ≡ transfers_of_run (slots_in ss) → (rs ≡ ss) × (g ≡ h)
   unfolding transfers_of_run
   one_stable_run slot [] f g h [] [] x y moved = (refl, x ∙ sym y)
-  one_stable_run slot [] f g h (r ∷ rs) ss x y moved = absurd x
-  one_stable_run slot (cells ∷ traffic) f g h [] ss x y moved = absurd x
   one_stable_run slot (cells ∷ traffic) f g h (r ∷ rs) (s ∷ ss) x y moved =
       let here = slot_at IsStable ms slot r.admission.cells f.state x.0.state r.of_slot x.1.runs in
       let there = slot_at IsStable ms slot s.admission.cells f.state y.0.state s.of_slot y.1.runs in
@@ -83,4 +81,4 @@ module _ (limits : List (Option ℕ)) (ms : List Machine) where
       (all_weaker _ _ (λ t at. omega arith) _ there) (run_later (slot + 1) traffic y.0 h ss y.2) moved in
       let one = one_stable_slot ms slot r.admission.cells f.state x.0.state y.0.state r.of_slot s.of_slot x.1.runs in
       search (arith, rules, one, one_stable_run (slot + 1) traffic x.0 g h rs ss)
-  one_stable_run slot traffic f g h rs ss x y moved = absurd y
+  one_stable_run slot traffic f g h rs ss x y moved = grind (arith, common_steps)
