@@ -28,7 +28,7 @@ pub use Rattle.cq_audit.specs.{declared.phase.PhaseFault.PhaseFault, declared.re
 pub use Rattle.cq_audit.specs.declared.refusal.AuditRefusal.TheVariants.{Left, Line, NoMemory}
 pub use Rattle.cq_list.specs.InputList.{Waiting, cells_of}
 pub use Rattle.cq_prefs.proofs.{Holding.none_unless, OutputOrder.is_output_order, Pairs.nobody, Places.output_in_range, Places.place_in-le-length, Places.place_of-at, Places.same_at_place}
-pub use Rattle.cq_prefs.specs.FirstCells.{HasCellFor, list_of, orders_of, output_order}
+pub use Rattle.cq_prefs.specs.FirstCells.{list_of, orders_of, output_order}
 pub use Rattle.cq_prefs.specs.Moves.{Moves, noted}
 unfoldable pub use Rattle.cq_prefs.specs.Moves.{transfers_of}
 pub use Rattle.cq_prefs.specs.Orders.{AreOffers, IsListed, IsOffered, Orders, outputs_of, place_in, place_of, ports}
