@@ -69,9 +69,8 @@ module _ (w : Switch) where
       (take n rs ≡ ps) × RunBy Step at (arriving_from w.came at k) middle (drop n rs) end
   goes_past next n k all at start middle end ps rs many there x y =
       let cut = arriving_parts w.came next at n k all there many in
-      let long = arriving_length w.came next n in
       let p = parts Step next (arriving_from w.came next n) (arriving_from w.came at k) start end rs in
-      search (arith, rules, one.run)
+      search (arith, rules, one.run, arriving_length)
 
   -- one that stops does so behind what another has done
   stops_past : (slot n count at : ℕ) (f middle : Marked Fabric) (ps rs : List LimitedRecord) (fault : TagFault) →
@@ -91,10 +90,6 @@ module _ (w : Switch) where
   no_longer next start g h rs ss r s =
       let same = goes_past next (length ss) (length rs - length ss) (length rs) (next + length ss) start h g ss rs in
       grind (arith, common_steps, r.first, whole_run, cases_lt (length ss) (length rs))
-
-  one_on : (next : ℕ) (start g h : Marked Fabric) (rs ss : List LimitedRecord) → RunsOn w next start rs g →
-      RunsOn w next start ss h → rs ≡ ss
-  one_on next start g h rs ss r s = grind (arith, common_steps, one.run, whole_run, no_longer)
 
   -- ## There is one answer
 
@@ -130,7 +125,7 @@ module _ (w : Switch) where
       search (arith, rules, quiet_stop, quiet_from w.came past.0 end x.runs.all_came)
 
   one_kept : (from : Taken) (k l : Kept) → IsResumed w from k → IsResumed w from l → k ≡ l
-  one_kept from k l x y = grind (arith, common_steps, one_on)
+  one_kept from k l x y = grind (arith, common_steps, one.run, whole_run, no_longer)
 
   -- ## Where a run is over
 
@@ -189,11 +184,6 @@ module _ (w : Switch) where
         let first = on.run 0 (arriving_from w.came 0 slots) in
         search (arith, rules, arriving_length, arriving_parts w.came 0 slots slots n, first)
 
-    -- what is kept of both
-    kept_joined : (rs : List LimitedRecord) →
-        kept_on (nothing_kept w) 0 (part.records ++ rs) ≡ kept_on (kept_in at) slots rs
-    kept_joined rs = grind (arith, common_steps, run_length, arriving_length, kept_both (nothing_kept w) 0 slots)
-
     module _ (rs : List LimitedRecord) (end : Marked Fabric) (runs : RunsOn w 0 start rs end) where
       -- stopped no later than at its end
       module _ (within : slots ≤ length rs) where
@@ -202,10 +192,8 @@ module _ (w : Switch) where
             let past = goes_past 0 slots (length rs - slots) (length rs) slots start there end part.records rs
             (omega arith) (omega arith) part.runs (whole_run 0 start end rs runs) in
             let more : length (drop slots rs) ≡ length rs - slots = omega (arith, length-drop slots rs) in
-            let first : (m : ℕ) (s : Marked Fabric) → AfterFrom w slots there (drop slots rs) m s →
-            end_of w.came ≤ slots + m → IsEmptyFabric s.state → length (drop slots rs) ≤ m =
-            λ m s after came_all none. search (arith, rules, take-add slots m rs, join m) in
-            (search (arith, rules, take_all, runs.all_came), search (arith, rules, take-append-drop))
+            let sum = λ (m : ℕ). take-add slots m rs in
+            (search (arith, rules, take_all, sum, runs.all_came, join), search (arith, rules, take-append-drop))
 
       -- stopped behind its end
       module _ (behind : length rs < slots) where
@@ -234,9 +222,7 @@ module _ (w : Switch) where
             let come = none_come IsInputBest w.limits w.machines end.marks more in
             let still = run_with IsInputBest w.limits w.machines end.marks n _ _ _ _ come
             (quiet_run w.machines more n ports end.state.ranks) in
-            let from_end : RunBy Step n (arriving_from w.came n more) end quiet resting =
-            search (arith, rules, empty_is, square) in
-            grind (arith, common_steps, take-append-drop n part.records, one.run)
+            search (arith, rules, empty_is, square, take-append-drop n part.records, one.run)
 
         rests : RunsOn w slots there [] there
         rests = grind (arith, common_steps, All-replicate, over, over_at)
@@ -254,7 +240,9 @@ module _ (w : Switch) where
     pub part_resumes : (whole : Kept) → IsWhole w ranks whole → IsResumed w at whole
     part_resumes whole is =
         let goes = rest is.records is.end is.runs in
-        search (arith, rules, rests is.records is.end is.runs, goes, kept_joined, kept_over is.records is.end is.runs)
+        let joined = kept_both (nothing_kept w) 0 slots in
+        let over = kept_over is.records is.end is.runs in
+        search (arith, rules, rests is.records is.end is.runs, goes, run_length, arriving_length, joined, over)
 
     pub part_is_run : (kept whole : Kept) → IsResumed w at kept → IsWhole w ranks whole → kept ≡ whole
     part_is_run kept whole resumed is = one_kept at kept whole resumed (part_resumes whole is)
@@ -262,8 +250,7 @@ module _ (w : Switch) where
     pub part_is_whole : (kept : Kept) → IsResumed w at kept → IsWhole w ranks kept
     part_is_whole kept resumed =
         let n = length resumed.records in
-        let goes = whole_run at.frozen.next there resumed.end resumed.records resumed.runs in
-        search (arith, rules, part_is_run, join n, ends (slots + n) 0 start resumed.end)
+        search (arith, rules, whole_run, part_is_run, join n, ends (slots + n) 0 start resumed.end)
 
     -- a fault that is met later is met from there
     pub part_fault : (fault : TagFault) → IsWholeFault w ranks fault → IsResumedFault w at fault
