@@ -68,8 +68,7 @@ module _ (limits : List (Option ℕ)) (next : ℕ) (came : List Arrival) (names 
           refused' ≡ with_refused (cells_in (unnamed names (coming input 0 next came))) refused →
           marks' ≡ marks ++ m ∷ [] → Tallied (input + 1) marks' refused'
       tallied_more m marks' refused' mark counts more =
-          let mapped = map-range_with_len_more mark_at 0 input input in
-          search (arith, rules, all_counted_both, mapped, map-append, left_more input)
+          search (arith, rules, all_counted_both, map-range_with_len_more mark_at, map-append, left_more input)
 
     pub tallied_counts : (marks : List Bool) (refused : List Refused) → Tallied ports marks refused →
         refused ≡ refused_counts limits (cells_in (left_out next came names))

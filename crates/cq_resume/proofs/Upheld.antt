@@ -1,6 +1,6 @@
 -- The walks over all inputs ended with a mark: so all packets stand, and the marks and the counts are those of what is
 -- left out. Or one stopped: so a packet does not stand.
-use Rattle.cq_resume.proofs.Terms.{common_steps, rules, ◌≡◌, ℕ, ◌<◌, Bool, false, List, length, map, get_or, Option, None, Some, sym, arith, range_with_len, get_or-map, length-map, get_or-map-range_with_len, length-map-range_with_len, Arrival, Refused, latest, ArePackets, PacketsStand, TalliesUp, coming, firsts_before, has_limit, has_name, is_left_out, Name, Tally, fill_by_all}
+use Rattle.cq_resume.proofs.Terms.{common_steps, rules, ◌≡◌, ℕ, ◌<◌, Bool, false, List, length, get_or, Option, None, Some, sym, arith, get_or-map, length-map, get_or-map-range_with_len, length-map-range_with_len, Arrival, Refused, latest, ArePackets, PacketsStand, TalliesUp, coming, firsts_before, has_limit, has_name, is_left_out, Name, Tally, fill_by_all}
 use Rattle.cq_resume.proofs.Adding.{Tallied, mark_at, tallied_counts}
 use Rattle.cq_resume.proofs.Tallied.{line_ends, line_stands, LineStands, as_first, mark_is, packets_stand, whole}
 
@@ -32,10 +32,8 @@ module _ (limits : List (Option ℕ)) (next : ℕ) (came : List Arrival) (names 
     abbrev told : ℕ → Bool
     told i = is_left_out names next came (latest (firsts_before i next came))
 
-    pub all_marks : marks ≡ map told (range_with_len 0 ports)
-    all_marks = fill_by_all told marks ports false many (λ k low. search (rules, mark_is, stands, mark_there))
-
     pub tallies_up : (x : Tally) → length limits ≡ ports → x.marks ≡ marks → x.refused ≡ refused →
         TalliesUp limits next came names x
     tallies_up x as_many own_marks own_counts =
-        grind (arith, common_steps, all_marks, tallied_counts limits next came names ports are marks refused known)
+        let low = fill_by_all told marks ports false many (λ k low. search (rules, mark_is, stands, mark_there)) in
+        grind (arith, common_steps, low, tallied_counts limits next came names ports are marks refused known)
