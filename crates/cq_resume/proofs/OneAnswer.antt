@@ -48,8 +48,7 @@ module _ (w : Switch) (text : List ℕ) where
   one_refusal (refusal.Unsound j) refusal.Shape some other r s = absurd (search (rules, no_other r.state))
   one_refusal (refusal.Unsound j) (refusal.Unsound k) some other r s =
       search (arith, rules, have_one_text.one_state s.state r.state, cases_lt j k, cases_lt k j)
-  one_refusal refusal.NoMemory s some other _ _ = absurd (some refl)
-  one_refusal r refusal.NoMemory some other _ _ = absurd (other refl)
+  one_refusal r s some other _ _ = search rules
 
 pub read_exact : (w : Switch) → IsReadExact w
 read_exact w = record { one_state = one_read w; one_refusal = one_refusal w; never_refused = never_refused w }

@@ -65,8 +65,7 @@ module _ (w : Switch) (s : State) (in_range : IsInRange s) (shape : HasShape w s
 
   sent_again : map sent_as (sent_told w.came s) ≡ s.sent
   sent_again = told_again (departure_of w.came) sent_as s.sent (λ d has.
-      let some = arrives d.cell (has_right _ _ d.cell (has_image (λ (e : Sent). e.cell) s.sent d has)) in
-      grind (arith, common_steps))
+      grind (arith, common_steps, arrives d.cell, has_right, has_image (λ (e : Sent). e.cell) s.sent d))
 
   -- cells that wait stand in order of a number below that of the ports, and are told number by number
   module _ (number : Queued → ℕ) (R : Named → Named → Type 0)
@@ -77,8 +76,7 @@ module _ (w : Switch) (s : State) (in_range : IsInRange s) (shape : HasShape w s
       (named : (c : Named) → Has xs c → Has (named_in s) c) where
     again : map named_as (flat_map (λ l. l) (map told (range_with_len 0 s.head.ports))) ≡ xs
     again =
-        let all = told_again cell_of named_as xs
-        (λ c has. let some = arrives c (named c has) in grind (arith, common_steps)) in
+        let all = told_again cell_of named_as xs (search (arith, rules, arrives, named)) in
         let in_order = ordered number (filter_map cell_of xs) s.head.ports
         (pairs_looked_up cell_of R (λ q r. number q ≤ number r) no_less xs (each_pair R xs pairs))
         (search (arith, rules, all_from_has, looked_up, low)) in
