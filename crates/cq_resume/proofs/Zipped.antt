@@ -6,7 +6,7 @@
 -- are the same; and where no two are the same they do. The name of an arrival, if there is one, stands where halving
 -- finds the first that is not ahead of it. So no cell is named twice exactly where the names that were found stand
 -- strictly in order: order changes nothing of which names are the same.
-use Rattle.cq_resume.proofs.Terms.{rules, arith, ◌≡◌, ℕ, ◌+◌, ◌<◌, ◌≤◌, ◌↔◌, List, [], ◌∷◌, ◌++◌, length, get_or, map, take, refl, None, Some, Bool, common_steps, filter_map, Option, IsSome, AllByRecursion, AllPairs, AllZip, take_more, All-from_recursion, cases_Bool, lt-ltb, ltb-true, Arrival, Queued, AreGone, AreFound, IsTold, names_of, told_of, IsGone, arriving_cell, key_of, named_in, queued_of, Gone, Name, Named, State, IsOfSwitch, IsTraffic, Sent, ◌≢◌, ◌⊎◌, eqb, ltb, true, false, sym, Bor, ◌&&◌, ◌||◌, IsPermutation, Called, ComputesKey, Mut, AllAdjacentBelow, IsDistinct, list_any, IsPartitionPoint, IsPartitionedBy, IsSortedByKey, Ordering, is_lt, nat_cmp, ordering_then, and_from, and_left, and_parts, and_right, cases_eq, cases_lt, cases_order, eq-eqb, eqb-true, le-ltb, ne_eqb, or_cases, or_left, or_right, false_from_ne_true, always_returns_same, get_or_default, list_any_at, list_any_none, IsDistinct-IsPermutation, IsDistinct-from_apart, apart_from_distinct, ge_from_not_lt, IsNameBefore, IsNameNotAfter, IsPermutation-sym, AreArrivals, all_has, all_of_has, all_from_has, Has, each_pair, all_pairs, EachPair, StateRefusal, filter}
+use Rattle.cq_resume.proofs.Terms.{rules, arith, ◌≡◌, ℕ, ◌+◌, ◌<◌, ◌≤◌, ◌↔◌, List, [], ◌∷◌, ◌++◌, length, get_or, map, take, refl, None, Some, Bool, common_steps, filter_map, Option, IsSome, AllByRecursion, AllPairs, AllZip, take_more, All-from_recursion, cases_Bool, lt-ltb, ltb-true, Arrival, Queued, AreGone, AreFound, IsTold, names_of, told_of, arriving_cell, key_of, named_in, queued_of, Gone, Name, Named, State, IsOfSwitch, IsTraffic, ◌≢◌, ◌⊎◌, eqb, ltb, true, false, sym, Bor, ◌&&◌, ◌||◌, IsPermutation, Called, ComputesKey, Mut, AllAdjacentBelow, IsDistinct, list_any, IsPartitionPoint, IsPartitionedBy, IsSortedByKey, Ordering, is_lt, nat_cmp, ordering_then, and_from, and_left, and_parts, and_right, cases_eq, cases_lt, cases_order, eq-eqb, eqb-true, le-ltb, ne_eqb, or_cases, or_left, or_right, false_from_ne_true, always_returns_same, get_or_default, list_any_at, list_any_none, IsDistinct-IsPermutation, IsDistinct-from_apart, apart_from_distinct, ge_from_not_lt, IsNameBefore, IsNameNotAfter, IsPermutation-sym, AreArrivals, all_has, all_of_has, all_from_has, Has, each_pair, all_pairs, EachPair, StateRefusal, filter}
 use Rattle.cq_resume.specs.Sound.{IsOnlyFor}
 use Rattle.cq_resume.specs.declared.refusal.StateRefusal.TheVariants as refusal
 use Rattle.cq_resume.proofs.Coming.{found_at}
