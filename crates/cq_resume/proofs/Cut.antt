@@ -110,10 +110,6 @@ module _ (sent : List Departure) (ports i : ℕ) (e : Departure) (now : List Out
   abbrev here : Departure
   here = get_or sent i e
 
-  outputs_more : (x : OutputFigures) → x ≡ with_departure here.output (output_told (take i sent) here.output) here →
-      set now here.output x ≡ map (output_told (take (i + 1) sent)) (range_with_len 0 ports)
-  outputs_more x is = grind (arith, common_steps, read_on, All-from_recursion _ sent all i e inside)
-
   module _ (read : OutputFigures) (is : read ≡ get_or now here.output read) where
     there : read ≡ output_told (take i sent) here.output
     there = grind (arith, common_steps, get_or-map-range_with_len, All-from_recursion _ sent all i e inside)
@@ -124,4 +120,5 @@ module _ (sent : List Departure) (ports i : ℕ) (e : Departure) (now : List Out
 
     pub departure_counted : (x : OutputFigures) → x ≡ with_departure here.output read here →
         set now here.output x ≡ map (output_told (take (i + 1) sent)) (range_with_len 0 ports)
-    departure_counted x counted = outputs_more x (rw there at counted)
+    departure_counted x counted =
+        let is = rw there at counted in grind (arith, common_steps, read_on, All-from_recursion _ sent all i e inside)
