@@ -276,14 +276,13 @@ module _ (w : Switch) (s : State) (in_range : IsInRange s) (shape : HasShape w s
 
   output_counts : (j : ℕ) → length (filter (λ (d : Departure). d.output == j) (sent_told w.came s)) ≤ s.head.next
   output_counts j =
-      let told = kept_few (departure_of w.came) (λ (d : Departure). d.output == j) (sent_to j)
-      (λ d x is passes. grind (arith, common_steps, eqb-true, eq-eqb)) s.sent in
+      let told = kept_few (departure_of w.came) (λ (d : Departure). d.output == j) (sent_to j) in
       let timely = all_has (λ (d : Sent). (d.cell.slot ≤ d.slot) × (d.slot < s.head.next)) s.sent in
       let few = numbers_few (λ (d : Sent). d.slot) (filter (sent_to j) s.sent) s.head.next
       (pairs_kept_with (IsSentBefore w.came) (λ (d e : Sent). d.slot ≢ e.slot) (sent_to j)
       (search (arith, rules, eqb-true)) s.sent (each_pair (IsSentBefore w.came) s.sent sound.order.sent))
       (search (arith, rules, all_from_has, timely, kept_has)) in
-      omega arith
+      search (arith, rules, told, eqb-true, eq-eqb)
 
   -- ## Together
 

@@ -27,8 +27,7 @@ module _ {X : Type 0} (R : X → X → Type 0) (xs : List X) where
     neighbours_decide {r = true} answer decides = grind (arith, common_steps, next_pairs, decides, answer.each)
     neighbours_decide {r = false} answer decides =
         let failed = answer.each in
-        let inside = failed.1 in
-        let d = (one_there xs failed.0 (omega arith)).0 in
+        let d = (one_there xs failed.0 (omega (arith, failed.1))).0 in
         let told = decides _ _ false (failed.2 d) in search (arith, rules)
 
 -- ## Lanes

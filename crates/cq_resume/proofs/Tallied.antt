@@ -49,8 +49,7 @@ module _ (named : Arrival → Bool) (limited : ℕ → Bool) where
       mark_on named limited (not (named a)) line ≡ Some m → EachPair AlikeIn (a ∷ line)
   each_alike a [] m behind ends = (tt, tt)
   each_alike a (b ∷ line) m behind ends =
-      let all = all_from_has (AlikeIn a) (b ∷ line) in
-      search (arith, rules, all, behind_alike a (b ∷ line) m, one_step, each_alike b line m)
+      search (arith, rules, all_from_has (AlikeIn a), behind_alike a (b ∷ line) m, one_step, each_alike b line m)
 
   pub line_stands : (line : List Arrival) (m : Bool) → IsLine line → mark_on named limited false line ≡ Some m →
       Stand line
