@@ -231,7 +231,6 @@ module _ (w : Switch) (s : State) (f : Found) (found : IsFound w.came s f) where
         let a = entry m first in
         let b = entry n second in
         let flow = (of_one a.0 b.0 m n a.1 b.1).1 one in
-        let less = (earlier a.0 b.0 m n a.1 b.1 flow.input).1 before in
         let before_it = (same_ahead w.came s.head.next a.0 b.0 m.queued n.queued a.1 b.1).0 in
         let all_turn = all_has InTurnAll (queued_in s) a.0 keep.queued in
         let all_behind = λ (d : Sent). all_has (Behind d) (queued_in s) a.0 in
@@ -239,7 +238,7 @@ module _ (w : Switch) (s : State) (f : Found) (found : IsFound w.came s f) where
         × (OfOneFlow w.came d.cell e.cell → d.cell.slot < e.cell.slot) in
         let both = each_pair Both s.sent (λ i j d lt inside. (stand.sent i j d lt inside, keep.sent i j d lt inside)) in
         let turns = all_has (InTurn a.0) (queued_in s) in
-        search (arith, rules, pair_of_has, all_turn, all_behind, turns, all_has BehindAll s.sent)
+        search (arith, rules, earlier a.0 b.0 m n, pair_of_has, all_turn, all_behind, turns, all_has BehindAll s.sent)
 
     -- the fifth clause, by the names that were found
     pub flows_alike : KeepArrivalOrder w s ↔ FlowsStand f.names.items
@@ -401,9 +400,8 @@ module _ (t : Tables) (c : Scheduled) (s : State) (f : Found) (k : AreFoundIn t 
   -- the output and the class of each name are in range
   pub names_for : AreNamesFor t.setup f
   names_for =
-      let gone = of_images sent_name IsNameFor f.sent.items sent_for in
       let all : AllByRecursion IsNameFor (names_of f.listed.items f.buffered.items f.sent.items) =
-      search (arith, rules, all_both, of_images waiting_name IsNameFor, cells_for) in
+      search (rules, all_both, of_images waiting_name IsNameFor, of_images sent_name IsNameFor, cells_for, sent_for) in
       let names = All-permutation IsNameFor _ f.names.items k.found.same (All-from_recursion IsNameFor _ all) in
       search (arith, rules, all_weaker IsNameFor, recursion_from_All IsNameFor f.names.items)
 

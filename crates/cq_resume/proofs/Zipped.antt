@@ -237,9 +237,8 @@ module _ (came : List Arrival) (s : State) where
     pub are_arrivals : AllPairs IsNameBefore names → AreArrivals came s
     are_arrivals rising =
         let still = still_differ names told (IsPermutation-sym told names same) (rising_differ names rising) in
-        let apart = apart_from_distinct same_name told in
         let can_be = All-from_recursion (CanBe came s.head.next) (named_in s) in
-        search (arith, rules, can_be, all_from_has, zip_mate, apart_alike)
+        search (arith, rules, can_be, all_from_has, zip_mate, apart_alike, apart_from_distinct same_name told)
 
     -- and the other way
     pub arrivals_rise : AllAdjacentBelow IsNameNotAfter names (length names) → AreArrivals came s →
