@@ -4,7 +4,7 @@
 -- each step leaves: what comes is judged and ranked and arrives, the lines of the first phase are gone by, the outputs
 -- send, and the lines of the second are gone by.
 -- A replay before its first slot, and after slots in which nothing happens.
-use Rattle.cq_audit.proofs.Terms.{common_steps, rules, ◌≡◌, ℕ, ◌+◌, ◌<◌, ◌≤◌, ◌^◌, Bool, List, ◌++◌, length, map, get_or, Option, Ok, Err, sym, ap, ◌∙◌, subst, arith, append_assoc, length-append, [], replicate, length-map, length-replicate, Cell, Queued, TagFault, Transfer, RoomView, Machine, class_count, AreForOneSwitch, admitted, marked, marks_after, marks_down, count_for, ranking, admitted_arrives, admitted_for_ports, list_of, SlotRecord, fabric_admission, LimitedFabricRun, empty_limited_fabric, Arrives, transfers_in, ComeApart, FitLists, Queues, fabric_of, admits_are, admitted_room, numbers_fit, still_holds, holds_first, IsPhaseFault, in_phase, CanCome, CanReplay, IsInStep, IsSlotFault, ReplayView, SlotReplayed, shown, IsHalfPast, SlotFault, all_weaker, no_arrivals, IsStable, IsEmptyFabric, empty_fabric, quiet_limited_slots, empty_agree, fronts, ComeToPorts, LimiterView, RanksView, idled, length-told, by_marks, SendsAlike, HoldsFabric, AreRanked, BuffersHaveRoom, HaveArrived, HaveJudged, HaveMoved, HaveSent, stable_limited_too, rested_agrees, rested_limited_run, still_held}
+use Rattle.cq_audit.proofs.Terms.{common_steps, rules, ◌≡◌, ℕ, ◌+◌, ◌<◌, ◌≤◌, ◌^◌, Bool, List, ◌++◌, length, map, get_or, Option, Ok, Err, sym, ap, ◌∙◌, subst, arith, append_assoc, length-append, [], replicate, length-map, length-replicate, Cell, Queued, TagFault, Transfer, RoomView, Machine, class_count, AreForOneSwitch, admitted, marked, marks_after, marks_down, count_for, ranking, admitted_arrives, admitted_for_ports, list_of, SlotRecord, fabric_admission, LimitedFabricRun, empty_limited_fabric, Arrives, transfers_in, ComeApart, FitLists, Queues, fabric_of, admits_are, admitted_room, numbers_fit, still_holds, holds_first, IsPhaseFault, in_phase, CanCome, CanReplay, IsInStep, IsSlotFault, ReplayView, SlotReplayed, shown, IsHalfPast, SlotFault, all_weaker, no_arrivals, IsStable, IsEmptyFabric, quiet_limited_slots, empty_agree, fronts, ComeToPorts, LimiterView, RanksView, idled, length-told, by_marks, SendsAlike, HoldsFabric, AreRanked, BuffersHaveRoom, HaveArrived, HaveJudged, HaveMoved, HaveSent, stable_limited_too, rested_agrees, rested_limited_run, still_held}
 use Rattle.cq_fabric.proofs.Slot.{alike as sends_alike, arrive as slot_arrives, can_cross_first, can_cross_second, come_apart, depart as slot_departs, few_cross, fill as slot_fills, fits_lists, held_before, is_slot, recorded}
 use Rattle.cq_audit.specs.SlotSteps.{CanGoBy, CanSend, HasGoneBy, HaveAllSent, HaveCome}
 use Rattle.cq_audit.proofs.BySlot.{second_behind}
@@ -194,10 +194,6 @@ pub record AreNew (n : ℕ) (q : Queues) (l : LimiterView) : Type 0 where
   pub marks : l.marks ≡ marks_down n
 
 module _ {n : ℕ} {q : Queues} {l : LimiterView} (new : AreNew n q l) (ranks : RanksView) where
-  -- the lists and buffers of such queues are those of the empty fabric
-  first_fabric : fabric_of q ranks.states ≡ empty_fabric n ranks.states
-  first_fabric = grind (arith, common_steps)
-
   pub opening_is : {states : List (List ℕ)} → ranks.states ≡ states →
       marked l.marks (fabric_of q ranks.states) ≡ empty_limited_fabric n states
   opening_is same = grind (arith, common_steps)
@@ -205,7 +201,7 @@ module _ {n : ℕ} {q : Queues} {l : LimiterView} (new : AreNew n q l) (ranks : 
   pub in_step_first : {ms : List Machine} → AreForOneSwitch ms → length ms ≡ n → length ranks.states ≡ n →
       IsInStep ms 0 (shown ranks q l)
   in_step_first one ports long =
-      search (arith, rules, holds_first, first_fabric, empty_agree n ranks.states, length-replicate)
+      search (arith, rules, holds_first, empty_agree n ranks.states, length-replicate)
 
 -- ## After slots in which nothing happens
 

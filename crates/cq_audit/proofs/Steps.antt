@@ -172,10 +172,9 @@ module _ {M : List ℕ → Machine} {came : List Arrival} {lines : List Transfer
         let joined = all_go_on (LimitedFabricSlot IsStable first.limits (map M first.fixed))
         (IsLimitedFault first.limits (map M first.fixed)) in
         let parts = moved_parts b.records quiet_records in
-        let before = none_from (ports_in now) next rest b.in_order still.no_line in
         -- what arrives up to the slot, and then nothing, is what arrives up to the other
         let parts_are = arriving_parts came 0 slot slot (next - slot) next in
-        search (arith, rules, quiet_slots, arriving_length, take-append-le, cases_lt, none_moved_by, append-nil)
+        search (rules, none_from, quiet_slots, arriving_length, take-append-le, cases_lt, none_moved_by, append-nil)
 
     -- what was not over is not over after it
     pub not_over_past : (end_of came ≤ slot → IsEmptyFabric now.fabric.state → ⊥) → end_of came ≤ next →
