@@ -37,7 +37,7 @@ pub use Rattle.cq_laws.proofs.OneRun.{offer_of, one_arrival, one_departure, one_
 pub use Rattle.cq_laws.proofs.Parted.{reach, run_length, run_of_whole}
 pub use Rattle.cq_laws.proofs.Told.{transfers_tell}
 pub use Rattle.cq_laws.proofs.WholeRuns.{empty_agree, empty_list, empty_together}
-pub use Rattle.cq_laws.specs.Fabric.{Fabric, IsEmptyFabric, empty_fabric, input}
+pub use Rattle.cq_laws.specs.Fabric.{Fabric, IsEmptyFabric, input}
 pub use Rattle.cq_laws.specs.FabricSlot.{FabricSlot, SlotRecord}
 pub use Rattle.cq_laws.specs.LimitedFabric.{IsLimitedFault, LimitedFabricRun, LimitedFabricSlot, LimitedRecord, empty_limited_fabric, fabric_admission, slots_in}
 pub use Rattle.cq_laws.specs.{LimitedQuiet.quiet_limited_slots, SlotBySlot.AfterBy}
