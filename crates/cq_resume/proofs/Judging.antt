@@ -5,9 +5,9 @@
 -- is counted among all buffered cells; and what is named is the same. Of any two names of one flow the one that
 -- arrived first leaves first. What a sound state comes to is said of found cells too. Where a step of judging fails it
 -- names the first clause that fails, since those before it are known; and a state is sound of which all are known.
-use Rattle.cq_resume.proofs.Terms.{common_steps, Option, arith, rules, ◌≡◌, ◌<◌, ◌↔◌, ◌⊎◌, eqb, Bool, true, false, List, [], ◌∷◌, length, map, refl, ◌∙◌, ℕ, ap, All, IsPermutation, filter, AllByRecursion, AllZip, enumerate_from, range_with_len, list_any-IsPermutation, sum_by-IsPermutation, Arrival, Queued, IsTally, figures_told, frozen_told, input_told, output_told, sent_told, taken_of, AreFound, IsWholePacket, PacketsStand, TalliesUp, has_name, names_of, IsFound, AllNamed, AreWholePackets, NoneNamed, HasLimit, Switch, is_named, named_in, packet_before, buffer_told, fabric_told, Gone, Name, Tally, State, length-filter, slots_of, departed, figures_at_input, Found, Taken, Seen, ◌++◌, get_or, ◌≤◌, AllPairs, cases_order, map-append, All-permutation, IsPermutation-sym, IsBefore, FlowsStand, IsGone, IsNameBefore, IsTold, InOneFlow, Leaves, LeavesEarlier, sent_name, waiting_name, IsFoundBefore, IsListedBefore, IsNoLaterInput, IsGoneBefore, IsTimely, StandsBelow, StandBelow, AreOrdered, AreArrivals, KeepArrivalOrder, OfOneFlow, AreBelowFloors, IsBelowFloor, StandInOrder, is_ahead, queued_in, output_of, Named, Sent, All-from_recursion, Option, recursion_from_All, machines_of, None, Some, inl, inr, ◌-◌, zero, suc, take, ◌+◌, filter_map, slice_get, cases_Bool, cases_eq, cases_lt, eq-eqb, eqb-true, get_or_past, map-id, get_or-map-range_with_len, length-map-range_with_len, is_for, cushion_of, input, SlackStands, cushion_in, thread_in, HaveSlack, list_told, queued_of, length-map, Scheduled, AreCellsFor, AreNamesFor, HaveRoom, IsCellFor, IsFirstOfTwo, AreFoundIn, IsForPorts, Clause, IsFirstOf, IsFirstUnsound, IsSound, switch_of, CanTakeUp, ports_of, Tables, machine_of, IsInRange, IsNamed, below_more, below_none, all_weaker, all_both, all_front, all_back, of_images, Setup, has_at, has_there, all_of_has, all_has, has_all, has_left, has_right, has_cases, has_image, image_has, pair_of_has, Has, each_pair, all_pairs, pairs_right, pairs_cross, EachPair, pairs_of_images, most_ports, StateRefusal}
+use Rattle.cq_resume.proofs.Terms.{common_steps, Option, arith, rules, ◌≡◌, ◌<◌, ◌↔◌, ◌⊎◌, eqb, Bool, true, false, List, [], ◌∷◌, length, map, refl, ◌∙◌, ℕ, ap, All, IsPermutation, filter, AllByRecursion, AllZip, list_any-IsPermutation, sum_by-IsPermutation, Arrival, Queued, IsTally, input_told, sent_told, AreFound, IsWholePacket, PacketsStand, TalliesUp, has_name, names_of, IsFound, AllNamed, AreWholePackets, NoneNamed, HasLimit, Switch, is_named, named_in, packet_before, buffer_told, fabric_told, Gone, Name, Tally, State, length-filter, departed, figures_at_input, Found, Seen, ◌++◌, get_or, ◌≤◌, AllPairs, cases_order, map-append, All-permutation, IsPermutation-sym, IsBefore, FlowsStand, IsGone, IsNameBefore, IsTold, InOneFlow, Leaves, LeavesEarlier, sent_name, waiting_name, IsFoundBefore, IsListedBefore, IsNoLaterInput, IsGoneBefore, IsTimely, StandsBelow, StandBelow, AreOrdered, AreArrivals, KeepArrivalOrder, OfOneFlow, AreBelowFloors, IsBelowFloor, StandInOrder, is_ahead, queued_in, output_of, Named, Sent, All-from_recursion, Option, recursion_from_All, machines_of, None, Some, inl, inr, ◌-◌, zero, suc, take, ◌+◌, filter_map, slice_get, cases_Bool, cases_eq, cases_lt, eq-eqb, eqb-true, get_or_past, map-id, get_or-map-range_with_len, length-map-range_with_len, is_for, cushion_of, input, SlackStands, cushion_in, thread_in, HaveSlack, list_told, queued_of, length-map, Scheduled, AreCellsFor, AreNamesFor, HaveRoom, IsCellFor, IsFirstOfTwo, AreFoundIn, IsForPorts, Clause, IsFirstOf, IsFirstUnsound, IsSound, switch_of, CanTakeUp, ports_of, Tables, machine_of, IsInRange, IsNamed, below_more, below_none, all_weaker, all_both, all_front, all_back, of_images, Setup, has_at, has_there, all_of_has, all_has, has_all, has_left, has_right, has_cases, has_image, image_has, pair_of_has, Has, each_pair, all_pairs, pairs_right, pairs_cross, EachPair, pairs_of_images, most_ports, StateRefusal}
 use Rattle.cq_resume.proofs.Zipped.{zip_by, same_mapped, IsOf, names_zip, sifted, told_facts, zip_both, zip_has, zip_mate, pairs_alike, all_alike, each_right, one_for, Differ}
-use Rattle.cq_resume.proofs.Cut.{buffered_at, filter_both, listed_at}
+use Rattle.cq_resume.proofs.Cut.{filter_both}
 use Rattle.cq_resume.specs.Sound.{IsBufferedBefore, IsSentBefore}
 
 passed_moved : {X : Type 0} (p : X → Bool) (xs ys : List X) → IsPermutation xs ys →
@@ -18,7 +18,7 @@ passed_moved p xs ys same = grind (arith, common_steps, length-filter, sum_by-Is
 all_same : {X : Type 0} (P Q : X → Type 0) → ((x : X) → P x ↔ Q x) → (xs : List X) → All P xs ↔ AllByRecursion Q xs
 all_same P Q same xs = grind (arith, common_steps, all_weaker, recursion_from_All, All-from_recursion)
 
-mapped_alike : {X Y : Type 0} (f g : X → Y) → ((x : X) → f x ≡ g x) → (xs : List X) → map f xs ≡ map g xs
+pub mapped_alike : {X Y : Type 0} (f g : X → Y) → ((x : X) → f x ≡ g x) → (xs : List X) → map f xs ≡ map g xs
 mapped_alike {X} {Y} f g same xs = ap (λ (h : X → Y). map h xs) (λ k x. same x k)
 
 -- ## Names by input and slot
@@ -297,27 +297,12 @@ module _ (w : Switch) (s : State) (f : Found) (found : IsFound w.came s f) where
   pub sent_is : sent_told w.came s ≡ map departed f.sent.items
   sent_is = search (arith, rules, same_mapped, cases_Bool)
 
-  figures_are : (i : ℕ) (x : Seen) → figures_at_input f.names.items i x ≡ input_told s i x
+  pub figures_are : (i : ℕ) (x : Seen) → figures_at_input f.names.items i x ≡ input_told s i x
   figures_are i x =
       let passed = zip_by (IsOf w.came s.head.next) (λ (cs : List Named) (ns : List Name).
       length (filter (λ c. eqb c.input i) cs) ≡ length (filter (λ n. eqb n.queued.key.input i) ns)) refl
       (search (arith, rules)) (named_in s) _ named_zips in
       grind (arith, common_steps, passed_moved (λ (n : Name). eqb n.queued.key.input i) _ f.names.items found.same)
-
-  -- what is taken up is what the state comes to, part by part
-  pub taken_is : (x : Tally) (t : Taken) → IsTally w s x → t.frozen.next ≡ s.head.next →
-      t.frozen.figures.slots ≡ slots_of (map departed f.sent.items) →
-      t.frozen.figures.proposals ≡ s.head.proposals → t.frozen.figures.most ≡ s.head.most →
-      t.frozen.figures.inputs ≡ map (λ at. figures_at_input f.names.items at.0 at.1) (enumerate_from 0 s.inputs) →
-      t.frozen.figures.outputs ≡ map (output_told (map departed f.sent.items)) (range_with_len 0 s.head.ports) →
-      t.frozen.refused ≡ x.refused → t.frozen.marks ≡ x.marks → t.frozen.ranks ≡ s.ranks →
-      t.frozen.lists ≡ map (listed_at f.listed.items) (range_with_len 0 s.head.ports) →
-      t.frozen.buffers ≡ map (buffered_at f.buffered.items) (range_with_len 0 s.head.ports) →
-      t.sent ≡ map departed f.sent.items → t.note ≡ s.moved → t ≡ taken_of w s
-  unfolding frozen_told figures_told fabric_told
-  taken_is x t tally next slots proposals most inputs outputs refused marks ranks lists buffers sent note =
-      let inputs_are = mapped_alike _ _ (λ (at : ℕ × Seen). figures_are at.0 at.1) (enumerate_from 0 s.inputs) in
-      search (arith, rules, sent_is, mapped_alike, list_is, buffer_is)
 
 -- ## The inputs that are named
 
