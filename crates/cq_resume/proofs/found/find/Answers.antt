@@ -6,8 +6,7 @@ use Rattle.cq_resume.proofs.found.find.Goals.{In_ok-names}
 -- what was found of each item of the same lists is its own
 zip_same : {A B : Type 0} (R S : A → B → Type 0) (xs xs' : List A) (ys ys' : List B) →
     ((x : A) (y : B) → R x y → S x y) → xs ≡ xs' → ys' ≡ ys → AllZip R xs ys → AllZip S xs' ys'
-zip_same R S xs xs' ys ys' give own is all = rw (own, ← is) at (zip_by R (λ xs ys. AllZip S xs ys) tt
-    (λ x y xs ys here zips rest. (give x y here, rest)) xs ys all)
+zip_same R S xs xs' ys ys' give own is all = rw (own, ← is) at (zip_by R (AllZip S) tt (search (rules, give)) xs ys all)
 
 -- what was looked up, where no name is missed
 zips : (c : In_ok-names) → AllZip (IsOf c.args.schedule.now.came c.args.state.now.head.next) (named_in c.args.state.now)

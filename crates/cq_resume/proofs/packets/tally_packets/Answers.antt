@@ -10,10 +10,6 @@ inputs-init c = rw (c.new-marks.ensures.items, c.in_ok-refused.ensures) (tallied
 
 pub walk-requires-clause-room : goal.walk-requires-clause-room
 walk-requires-clause-room c =
-    let inside = c.inputs-test.true in
-    let many = c.requires.limits in
-    let few = c.total-total.ensures.few in
-    let size = c.total-total.ensures.cells in
     search (arith, rules, tally_fits _ _ _ _ _ c.requires.packets _ _ _ c.inputs.invariant)
 
 pub inputs-preserved : goal.inputs-preserved
