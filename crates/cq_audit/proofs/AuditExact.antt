@@ -1,5 +1,5 @@
 -- A log has one verdict: it cannot be read, or what was read is that of a stable run or has one fault first.
-use Rattle.cq_audit.proofs.Terms.{common_steps, ◌≡◌, ◌≢◌, ℕ, ◌⊎◌, List, length, Option, sym, ap, ◌∙◌, inl, inr, arith, Arrival, Setup, machines_of, IsAuditExact, IsNo, IsReadNo, IsYes, opening_fabric, IsLogExact, IsLogFault, AuditRefusal, Line, NoMemory}
+use Rattle.cq_audit.proofs.Terms.{common_steps, rules, ◌≡◌, ◌≢◌, ℕ, ◌⊎◌, List, length, Option, sym, ap, ◌∙◌, inl, inr, arith, Arrival, Setup, machines_of, IsAuditExact, IsNo, IsReadNo, IsYes, opening_fabric, IsLogExact, IsLogFault, AuditRefusal, Line, NoMemory}
 use Rattle.cq_audit.proofs.LogLines.{log_is_exact}
 use Rattle.cq_audit.proofs.WholeFollowing.{no_no, one_no_of}
 
@@ -30,8 +30,5 @@ module _ (setup : Setup) (limits : List (Option ℕ)) (came : List Arrival) (log
       no_no limits (machines_of setup) came (opening_fabric setup) a.note r same a.wrong
 
 pub audit_is_exact : (setup : Setup) (limits : List (Option ℕ)) (came : List Arrival) → IsAuditExact setup limits came
-audit_is_exact setup limits came = record {
-  one_no = λ log r s some other x y. one_no setup limits came log r s (wrong setup limits came log r some x)
-      (wrong setup limits came log s other y);
-  never_both = λ log r some y x. never_both setup limits came log r y (wrong setup limits came log r some x);
-}
+audit_is_exact setup limits came =
+    search (rules, one_no setup limits came, never_both setup limits came, wrong setup limits came)
