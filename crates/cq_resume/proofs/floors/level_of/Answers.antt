@@ -1,4 +1,4 @@
-use Rattle.cq_resume.proofs.Terms.{◌≡◌, ℕ, List, [], slice_index_or, refl, sym, ap, ◌∙◌, get_or-map, Machine, first_come, machine_of, ClassRow, Kind, Fair, FirstCome, Priority, row_at}
+use Rattle.cq_resume.proofs.Terms.{arith, rules, ◌≡◌, ℕ, List, slice_index_or, refl, get_or-map, machine_of, ClassRow, Kind, Fair, FirstCome, Priority, row_at}
 use Rattle.cq_resume.proofs.floors.level_of.Goals as goal
 
 -- every discipline takes the level of a class from its row
@@ -11,8 +11,5 @@ level_is Fair rows class = refl
 pub returns : goal.returns
 returns c output inside =
     let rows = c.args.setup.now.classes in
-    let kinds = c.args.setup.now.kinds in
-    ap (λ (l : List ClassRow). (row_at l c.args.class).level) c.as_slice.ensures
-    ∙ sym (level_is (slice_index_or kinds output FirstCome) rows c.args.class)
-    ∙ sym (ap (λ (m : Machine). m.level c.args.class)
-    (get_or-map (λ (kind : Kind). machine_of kind rows) kinds output FirstCome (first_come []) inside))
+    let there = get_or-map (λ (kind : Kind). machine_of kind rows) c.args.setup.now.kinds output in
+    search (arith, rules, level_is (slice_index_or c.args.setup.now.kinds output FirstCome) rows, there)

@@ -1,20 +1,8 @@
 -- What each step asks follows from the range and the shape of the state, and of cells that were found. What a step that
 -- fails says of the clauses, and that a state is sound that passes all, is in the lemmas.
-use Rattle.cq_resume.proofs.Terms.{arith, rules, err_from_is_err_and, PacketsStand, AreOrdered, HaveRoom}
+use Rattle.cq_resume.proofs.Terms.{arith, rules, err_from_is_err_and}
 use Rattle.cq_resume.proofs.Judging.{can_take_up, cells_for, few_ports, names_for, outputs_low, ports_are, tally_from, is_sound, leave_refused, packets_refused, stand_refused}
 use Rattle.cq_resume.proofs.sound.judge_found.Goals as goal
-use Rattle.cq_resume.proofs.sound.judge_found.Goals.{In-Some, In_ok-judge_places}
-
--- ## What is known, step by step
-
-stands : (c : In_ok-judge_places) →
-    AreOrdered c.args.found.now c.args.state.now.head.next c.args.state.now.moved × HaveRoom c.args.found.now
-stands c = c.in_ok-judge_places.ensures.stand
-
-packets_stand : (c : In-Some) →
-    PacketsStand c.args.tables.now.limits c.args.state.now.head.next c.args.schedule.now.came
-    c.args.found.now.names.items
-packets_stand c = search (arith, rules)
 
 -- ## What they ask
 
@@ -35,20 +23,20 @@ returns-in_err-judge_places-clause-refused c =
     search (arith, rules, err_from_is_err_and, stand_refused, c.requires.known)
 
 pub returns-in_default-clause-refused : goal.returns-in_default-clause-refused
-returns-in_default-clause-refused c = search (arith, rules, packets_refused, c.requires.known, stands)
+returns-in_default-clause-refused c = search (arith, rules, packets_refused, c.requires.known)
 
 pub returns-in_err-judge_ranks-clause-refused : goal.returns-in_err-judge_ranks-clause-refused
 returns-in_err-judge_ranks-clause-refused c =
-    search (arith, rules, err_from_is_err_and, leave_refused, c.requires.known, stands, packets_stand)
+    search (arith, rules, err_from_is_err_and, leave_refused, c.requires.known)
 
 -- ## What is found
 
 pub returns-clause-ready : goal.returns-clause-ready
-returns-clause-ready c = search (arith, rules, can_take_up, c.requires.known, stands)
+returns-clause-ready c = search (arith, rules, can_take_up, c.requires.known)
 
 pub returns-clause-tally : goal.returns-clause-tally
 returns-clause-tally c = tally_from _ _ _ _ c.requires.known c.in-Some.tally
     (rw (c.in-Some.is, c.deref.ensures.value, c.as_slice.ensures) at c.in_ok-tally.ensures.tally)
 
 pub returns-clause-sound : goal.returns-clause-sound
-returns-clause-sound c = search (arith, rules, is_sound, c.requires.known, stands, packets_stand)
+returns-clause-sound c = search (arith, rules, is_sound, c.requires.known)
