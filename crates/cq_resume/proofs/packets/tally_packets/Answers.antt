@@ -14,10 +14,6 @@ walk-requires-clause-room c =
 
 pub inputs-preserved : goal.inputs-preserved
 inputs-preserved c =
-    let inside = c.inputs-test.true in
-    let many = c.requires.limits in
-    let few = c.total-total.ensures.few in
-    let size = c.total-total.ensures.cells in
     let left = cells_in (unnamed c.args.names.now (coming c.inputs.input 0 c.args.next c.args.schedule.now.came)) in
     let counted = rw c.deref_mut.ensures.value at c.in-Some.ensures.refused in
     let same = ap (λ (l : List Refused). length l) counted in
