@@ -9,7 +9,7 @@ pub use Rattle.cq_route.specs.declared.tables.Tables.{Tables}
 pub use Rattle.cq_cells.proofs.Ranges.{flat_same, range_more, set_one}
 pub use Rattle.cq_cells.specs.Scheduled.{Scheduled}
 pub use Rattle.cq_cells.specs.Traffic.{IsInRange as IsOfSwitch, IsTraffic, is_from, is_to, number_of}
-pub use Rattle.cq_rank.specs.Machine.{Machine, first_come, machine_at}
+pub use Rattle.cq_rank.specs.Machine.{Machine, machine_at}
 pub use Rattle.cq_ideal.proofs.Counting.{all_counted_both, counts_fit, counts_left, fewer_left, none_counted, zero_fits}
 pub use Rattle.cq_ideal.specs.{Ending.slots_of, declared.refused.Refused.Refused}
 unfoldable pub use Rattle.cq_ideal.specs.Ending.{arriving_from}
@@ -19,7 +19,7 @@ pub use Rattle.cq_state.specs.State.{IsInRange, IsNamed}
 pub use Rattle.cq_state.specs.{declared.state.Named.Named, declared.state.Seen.Seen, declared.state.Sent.Sent, declared.state.State.State}
 pub use Rattle.cq_laws.specs.Fabric.{Fabric, IsEmptyFabric, IsFabric, ListsKeepOrder, buffer, cushion_of, empty_fabric, input}
 pub use Rattle.cq_laws.specs.Frozen.{AreCountsOf, AreOwn, HasPorts, IsSoundFabric, fabric_in, marked_in}
-pub use Rattle.cq_resume.specs.Counted.{IsTally, departure_of, input_told, latest, output_told, sent_told, taken_of}
+pub use Rattle.cq_resume.specs.Counted.{IsTally, departure_of, input_told, latest, output_told, sent_told}
 unfoldable pub use Rattle.cq_resume.specs.Counted.{figures_told, frozen_told}
 pub use Rattle.cq_resume.specs.Finding.{AreFound, AreGone, ArePackets, ComeBehind, ComesNext, FlowsStand, InOneFlow, IsBufferedBefore, IsBufferedBefore as IsFoundBefore, IsFound, IsGone, IsLine, IsListedBefore, IsNameBefore, IsNameNotAfter, IsNoLaterInput, IsSentBefore, IsSentBefore as IsGoneBefore, IsTimely, IsTold, IsWholePacket, Leaves, LeavesEarlier, PacketsStand, SlackStands, StandsBelow, TalliesUp, begins_at, coming, cushion_in, firsts_before, has_limit, has_name, is_left_out, left_out, mark_on, may_come, names_of, sent_name, thread_in, told_of, unnamed, waiting_name}
 pub use Rattle.cq_resume.specs.Sound.{AllNamed, AreArrivals, AreBelowFloors, AreWholePackets, Clause, HaveSlack, IsBelowFloor, IsFirstOf, IsFirstUnsound, IsForPorts, IsSound, KeepArrivalOrder, NoneNamed, OfOneFlow, StandInOrder}
