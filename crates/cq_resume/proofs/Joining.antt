@@ -105,9 +105,8 @@ module _ (w : Switch) where
 
   one_fault : (from : Taken) (u v : TagFault) → IsResumedFault w from u → IsResumedFault w from v → u ≡ v
   one_fault from u v x y =
-      let all = x.count + y.count in
-      let first = stops_later from.frozen.next x.count all in
-      search (arith, rules, first, stops_later from.frozen.next y.count all, one.stop)
+      let n = x.count + y.count in
+      search (arith, rules, stops_later from.frozen.next x.count n, stops_later from.frozen.next y.count n, one.stop)
 
   -- where nothing comes no rank is a tag fault
   quiet_stop : (count slot : ℕ) (f : Marked Fabric) (rs : List LimitedRecord) (fault : TagFault) →
@@ -118,11 +117,9 @@ module _ (w : Switch) where
 
   never_both : (from : Taken) (k : Kept) (fault : TagFault) → IsResumed w from k → IsResumedFault w from fault → ⊥
   never_both from k fault x y =
-      let n = length x.records in
-      let end = from.frozen.next + n in
-      let past = stops_past from.frozen.next n y.count end (marked_in from.frozen) x.end x.records y.records fault refl
-      (whole_run from.frozen.next (marked_in from.frozen) x.end x.records x.runs) y.stops in
-      search (arith, rules, quiet_stop, quiet_from w.came past.0 end x.runs.all_came)
+      let past = stops_past from.frozen.next (length x.records) y.count _ _ x.end x.records y.records fault refl
+      (whole_run from.frozen.next _ x.end x.records x.runs) y.stops in
+      search (arith, rules, quiet_stop, quiet_from w.came past.0 _ x.runs.all_came)
 
   one_kept : (from : Taken) (k l : Kept) → IsResumed w from k → IsResumed w from l → k ≡ l
   one_kept from k l x y = grind (arith, common_steps, one.run, whole_run, no_longer)
@@ -218,11 +215,10 @@ module _ (w : Switch) where
             let n = length rs in
             let past = goes_past 0 n more slots n start end there rs part.records (omega arith) (omega arith)
             (whole_run 0 start end rs runs) part.runs in
-            let none = quiet_from w.came more n (omega arith) in
             let come = none_come IsInputBest w.limits w.machines end.marks more in
             let still = run_with IsInputBest w.limits w.machines end.marks n _ _ _ _ come
             (quiet_run w.machines more n ports end.state.ranks) in
-            search (arith, rules, empty_is, square, take-append-drop n part.records, one.run)
+            search (arith, rules, quiet_from, empty_is, square, take-append-drop n part.records, one.run)
 
         rests : RunsOn w slots there [] there
         rests = grind (arith, common_steps, All-replicate, over, over_at)
@@ -241,8 +237,7 @@ module _ (w : Switch) where
     part_resumes whole is =
         let goes = rest is.records is.end is.runs in
         let joined = kept_both (nothing_kept w) 0 slots in
-        let over = kept_over is.records is.end is.runs in
-        search (arith, rules, rests is.records is.end is.runs, goes, run_length, arriving_length, joined, over)
+        search (arith, rules, rests is.records is.end is.runs, goes, run_length, arriving_length, joined, kept_over)
 
     pub part_is_run : (kept whole : Kept) → IsResumed w at kept → IsWhole w ranks whole → kept ≡ whole
     part_is_run kept whole resumed is = one_kept at kept whole resumed (part_resumes whole is)

@@ -42,7 +42,6 @@ module _ (w : Switch) (text : List ℕ) where
   one_refusal (refusal.Text m) refusal.Shape some other r s = absurd (no_fault s.state m s.in_range s.spelled r)
   one_refusal (refusal.Text m) (refusal.Unsound k) some other r s = absurd (no_fault s.state m s.in_range s.spelled r)
   one_refusal refusal.Shape (refusal.Text n) some other r s = absurd (no_fault r.state n r.in_range r.spelled s)
-  one_refusal refusal.Shape refusal.Shape some other r s = refl
   one_refusal refusal.Shape (refusal.Unsound k) some other r s = absurd (search (rules, no_other s.state))
   one_refusal (refusal.Unsound j) (refusal.Text n) some other r s = absurd (no_fault r.state n r.in_range r.spelled s)
   one_refusal (refusal.Unsound j) refusal.Shape some other r s = absurd (search (rules, no_other r.state))
