@@ -173,8 +173,7 @@ module _ (w : Switch) (s : State) (in_range : IsInRange s) (shape : HasShape w s
     pub here : q.cell.output ≡ j
 
   pub in_list : (i : ℕ) (q : Queued) → Has (input f i) q → InList i q
-  in_list i q = of_list (λ (l : List Queued). Has l q → InList i q) absurd i
-      (λ has. search (arith, rules, looked_up, kept_has, eqb-true))
+  in_list i q = of_list (λ l. Has l q → InList i q) absurd i (search (arith, rules, looked_up, kept_has, eqb-true))
 
   pub in_buffer : (j : ℕ) (q : Queued) → Has (buffer f j) q → InBuffer j q
   in_buffer j q = of_buffer (λ (l : List Queued). Has l q → InBuffer j q) (λ none. absurd none) j

@@ -145,9 +145,8 @@ module _ (w : Switch) (s : State) (f : Found) (found : IsFound w.came s f) where
   module _ (setup : Setup) (own : w.machines ≡ machines_of setup) where
     pub floors_alike : AreBelowFloors w s ↔ StandBelow setup s.ranks f
     floors_alike =
-        let both = all_alike Told (IsBelowFloor w s) (StandsBelow setup s.ranks)
-        (λ c q is. grind (arith, common_steps, told_facts)) (queued_in s) waiting zips in
-        search (arith, rules, recursion_from_All, All-from_recursion, all_both, all_front, all_back)
+        let both = all_alike Told (IsBelowFloor w s) (StandsBelow setup s.ranks) in
+        search (rules, both, told_facts, zips, recursion_from_All, All-from_recursion, all_both, all_front, all_back)
 
   -- ## Flows
 
@@ -187,8 +186,7 @@ module _ (w : Switch) (s : State) (f : Found) (found : IsFound w.came s f) where
   leave : FlowsHold f.names.items → (c d : Named) (o p : Option ℕ) → IsEntry c o → IsEntry d p → OfOneFlow w.came c d →
       c.slot < d.slot → (q : Queued) × (r : Queued) × Told c q × Told d r × Leaves q r o p
   leave hold c d o p first second one less =
-      let m = mate c o first in
-      let n = mate d p second in search (arith, rules, hold m.0 n.0, earlier c d m.0 n.0, of_one c d m.0 n.0)
+      search (arith, rules, mate c o, mate d p, hold, earlier c d, of_one c d)
 
   abbrev Behind : Sent → Named → Type 0
   Behind d c = OfOneFlow w.came d.cell c → d.cell.slot < c.slot
