@@ -46,9 +46,7 @@ module _ (ports : ℕ) where
       IfSome last (λ u. AllByRecursion (IsTransferBefore u) note) →
       (end : Option Transfer) × Leads (Comes ports) last note end
   leads_written last [] are first = (last, refl)
-  leads_written last (t ∷ note) are first =
-      let rest = leads_written (Some t) note (record { pairs = are.pairs.1; all = are.all.1 }) are.pairs.0 in
-      search (arith, rules)
+  leads_written last (t ∷ note) are first = search (arith, rules, leads_written (Some t) note)
 
   -- what is noted of an input
   record IsLineOf (slot phase i : ℕ) (t : Transfer) : Type 0 where
@@ -102,8 +100,7 @@ module _ (limits : List (Option ℕ)) (ms : List Machine) (ports : ℕ) (few : p
       let one = slot_written ports ms slot r.admission.cells f.state run.0.state r.of_slot few (omega arith)
       (rw step.admits (λ i cell at. come.0 i cell (admitted_arrives _ cells i cell at))) step.runs all in
       let rest = run_written (slot + 1) traffic run.0 g rs (omega arith) come.1 one.1 run.2 in
-      let here = slot_at IsStable ms slot r.admission.cells f.state run.0.state r.of_slot step.runs in
-      search (arith, rules, run_later, pairs_joined, all_both, all_of_has)
+      search (arith, rules, run_later, pairs_joined, all_both, all_of_has, slot_at IsStable ms)
   run_written slot _ f g _ long come all run = absurd run
 
 -- ## The cells that come

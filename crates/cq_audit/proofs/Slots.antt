@@ -120,9 +120,7 @@ module _ {M : List ℕ → Machine} {slot : ℕ} {cells : List (Option Cell)} {l
     moved1 = search (arith, rules)
 
     pub can_send : CanSend ranks1 q2 judged
-    can_send =
-        let before = held_before ranked arrived room moved1 (holds M ranks0 q0 l known.can.come) judges in
-        search (arith, rules, first_long, length-map, before)
+    can_send = search (arith, rules, first_long, length-map, held_before ranked arrived room)
 
     module _ {ranks2 : RanksView} {q3 : Queues} {after : LimiterView}
         (sent : HaveAllSent (map M ranks1.fixed) ranks1 ranks2 q2 q3 judged after) where

@@ -71,8 +71,7 @@ module _ (limits : List (Option ℕ)) (ms : List Machine) (came : List Arrival) 
             let here = (same_limited_fault limits ms slot (arriving came slot) f beside.after fault agree_now).1 is in
             let parts = limited_parts limits ms 0 slot (first_slots came slot) (arriving came slot ∷ []) in
             let stops = run_fault limits ms slot (arriving came slot) [] beside.after fault here in
-            let later = limited_whole_fault limits ms ports ranks came (slot + 1) in
-            search (arith, rules, later, first_more came slot, arriving_length, parts)
+            search (arith, rules, first_more came slot, arriving_length, parts, limited_whole_fault limits)
 
         -- the ranks of what is admitted in the next slot fit
         pub ranks_fit : IsOk (whole_limited_run limits ms came (empty_limited ports ranks)) →

@@ -134,9 +134,7 @@ module _ (ws : List Waiting) (lines : List Transfer) (n : ℕ) (d : Transfer) (m
   wrong_at why = wrong_line (cells_of ws) lines (take n lines) (drop (n + 1) lines) line m parts rise had (rw list why)
 
   pub can_join : IsFreeOutput m line.output → CanBeJoined m line.input line.output
-  can_join free =
-      let apart = both_sides line (drop (n + 1) lines) (take n lines) (rw parts at rise) in
-      grind (arith, common_steps, free_before, long, own)
+  can_join free = grind (arith, common_steps, free_before, long, own, both_sides line (drop (n + 1) lines))
 
   pub right_at : first_id line.output w.cells ≡ Some line.id → IsFreeOutput m line.output →
       ToldBy (cells_of ws) (take (n + 1) lines) (with_pair m line.input line.output)
