@@ -16,7 +16,7 @@ use Rattle.cq_resume.specs.Resumed.{AfterFrom, IsOneResumed, IsResumed, IsResume
 ruleset kept = (map-append, length-map, departures_on, append_assoc, transfers_both, flat_map-append, all_counted_both)
 
 -- records behind others are kept behind what these left
-kept_both : (k : Kept) (first next : ℕ) (rs ss : List LimitedRecord) → first + length rs ≡ next →
+pub kept_both : (k : Kept) (first next : ℕ) (rs ss : List LimitedRecord) → first + length rs ≡ next →
     kept_on k first (rs ++ ss) ≡ kept_on (kept_on k first rs) next ss
 kept_both k first next rs ss long = grind (arith, common_steps, kept)
 
@@ -28,7 +28,7 @@ module _ (ms : List Machine) (n : ℕ) (marks : List Bool) where
   quiet_records (suc count) slot ranks = search (rules, quiet_records count (slot + 1) (idled ms n ranks))
 
   -- they add nothing
-  kept_quiet : (k : Kept) (count slot : ℕ) (ranks : List (List ℕ)) →
+  pub kept_quiet : (k : Kept) (count slot : ℕ) (ranks : List (List ℕ)) →
       kept_on k slot (quiet_limited_slots ms count slot n ranks marks) ≡ k
   kept_quiet k count slot ranks =
       let nothing = adds_nothing ms n count slot ranks in
