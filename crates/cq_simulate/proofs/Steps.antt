@@ -1,5 +1,5 @@
 -- What each step of the loop over the slots asks for, where so many slots are left as are not yet over.
-use Rattle.cq_simulate.proofs.Terms.{common_steps, rules, ◌≡◌, ◌↔◌, ℕ, suc, ◌+◌, ◌-◌, ◌<◌, ◌≤◌, ◌^◌, Bool, true, false, List, [], ◌++◌, length, map, replicate, Option, Result, Ok, Err, refl, sym, ap, arith, zero, None, ◌∷◌, IsTrue, All, IfOk, slice_index_or, cases_lt, IfOk-weaker, Cell, Departure, Queued, TagFault, no_arrivals, Arrival, arriving, end_of, enough, traffic_of, RoomView, Machine, Marked, nothing_refused, admission, admitted, refused, IdealSwitch, HasRoomFor, HaveLeft, marked_state, count_for, IdealState, departures_in, ideal_slot, departures_limited, LimitedSent, limited_run, limited_slot, ideal_admission, with_admission, CanCount, IsReady, waiting, counted, arriving_from, none_waits, nothing_left, all_slots, arrivals_for, for_here, from_here, some_one, come_for, come_for-traffic_of, IsQuiet, come_count, arriving_parts, departures_of, no_departures, quiet_slots, length-replicate, append-nil, length-append, get_or-replicate, number_of, is_to, refused_counts, with_refused, counts_fit, zero_fits, present, come_count-traffic_of, none_after, run_fault, run_step, counts_more, each_once, waiting-empty, CanHaveSlot, HasHadSlot, IsSameSwitch, arriving_length, first_slots, departures_append, first_more, LimitedRan, marked}
+use Rattle.cq_simulate.proofs.Terms.{common_steps, rules, ◌≡◌, ◌↔◌, ℕ, suc, ◌+◌, ◌-◌, ◌<◌, ◌≤◌, ◌^◌, Bool, true, false, List, [], ◌++◌, length, map, replicate, Option, Result, Ok, Err, refl, sym, ap, arith, zero, None, ◌∷◌, IsTrue, All, slice_index_or, cases_lt, Cell, Departure, Queued, TagFault, no_arrivals, Arrival, arriving, end_of, enough, traffic_of, RoomView, Machine, Marked, nothing_refused, admission, admitted, refused, IdealSwitch, HasRoomFor, HaveLeft, marked_state, count_for, IdealState, departures_in, ideal_slot, departures_limited, LimitedSent, limited_run, limited_slot, ideal_admission, with_admission, CanCount, IsReady, waiting, counted, arriving_from, none_waits, nothing_left, all_slots, arrivals_for, for_here, from_here, some_one, come_for, come_for-traffic_of, IsQuiet, come_count, arriving_parts, departures_of, no_departures, quiet_slots, length-replicate, append-nil, length-append, get_or-replicate, number_of, is_to, counts_fit, zero_fits, present, come_count-traffic_of, none_after, run_fault, run_step, each_once, waiting-empty, CanHaveSlot, HasHadSlot, IsSameSwitch, arriving_length, first_slots, departures_append, first_more, LimitedRan, marked, fewer_left, come_from}
 use Rattle.cq_ideal.specs.Ideal.{answer_to, its_slot}
 use Rattle.cq_ideal.specs.IdealSlot.{Sent}
 use Rattle.cq_ideal.proofs.Waiting.{Counted}
@@ -62,14 +62,12 @@ pub record Running (ms : List Machine) (came : List Arrival) (first : IdealSwitc
   pub is : limited_run first.limits ms 0 (first_slots came slot) (marked_state first) ≡ Ok ran
   pub after : ran.after ≡ marked_state now
   pub departed : sent.items ≡ departures_of 0 ran.gone
-  pub lost : List Cell
-  pub refused : now.refused ≡ refused_counts first.limits lost
   pub ports : length now.state.lists ≡ length first.fixed
   pub each : (j : ℕ) → j < length first.fixed →
       length (slice_index_or now.state.lists j []) + come_for j (arriving_from came slot n) ≤ number_of (is_to j) came
   pub spare : waiting now.state.lists + come_count (arriving_from came slot n) + length first.fixed ≤ sent.spare
   pub few : waiting now.state.lists + come_count (arriving_from came slot n) + (end_of came - slot) ≤ n
-  pub many : length lost + come_count (arriving_from came slot n) ≤ length came
+  pub counts : CanCount (length first.fixed + come_count (arriving_from came slot n)) now.refused
 
 pub enough_are : (came : List Arrival) → enough came ≡ end_of came + length came
 unfolding enough
@@ -83,6 +81,7 @@ running_first ms came first sent n ready all_left =
     let none = waiting-empty (length first.fixed) in
     let begun : limited_run first.limits ms 0 (first_slots came 0) (marked_state first)
     ≡ Ok (record { admissions = []; gone = []; after = marked_state first }) = refl in
+    let counts = zero_fits (length first.fixed + come_count (arriving_from came 0 n)) first.limits in
     search (arith, rules, all_slots, come_for-traffic_of, enough_are, length-replicate, get_or-replicate)
 
 pub come_here : (came : List Arrival) (slot n : ℕ) →
@@ -106,57 +105,15 @@ module _ {ms : List Machine} {came : List Arrival} {first : IdealSwitch} {first_
 
   -- ## The end of the loop
 
-  pub running_over : end_of came ≤ slot → waiting now.state.lists ≡ 0 →
+  pub at_end : (end_of came ≤ slot) × All (λ cells. cells ≡ []) now.state.lists →
       departures_limited (limited_run first.limits ms 0 (traffic_of came) (marked_state first)) ≡ Ok sent.items
   unfolding traffic_of arriving_from
-  running_over le none =
-      let rest = limited_stays_empty first.limits ms came n slot (marked_state now) le none in
+  at_end over =
+      let none = none_waits now.state.lists over.1 in
+      let rest = limited_stays_empty first.limits ms came n slot (marked_state now) over.0 none in
       let all = arriving_parts came 0 slot slot n (enough came) (omega arith) (sym r.left) in
       let sent_all = departures_append 0 slot r.ran.gone rest.ran.gone (omega arith) in
       cc (run_behind _ (traffic_of came) all, append-nil sent.items)
-
--- what is left is no more than the slots that are left after one of them, in which a cell leaves where one waits
-pub fewer_left : (before after here rest end slot n : ℕ) → after ≤ before + here - 1 →
-    before + (here + rest) + (end - slot) ≤ suc n → (end ≤ slot → here ≡ 0) → (end ≤ slot + 1 → rest ≡ 0) →
-    after + rest + (end - (slot + 1)) ≤ n
-fewer_left before after here rest end slot n less few none over = grind (arith, common_steps, over, cases_lt)
-
--- what the numbers of a slot follow from
-pub ruleset numbers =
-    (for_here, from_here, some_one, waiting, come_count, present, fewer_left, none_after, none_come, length-append)
-
-module _ {ms : List Machine} {came : List Arrival} {first : IdealSwitch} {first_sent sent : RoomView Departure}
-    {slot n : ℕ} {now : IdealSwitch} (r : Running ms came first first_sent slot (suc n) now sent) where
-  room_left : (cells : List (Option Cell)) → cells ≡ arriving came slot → HasRoomFor cells now
-  room_left cells are j inside = grind (arith, common_steps, for_here j came slot n)
-
-  pub running_next : {after : IdealSwitch} {sent_new : RoomView Departure} {of_slot : LimitedSent} →
-      limited_slot first.limits ms slot (arriving came slot) (marked_state now) ≡ Ok of_slot →
-      marked_state after ≡ of_slot.after → after.refused ≡ with_refused of_slot.admission.refused now.refused →
-      HaveLeft slot of_slot.gone sent sent_new → after.stopped ≡ false → after.next ≡ slot + 1 →
-      IsSameSwitch now after → Running ms came first first_sent (slot + 1) n after sent_new
-  unfolding limited_run departures_of
-  running_next {after} {sent_new} {of_slot} is state refused left running next same =
-      let o = of_admitted first.limits ms slot (arriving came slot) (marked_state now) of_slot is in
-      let waits = ap (λ (m : Marked IdealState). waiting m.state.lists) state in
-      let come = come_here came slot n in
-      let cells = arriving came slot in
-      let all = r.ran.admissions ++ of_slot.admission ∷ [] in
-      let gone = r.ran.gone ++ of_slot.gone ∷ [] in
-      let ran : LimitedRan = record { admissions = all; gone = gone; after = of_slot.after } in
-      let run = run_behind r (cells ∷ []) (first_slots came (slot + 1)) (sym (first_more came slot)) in
-      let step = run_step first.limits ms slot cells [] (marked_state now) of_slot is in
-      let ran_on : limited_run first.limits ms 0 (first_slots came (slot + 1)) (marked_state first) ≡ Ok ran = cc in
-      let gone_on = departures_append 0 slot r.ran.gone (of_slot.gone ∷ []) (omega arith) in
-      search (arith, rules, numbers, append-nil, r.each, o.each, o.counts.each, r.few, counts_more first.limits r.lost)
-
-  pub running_fault : (fault : TagFault) →
-      limited_slot first.limits ms slot (arriving came slot) (marked_state now) ≡ Err fault →
-      departures_limited (limited_run first.limits ms 0 (traffic_of came) (marked_state first)) ≡ Err fault
-  unfolding traffic_of arriving_from
-  running_fault fault is =
-      let all = arriving_parts came 0 slot slot (suc n) (enough came) (omega arith) (sym r.left) in
-      search (arith, rules, run_behind r (arriving came slot ∷ arriving_from came (slot + 1) n), run_fault)
 
 -- What a slot sent stands in a list of its own, in which nothing stood before, until the departures of the run take it
 -- over. So what holds of that list holds of the departures of the run.
@@ -186,34 +143,37 @@ module _ {slot ports : ℕ} {gone : List (Option Queued)} {leaving left : RoomVi
 -- before the first of them is known after the last: none sends a cell, nothing is refused, and the lists stay as they
 -- are.
 
--- ## The ideal switch
+-- fewer come in some slots than in those with the stretch before them: in all, for an output, and at an input
+pub record ComeFewer (came : List Arrival) (slot m next n : ℕ) : Type 0 where
+  pub all : come_count (arriving_from came next n) ≤ come_count (arriving_from came slot m)
+  pub to : (j : ℕ) → come_for j (arriving_from came next n) ≤ come_for j (arriving_from came slot m)
+  pub from : (i : ℕ) → come_from i came next n ≤ come_from i came slot m
 
--- fewer come in some slots than in those with the stretch before them
-pub fewer_come : (count : ℕ → ℕ → ℕ) → ((slot n : ℕ) → count (slot + 1) n ≤ count slot (suc n)) →
-    (slot k n later m : ℕ) → later ≡ slot + k → m ≡ k + n → count later n ≤ count slot m
-fewer_come count less slot zero n later m e f = grind (arith, common_steps)
-fewer_come count less slot (suc k) n later m e f =
-    grind (arith, common_steps, fewer_come count less (slot + 1) k n later (k + n))
+pub fewer_come : (came : List Arrival) (slot k n next m : ℕ) → next ≡ slot + k → m ≡ k + n →
+    ComeFewer came slot m next n
+fewer_come came slot zero n next m e f = grind (arith, common_steps)
+fewer_come came slot (suc k) n next m e f =
+    let rest = fewer_come came (slot + 1) k n next (k + n) (omega arith) refl in
+    let one_more : m ≡ suc (k + n) = omega arith in
+    let come = come_here came slot (k + n) in
+    let to = λ (j : ℕ). for_here j came slot (k + n) in
+    let from = λ (i : ℕ). from_here i came slot (k + n) in rw one_more (search (arith, rules, rest.to, rest.from))
 
 -- the slots of the stretch send nothing
-nothing_departs : (k slot ports : ℕ) → departures_of slot (replicate k (replicate ports None)) ≡ []
+none_departs : (ports n slot : ℕ) → departures_of slot (replicate n (replicate ports None)) ≡ []
 unfolding departures_of departures_in
-nothing_departs zero slot ports = refl
-nothing_departs (suc k) slot ports = simp (no_departures, nothing_departs k (slot + 1) ports)
+none_departs ports zero slot = refl
+none_departs ports (suc n) slot = simp (no_departures, none_departs ports n (slot + 1))
 
 module _ (M : List ℕ → Machine) {came : List Arrival} {first : IdealSwitch} {first_sent sent : RoomView Departure}
     {slot m next : ℕ} {now new : IdealSwitch} (r : Running (map M first.fixed) came first first_sent slot m now sent)
     (quiet : IsQuiet came slot next) (rested : HasRested (map M now.fixed) slot next now new) where
-  pub running_rest : (n : ℕ) → next + n ≡ enough came →
-      Running (map M first.fixed) came first first_sent next n new sent
+  running_rest : (n : ℕ) → next + n ≡ enough came → Running (map M first.fixed) came first first_sent next n new sent
   running_rest n left =
       let k = next - slot in
       let gone = replicate k (replicate (length now.fixed) None) in
       let waits = ap waiting rested.lists in
-      let fewer = fewer_come (λ t l. come_count (arriving_from came t l)) (λ t l. omega (arith, come_here came t l))
-      slot k n next m (omega arith) (omega arith) in
-      let less = λ (j : ℕ). fewer_come (λ t l. come_for j (arriving_from came t l))
-      (λ t l. omega (arith, for_here j came t l)) slot k n next m (omega arith) (omega arith) in
+      let fewer = fewer_come came slot k n next m (omega arith) (omega arith) in
       let none = quiet_slots came slot k (λ t from to. quiet.none t from (omega arith)) in
       let all = rw none at (arriving_parts came 0 slot slot k next (omega arith) (omega arith)) in
       let admissions = r.ran.admissions ++ replicate k (nothing_refused new.marks no_arrivals) in
@@ -221,8 +181,20 @@ module _ (M : List ℕ → Machine) {came : List Arrival} {first : IdealSwitch} 
       let on : limited_run first.limits (map M first.fixed) 0 (first_slots came next) (marked_state first) ≡ Ok ran =
       search (arith, rules, run_behind r (replicate k no_arrivals) (first_slots came next)) in
       let sent_all = departures_append 0 slot r.ran.gone gone (omega arith) in
-      let nothing = nothing_departs k slot (length now.fixed) in
-      search (arith, rules, append-nil, r.each, less, quiet.more, cases_lt slot next, length-append, length-replicate)
+      let nothing = none_departs (length now.fixed) k slot in
+      let to_count = length first.fixed + come_count (arriving_from came next n) in
+      let counts = fewer_left to_count _ now.refused r.counts (omega arith) in
+      let cut = cases_lt slot next in
+      search (arith, rules, append-nil, r.each, fewer.to, quiet.more, cut, length-append, length-replicate)
+
+  -- where a cell is to come or waits, the run stands at a slot that is to be run
+  pub stands : (end_of came ≤ slot → All (λ cells. cells ≡ []) now.state.lists → ⊥) →
+      Running (map M first.fixed) came first first_sent next (suc (enough came - (next + 1))) new sent
+  stands more =
+      let before = cases_lt slot (enough came) in
+      let some : next < enough came =
+      search (arith, rules, more, quiet.more, enough_are, before, cases_lt slot next, nothing_left) in
+      running_rest (suc (enough came - (next + 1))) (omega arith)
 
 -- ## The test
 
@@ -232,7 +204,7 @@ goes_on b end slot Empty going iff le none = let over : b ≡ true = iff.1 (le, 
 
 -- ## The steps
 
-slot_ok : (x : Result LimitedSent TagFault) → Ok tt ≡ answer_to x → (sent : LimitedSent) × (x ≡ Ok sent)
+pub slot_ok : (x : Result LimitedSent TagFault) → Ok tt ≡ answer_to x → (sent : LimitedSent) × (x ≡ Ok sent)
 slot_ok fault e = grind (arith, common_steps)
 
 pub slot_err : {S : Type 0} (x : Result S TagFault) (fault : TagFault) → Err fault ≡ answer_to x → x ≡ Err fault
@@ -241,52 +213,36 @@ slot_err x fault e = grind (arith, common_steps)
 -- what the switch says of a slot that it has had
 pub record HasHad (ms : List Machine) (slot : ℕ) (cells : List (Option Cell)) (old new : IdealSwitch)
     (sent sent_new : RoomView Departure) : Type 0 where
-  pub answer : Ok tt ≡ answer_to (its_slot ms slot cells old)
-  pub done : IfOk (its_slot ms slot cells old) (λ of_slot. HasHadSlot slot of_slot old new sent sent_new)
+  pub of_slot : LimitedSent
+  pub is : its_slot ms slot cells old ≡ Ok of_slot
+  pub done : HasHadSlot slot of_slot old new sent sent_new
   pub running : new.stopped ≡ false
   pub same : IsSameSwitch old new
 
--- what left in a slot stands in a list of its own, and is taken over from there
-module _ {ms : List Machine} {slot ports : ℕ} {cells : List (Option Cell)} {old new : IdealSwitch}
-    {leaving left : RoomView Departure} (free : IsFree ports leaving) (had : HasHad ms slot cells old new leaving left)
-  where
-    pub left_here : (s : LimitedSent) × HaveLeft slot s.gone leaving left
-    left_here = grind (arith, common_steps, slot_ok)
+-- what is left is no more than the slots that are left after one of them, in which a cell leaves where one waits
+pub fewer_after : (before after here rest end slot n : ℕ) → after ≤ before + here - 1 →
+    before + (here + rest) + (end - slot) ≤ suc n → (end ≤ slot → here ≡ 0) → (end ≤ slot + 1 → rest ≡ 0) →
+    after + rest + (end - (slot + 1)) ≤ n
+fewer_after before after here rest end slot n less few none over =
+    grind (arith, common_steps, over, cases_lt)
 
-    pub handed : {sent sent_new : RoomView Departure} → sent_new.items ≡ sent.items ++ left.items →
-        sent_new.spare + length left.items ≡ sent.spare → HasHad ms slot cells old new sent sent_new
-    handed {sent} {sent_new} items spare = grind (arith, common_steps, IfOk-weaker, left_with_all)
+-- what the numbers of a slot follow from
+pub ruleset numbers =
+    (for_here, from_here, some_one, waiting, come_count, present, fewer_after, none_after, none_come, length-append)
 
--- The run stands at this slot, which is to be run: a cell is to come, or one waits.
-pub record Standing (M : List ℕ → Machine) (came : List Arrival) (first : IdealSwitch)
-    (first_sent : RoomView Departure) (slot : ℕ) (now : IdealSwitch) (sent : RoomView Departure) : Type 0 where
-  pub runs : Running (map M first.fixed) came first first_sent slot (enough came - slot) now sent
-  pub more : end_of came ≤ slot → All (λ cells. cells ≡ []) now.state.lists → ⊥
-
-module _ {M : List ℕ → Machine} {came : List Arrival} {first : IdealSwitch} {first_sent sent : RoomView Departure}
-    {slot : ℕ} {now : IdealSwitch} (here : Standing M came first first_sent slot now sent) where
-  pub a_slot_left : slot < enough came
-  a_slot_left = search (arith, rules, here.more, cases_lt slot (enough came), nothing_left)
-
-  r_next : Running (map M first.fixed) came first first_sent slot (suc (enough came - (slot + 1))) now sent
-  r_next = search (arith, rules, Running, a_slot_left)
-
-  early : slot < 2 ^ 64 - 1
-  early = let l = a_slot_left in let short : enough came ≤ 2 ^ 63 + 2 ^ 35 = here.runs.ready.short in omega arith
-
-  -- no count of refused cells and packets is near its type's end
-  room_to_count : CanCount (length now.fixed) now.refused
-  room_to_count =
-      let short : enough came ≤ 2 ^ 63 + 2 ^ 35 = here.runs.ready.short in
-      let lost = here.runs.lost in
-      let fits = counts_fit lost (length first.fixed) (length lost) (refused_counts first.limits []) in
-      let none = zero_fits (length first.fixed + length lost) first.limits in
-      search (arith, rules, fits, none, enough_are, counts_more first.limits [] lost)
+-- the run stands at this slot, which is to be run
+module _ (M : List ℕ → Machine) {came : List Arrival} {first : IdealSwitch} {first_sent sent : RoomView Departure}
+    {slot n : ℕ} {now : IdealSwitch} (r : Running (map M first.fixed) came first first_sent slot (suc n) now sent) where
+  room_left : (cells : List (Option Cell)) → cells ≡ arriving came slot → HasRoomFor cells now
+  room_left cells are j inside = grind (arith, common_steps, for_here j came slot n)
 
   -- the slot finds all that it asks for, with a free list for what is sent
   pub can_have : {cells : List (Option Cell)} {leaving : RoomView Departure} → cells ≡ arriving came slot →
       IsFree (length first.fixed) leaving → CanHaveSlot (map M now.fixed) slot cells now leaving
-  can_have {cells} are free = search (arith, rules, early, room_left r_next, room_to_count, arrivals_for)
+  can_have {cells} are free =
+      let short : enough came ≤ 2 ^ 63 + 2 ^ 35 = r.ready.short in
+      let counts = fewer_left (length first.fixed) _ now.refused r.counts (omega arith) in
+      search (arith, rules, room_left, arrivals_for)
 
   -- and the departures of the run can take over what leaves there
   pub can_take_over : {cells : List (Option Cell)} {after : IdealSwitch} {leaving left : RoomView Departure} →
@@ -294,29 +250,41 @@ module _ {M : List ℕ → Machine} {came : List Arrival} {first : IdealSwitch} 
       length left.items ≤ sent.spare
   can_take_over free had = search (arith, rules, few_left)
 
-  pub at_next : (cells : List (Option Cell)) (after : IdealSwitch) (sent_new : RoomView Departure) →
-      cells ≡ arriving came slot → HasHad (map M now.fixed) slot cells now after sent sent_new →
-      Running (map M first.fixed) came first first_sent (slot + 1) (enough came - (slot + 1)) after sent_new
-  at_next cells after sent_new are had = grind (arith, common_steps, slot_ok, running_next, r_next)
+  pub at_next : {cells : List (Option Cell)} {after : IdealSwitch} {leaving left sent_new : RoomView Departure} →
+      cells ≡ arriving came slot → IsFree (length first.fixed) leaving →
+      HasHad (map M now.fixed) slot cells now after leaving left → sent_new.items ≡ sent.items ++ left.items →
+      sent_new.spare + length left.items ≡ sent.spare →
+      Running (map M first.fixed) came first first_sent (slot + 1) n after sent_new
+  unfolding limited_run departures_of
+  at_next {cells} {after} {leaving} {left} {sent_new} are free had items spare =
+      let ms = map M first.fixed in
+      let here = arriving came slot in
+      let same : map M now.fixed ≡ ms = ap (map M) r.same.fixed in
+      let of_slot = had.of_slot in
+      let is : limited_slot first.limits ms slot here (marked_state now) ≡ Ok of_slot =
+      rw (are, same, r.same.limits) at had.is in
+      let put = left_with_all free had.done.sent {sent = sent} {sent_new = sent_new} items spare in
+      let o = of_admitted first.limits ms slot here (marked_state now) of_slot is in
+      let waits = ap (λ (m : Marked IdealState). waiting m.state.lists) had.done.state in
+      let come = come_here came slot n in
+      let all = r.ran.admissions ++ of_slot.admission ∷ [] in
+      let gone = r.ran.gone ++ of_slot.gone ∷ [] in
+      let ran : LimitedRan = record { admissions = all; gone = gone; after = of_slot.after } in
+      let run = run_behind r (here ∷ []) (first_slots came (slot + 1)) (sym (first_more came slot)) in
+      let step = run_step first.limits ms slot here [] (marked_state now) of_slot is in
+      let ran_on : limited_run first.limits ms 0 (first_slots came (slot + 1)) (marked_state first) ≡ Ok ran = cc in
+      let gone_on = departures_append 0 slot r.ran.gone (of_slot.gone ∷ []) (omega arith) in
+      let lost = of_slot.admission.refused in
+      let left_to_count = length first.fixed + come_count (arriving_from came (slot + 1) n) in
+      let all_fit = fewer_left (left_to_count + length lost) _ now.refused r.counts (omega arith) in
+      let counts = counts_fit lost left_to_count (length lost) now.refused all_fit (omega arith) in
+      search (arith, rules, numbers, append-nil, r.each, o.each, o.counts.each, r.few)
 
   pub at_fault : (cells : List (Option Cell)) (fault : TagFault) → cells ≡ arriving came slot →
       Err fault ≡ answer_to (its_slot (map M now.fixed) slot cells now) →
       departures_limited (limited_run first.limits (map M first.fixed) 0 (traffic_of came) (marked_state first))
       ≡ Err fault
-  at_fault cells fault are answer = search (arith, rules, running_fault r_next fault, slot_err)
-
-module _ (M : List ℕ → Machine) {came : List Arrival} {first : IdealSwitch} {first_sent sent : RoomView Departure}
-    {slot n : ℕ} {now : IdealSwitch} (r : Running (map M first.fixed) came first first_sent slot n now sent) where
-  -- a stretch is skipped
-  pub stands : {next : ℕ} {new : IdealSwitch} → IsQuiet came slot next →
-      HasRested (map M now.fixed) slot next now new →
-      (end_of came ≤ slot → All (λ cells. cells ≡ []) now.state.lists → ⊥) →
-      Standing M came first first_sent next new sent
-  stands {next} {new} quiet rested more =
-      let rest = running_rest M r quiet rested (enough came - next) in
-      search (arith, rules, rest, enough_are, cases_lt, quiet.more)
-
-  pub at_end : (end_of came ≤ slot) × All (λ cells. cells ≡ []) now.state.lists →
-      departures_limited (limited_run first.limits (map M first.fixed) 0 (traffic_of came) (marked_state first))
-      ≡ Ok sent.items
-  at_end over = search (rules, running_over, none_waits)
+  unfolding traffic_of arriving_from
+  at_fault cells fault are answer =
+      let all = arriving_parts came 0 slot slot (suc n) (enough came) (omega arith) (sym r.left) in
+      search (arith, rules, run_behind r (arriving came slot ∷ arriving_from came (slot + 1) n), run_fault, slot_err)

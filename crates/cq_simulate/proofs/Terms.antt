@@ -21,7 +21,7 @@ pub use Rattle.cq_rank.specs.Switch.{class_count}
 pub use Rattle.cq_scfq.specs.Discipline.{machine_from}
 pub use Rattle.cq_scfq.specs.Disciplines.{machine_of, machines_of, openings_of}
 pub use Rattle.cq_ideal.proofs.AtInput.{come_in_order, comes_at_input}
-pub use Rattle.cq_ideal.proofs.Counting.{all_counted_both, counts_fit, none_counted, zero_fits}
+pub use Rattle.cq_ideal.proofs.Counting.{all_counted_both, counts_fit, fewer_left, none_counted, zero_fits}
 pub use Rattle.cq_ideal.proofs.Ends.{all_slots, none_waits, nothing_left}
 pub use Rattle.cq_ideal.proofs.FlowCount.{come_count-first, come_count-traffic_of, none_after}
 pub use Rattle.cq_ideal.proofs.FlowFound.{all_found, all_present, arriving_is}
@@ -80,11 +80,11 @@ pub use Rattle.cq_laws.specs.LimitedFabric.{IsLimitedFault, LimitedFabricRun, Li
 pub use Rattle.cq_laws.specs.Measures.{no_figures, sends}
 unfoldable pub use Rattle.cq_laws.specs.Measures.{figures_after, figures_of, output_after, proposals_in}
 unfoldable pub use Rattle.cq_laws.specs.Records.{transfers_in, transfers_of_run}
-pub use Rattle.cq_resume.proofs.Cut.{filter_both}
+pub use Rattle.cq_resume.proofs.{Cut.filter_both, Joining.kept_both, Joining.kept_quiet}
 pub use Rattle.cq_resume.proofs.GoesOn.{GoesOn, buffer_is, came_before, comes, found_at, goes_on, in_buffer, in_list, in_order, is_cell_of, its_output, its_slot, list_is, of_traffic, ports_are, queued_differ, queued_named, some_cell}
 pub use Rattle.cq_resume.specs.Counted.{departure_of, firsts_at, is_refused, latest, marks_told, sent_told, taken_of}
 unfoldable pub use Rattle.cq_resume.specs.Counted.{figures_told, frozen_told}
-pub use Rattle.cq_resume.specs.Resumed.{IsResumed, Kept, RunsOn}
+pub use Rattle.cq_resume.specs.Resumed.{IsResumed, Kept, RunsOn, kept_on}
 pub use Rattle.cq_resume.specs.Sound.{AllNamed, AreWholePackets, IsBelowFloor, IsSentBefore, IsSound, NoneNamed, OfOneFlow}
 pub use Rattle.cq_resume.specs.Switch.{HasLimit, HasShape, Switch, switch_of}
 pub use Rattle.cq_resume.specs.Told.{arriving_cell, class_of, is_ahead, is_named, key_of, named_in, output_of, packet_before, queued_in, queued_of}
@@ -98,7 +98,7 @@ pub use Rattle.cq_traffic.proofs.Quiet.{arrives_before, before_both, none_up_to,
 pub use Rattle.cq_traffic.proofs.ToOutputs.{come_for-traffic_of, for_here, no_more_to}
 unfoldable pub use Rattle.cq_traffic.proofs.ToOutputs.{come_for}
 pub use Rattle.cq_simulate.specs.FabricRuns.{AlwaysHasSlack, AreChosen, AreInputBest, AreStable, IsFabricRun, IsKeptOf, SendsSlotBySlot, departures_in_run, refused_in_run, unpacked_run}
-pub use Rattle.cq_simulate.specs.GoingOn.{HasKept, HasPartedTo, HasRunOn, IsReadyOn, IsRefusalOn, RanTo, StopsWithin, WentOn, to_come}
+pub use Rattle.cq_simulate.specs.GoingOn.{HasKept, HasPartedTo, HasRunOn, IsReadyOn, IsRefusalOn, RanTo, StopsWithin, WentOn, kept_with, to_come}
 unfoldable pub use Rattle.cq_simulate.specs.GoingOn.{fabric_listed}
 pub use Rattle.cq_simulate.specs.IdealRuns.{IsRefusalOf, counts_limited, slots_ran}
 unfoldable pub use Rattle.cq_simulate.specs.IdealRuns.{ideal_departures, ideal_refusals, ran_ideal}
@@ -125,6 +125,6 @@ pub use Rattle.cq_state.specs.declared.state.Named.{Named}
 pub use Rattle.cq_prefs.specs.Orders.{Orders}
 pub use Rattle.cq_prefs.proofs.{InputOrder.OutputsInRange, InputOrder.are_offers, Places.outputs_at_most}
 pub use Rattle.cq_laws.specs.{Frozen.fabric_in, Frozen.marked_in, Frozen.IsSoundFabric, LimitedQuiet.quiet_limited_slots, LimitedQuiet.quiet_limited_slot, Phases.Transfers, Phases.came_to, Phases.list_arrived, Places.HasFor, declared.frozen.Frozen.Frozen}
-pub use Rattle.cq_laws.proofs.{ActingAlike.best_act_alike_from_empty, ActingAlike.best_act_alike, AddingUp.figures_fold, Came.came_from, EndsTogether.slots_of_figures, Held.hold_as_many, Held.nothing_for, Joined.all_go_on, KeptParts.departures_one, KeptParts.transfers_both, KeptParts.transfers_one, KeptParts.departures_on, Members.first_at, Parted.run_of_whole}
+pub use Rattle.cq_laws.proofs.{ActingAlike.best_act_alike_from_empty, ActingAlike.best_act_alike, AddingUp.figures_fold, Came.came_from, EndsTogether.slots_of_figures, Held.hold_as_many, Held.nothing_for, Joined.all_go_on, KeptParts.departures_one, KeptParts.transfers_both, KeptParts.transfers_one, KeptParts.departures_on, Members.first_at, Parted.run_length, Parted.run_of_whole}
 pub use Rattle.cq_resume.specs.Parts.{IsParted}
 pub use Rattle.cq_engine.proofs.{Kept.limited_lists_kept, Kept.limited_outputs_kept}

@@ -1,6 +1,6 @@
 -- Only proofs use this. A fabric that can go on from any slot over the cells that are still to come, and what its run
 -- leaves: up to its end, up to a slot, or up to a tag fault.
-use Rattle.std.specs.Prelude.{◌≡◌, ℕ, ◌+◌, ◌*◌, ◌<◌, ◌≤◌, ◌^◌, ◌++◌, nat_le, All, List, filter, false, fold, length, map, slice_index, sum, take, ⊤}
+use Rattle.std.specs.Prelude.{◌≡◌, ℕ, ◌+◌, ◌*◌, ◌<◌, ◌≤◌, ◌^◌, nat_le, All, List, filter, false, length, map, slice_index, sum, take, ⊤}
 use Rattle.std.specs.List.{range_with_len}
 use Rattle.cq_base.specs.Arrivals.{no_arrivals}
 use Rattle.cq_base.specs.Arriving.{Arrival, arriving, end_of}
@@ -13,17 +13,14 @@ use Rattle.cq_cells.specs.Traffic.{IsShort, IsTraffic, is_from, is_to, number_of
 use Rattle.cq_engine.specs.Engine.{EngineView, marked_fabric, ports_of}
 use Rattle.cq_ideal.specs.Admission.{Marked}
 use Rattle.cq_ideal.specs.Ending.{arriving_from}
-use Rattle.cq_laws.specs.Measures.{figures_after}
-use Rattle.cq_laws.specs.Records.{gone_in, transfers_of_run}
 use Rattle.cq_laws.specs.Fabric.{Fabric, IsEmptyFabric, input}
 use Rattle.cq_laws.specs.Frozen.{IsSoundFabric}
 use Rattle.cq_laws.specs.Holding.{fabric_held, held_for}
-use Rattle.cq_laws.specs.LimitedFabric.{LimitedFabricRun, LimitedFabricStops, LimitedRecord, admissions_in, slots_in}
-use Rattle.cq_ideal.specs.IdealRun.{departures_of}
-use Rattle.cq_ideal.specs.Refused.{refused_in, with_refused}
+use Rattle.cq_laws.specs.LimitedFabric.{LimitedFabricRun, LimitedFabricStops, LimitedRecord}
 use Rattle.cq_prefs.specs.Pairing.{IsInputBest}
 use Rattle.cq_rank.specs.Machine.{Machine}
 use Rattle.cq_rank.specs.Switch.{class_count}
+use Rattle.cq_resume.specs.Resumed.{Kept, kept_on}
 use Rattle.cq_simulate.specs.declared.fabric_run.PackedFabricRun.{PackedFabricRun}
 use Rattle.cq_simulate.specs.declared.refusal.RunRefusal.{RunRefusal}
 use Rattle.cq_simulate.specs.declared.refusal.RunRefusal.TheVariants as refusal
@@ -70,16 +67,18 @@ RanTo ms came first m rs f =
     LimitedFabricRun IsInputBest first.limits ms first.next (arriving_from came first.next m) (marked_fabric first)
     (take m rs) f
 
+-- what an engine has kept so far, with these lists of departures and transfers
+abbrev pub kept_with : EngineView → RoomView Departure → RoomView Transfer → Kept
+kept_with e sent note =
+    record { sent = sent.items; note = note.items; figures = e.figures; refused = e.refused }
+
 -- in these records the engine went on from the first state to the last, and what it sent, moved, counted and refused
 -- was kept
 pub record WentOn (ms : List Machine) (came : List Arrival) (old new : EngineView) (sent sent' : RoomView Departure)
     (note note' : RoomView Transfer) (records : List LimitedRecord) : Type 0 where
   pub runs : LimitedFabricRun IsInputBest old.limits ms old.next (arriving_from came old.next (length records))
       (marked_fabric old) records (marked_fabric new)
-  pub departed : sent'.items ≡ sent.items ++ departures_of old.next (gone_in (slots_in records))
-  pub crossed : note'.items ≡ note.items ++ transfers_of_run (slots_in records)
-  pub counted : new.figures ≡ fold figures_after old.figures (slots_in records)
-  pub refused : new.refused ≡ with_refused (refused_in (admissions_in records)) old.refused
+  pub kept : kept_with new sent' note' ≡ kept_on (kept_with old sent note) old.next records
   pub limits : new.limits ≡ old.limits
   pub running : new.stopped ≡ false
 

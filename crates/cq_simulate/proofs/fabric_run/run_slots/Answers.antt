@@ -1,4 +1,4 @@
-use Rattle.cq_simulate.proofs.Terms.{ap, is_err, ◌+◌, ◌-◌, true, zero, ◌∙◌, arith, rules, ◌<◌, sym, err_from_is_err_and, end_of, IsEmptyFabric, quiet_of}
+use Rattle.cq_simulate.proofs.Terms.{ap, is_err, ◌+◌, ◌-◌, true, zero, ◌∙◌, arith, rules, sym, err_from_is_err_and, end_of, IsEmptyFabric, quiet_of}
 use Rattle.cq_simulate.proofs.FabricSteps.{over_by, Stands, can_run_here, can_take_over, crossing_first, crossing_over, fault_here, left_here, next_here, places_here, quiet_if, run_stands}
 use Rattle.cq_simulate.proofs.Steps.{enough_are, free_again, goes_on, left_with_all}
 use Rattle.cq_simulate.proofs.fabric_run.run_slots.Given as given
@@ -10,8 +10,9 @@ use Rattle.cq_simulate.proofs.fabric_run.run_slots.Goals.{After-arrivals}
 -- once quiet slots are skipped, the run stands at a slot that it has to run
 stands : (g : given.Over) (c : After-arrivals g) →
     Stands true (over_by c.args.schedule.now.came c.args.engine.now.next) g.R.Rank.machine c.args.schedule.now.came
-    c.args.engine.now c.args.sent.now c.args.note.now c.skip-slot.result c.skip-slot.new.engine c.slots.sent
-    c.slots.note
+    c.args.engine.now c.args.sent.now c.args.note.now c.skip-slot.result
+    (over_by c.args.schedule.now.came c.args.engine.now.next - (c.skip-slot.result + 1)) c.skip-slot.new.engine
+    c.slots.sent c.slots.note
 stands g c = run_stands g.R.Rank.machine c.slots.invariant.runs (goes_on c.is_over.result
     (end_of c.args.schedule.now.came) c.slots.slot (IsEmptyFabric c.slots.engine.fabric) c.slots-test.true
     c.is_over.ensures) (quiet_if c.skip-slot.ensures.late (λ lt.
@@ -32,22 +33,16 @@ slot-requires g c =
 pub returns-in_err-slot-clause-refused : goal.returns-in_err-slot-clause-refused
 returns-in_err-slot-clause-refused g c =
     let here = stands g (goal.at.returns-in_err-slot-clause-refused g c).After-arrivals in
-    let p = err_from_is_err_and c.from_residual-in_err-slot.result c.from_residual-in_err-slot.ensures.1 in
     let count = c.skip-slot.result + 1 - c.args.engine.now.next in
-    rw (p.1, p.2) (record {
-      count = count;
-      stops = fault_here here c.arrivals.result.now c.in_err-slot.field-0.0 zero count (omega arith)
-          (c.arrivals.ensures ∙ c.skip-slot.ensures.came) (sym c.in_err-slot.was ∙ c.slot.ensures.answer);
-    })
+    let stops = fault_here here c.arrivals.result.now c.in_err-slot.field-0.0 zero count in
+    search (arith, rules, stops, err_from_is_err_and)
 
 pub overflow_add-slot : goal.overflow_add-slot
 overflow_add-slot g c = let here = stands g (goal.at.overflow_add-slot g c).After-arrivals in omega arith
 
 pub slots-smaller : goal.slots-smaller
 slots-smaller g c =
-    let some : c.skip-slot.result < over_by c.args.schedule.now.came c.args.engine.now.next =
-    (stands g (goal.at.slots-smaller g c).After-arrivals).some in
-    omega arith
+    let left = (stands g (goal.at.slots-smaller g c).After-arrivals).crossing.left in omega arith
 
 pub take_all-requires : goal.take_all-requires
 take_all-requires g c = search (arith, rules, can_take_over, stands)
@@ -56,8 +51,8 @@ pub slots-preserved : goal.slots-preserved
 slots-preserved g c =
     let done = c.in_ok-slot.ensures.slot in
     record {
-      runs = next_here (stands g (goal.at.slots-preserved g c).After-arrivals) c.arrivals.result.now c.slot.new.self
-          c.take_all.new.self c.slot.new.note (c.arrivals.ensures ∙ c.skip-slot.ensures.came) (record {
+      runs = next_here (stands g (goal.at.slots-preserved g c).After-arrivals) (c.arrivals.ensures
+          ∙ c.skip-slot.ensures.came) (record {
             done = done;
             put =
                 left_with_all c.slots.invariant.free (left_here done) c.take_all.ensures.items

@@ -9,7 +9,8 @@ use Rattle.cq_simulate.proofs.parted_run.run_before.Goals.{After-arrivals-arriva
 -- once slots in which nothing comes are skipped, the run stands at a slot before the last
 stands : (g : given.Over) (c : After-arrivals-arrivals g) →
     Stands false c.args.last g.R.Rank.machine c.args.schedule.now.came c.args.engine.now c.args.sent.now
-    c.args.note.now c.skip-slot.result c.skip-slot.new.engine c.slots.sent c.slots.note
+    c.args.note.now c.skip-slot.result (c.args.last - (c.skip-slot.result + 1)) c.skip-slot.new.engine c.slots.sent
+    c.slots.note
 stands g c = search (arith, rules, part_stands, part_rests, c.skip-slot.ensures.told, c.skip-slot.ensures.idle)
 
 -- ## The loop
@@ -39,7 +40,6 @@ pub slots-preserved : goal.slots-preserved
 slots-preserved g c =
     record {
       crossing = next_here (stands g (goal.at.slots-preserved g c).After-arrivals-arrivals)
-          c.arrivals-arrivals.result.now c.slot.new.self c.slot.new.sent c.slot.new.note
           (c.arrivals-arrivals.ensures ∙ c.skip-slot.ensures.came) (record {
             done = c.in_ok-slot.ensures.slot;
             put = left_here c.in_ok-slot.ensures.slot;

@@ -6,7 +6,7 @@ abbrev pub invariant-slots : goal.invariant-slots
 invariant-slots g l =
     record {
       crossing : Crossing false (map g.R.Rank.machine l.initial.engine.fixed) l.schedule.came l.initial.engine
-          l.initial.sent l.initial.note l.slot (l.last - l.slot) l.engine l.sent l.note;
+          l.initial.sent l.initial.note l.last l.slot (l.last - l.slot) l.engine l.sent l.note;
       before : l.slot ≤ l.last;
     }
 
