@@ -68,9 +68,19 @@ module _ {t : Tables} {s : Scheduled} {first : EngineView} {sent : RoomView Depa
       s.came stop.count fault (search (arith, rules, slots_fit)))
   no_run refusal.NoMemory stop = tt
 
--- What a run of a fabric that is made for tables says of the tables. A run that goes on from where a run was taken up:
--- what it kept, or the tag fault at which it stops. And a run up to a slot: the state in which it stands still, with
--- what was kept, or the tag fault at which it stops.
+  -- of a run up to a slot: the state in which it stands still, with what was kept
+  pub parted_of : {slots : ℕ} {last : EngineView} {sent_new : RoomView Departure} {note_new : RoomView Transfer}
+      {frozen : Frozen} →
+      HasPartedTo (map machine_from first.fixed) s.came slots first last sent sent_new note note_new →
+      frozen ≡ frozen_of last →
+      IsParted (switch_of t s) (openings_of t.setup) slots
+      (record { frozen = frozen; sent = sent_new.items; note = note_new.items })
+  parted_of has is =
+      let all = rw made.fresh.fresh at has in
+      let runs = rw made.fresh.machines at all.went.runs in
+      rw is (search (arith, rules, machines_many))
+
+-- What a run says that goes on from where a run was taken up: what it kept, or the tag fault at which it stops.
 
 module _ (t : Tables) (s : Scheduled) (first : EngineView) (taken : Taken)
     (is : GoesOnFrom t s.came taken.frozen first) where
@@ -85,16 +95,3 @@ module _ (t : Tables) (s : Scheduled) (first : EngineView) (taken : Taken)
       IsResumeFault (switch_of t s) taken why
   resumed_fault (refusal.Tag fault) stop = grind (arith, common_steps)
   resumed_fault refusal.NoMemory stop = tt
-
-module _ (t : Tables) (s : Scheduled) {first : EngineView} {first_sent : RoomView Departure}
-    {first_note : RoomView Transfer} (made : IsMade t s first first_sent first_note) where
-  pub parted_of : (slots : ℕ) (last : EngineView) (sent : RoomView Departure) (note : RoomView Transfer)
-      (frozen : Frozen) →
-      HasPartedTo (map machine_from first.fixed) s.came slots first last first_sent sent first_note note →
-      frozen ≡ frozen_of last →
-      IsParted (switch_of t s) (openings_of t.setup) slots
-      (record { frozen = frozen; sent = sent.items; note = note.items })
-  parted_of slots last sent note frozen has is =
-      let all = rw made.fresh.fresh at has in
-      let runs = rw made.fresh.machines at all.went.runs in
-      rw is (search (arith, rules, machines_many))

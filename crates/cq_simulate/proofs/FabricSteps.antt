@@ -56,8 +56,8 @@ few_come s n came =
 abbrev pub over_by : List Arrival → ℕ → ℕ
 over_by came next = next + (end_of came - next) + length came
 
--- what is known before a slot of a run that could begin, where so many slots are left, and these are no late ones. Of
--- a run to its end (`whole`) that are enough slots, and it was not over before.
+-- what is known before a slot of a run that could begin, where so many slots are left up to this end, and these are no
+-- late ones. Of a run to its end (`whole`) that are enough slots, and it was not over before.
 pub record Crossing (whole : Bool) (ms : List Machine) (came : List Arrival) (first : EngineView)
     (first_sent : RoomView Departure) (first_note : RoomView Transfer) (end slot n : ℕ) (now : EngineView)
     (sent : RoomView Departure) (note : RoomView Transfer) : Type 0 where
@@ -137,11 +137,6 @@ empty_beside slot f ideal agrees none = search (arith, rules, empty_together slo
 module _ {whole : Bool} {ms : List Machine} {came : List Arrival} {first : EngineView} {first_sent : RoomView Departure}
     {first_note : RoomView Transfer} {end slot n : ℕ} {now : EngineView} {sent : RoomView Departure}
     {note : RoomView Transfer} (c : Crossing whole ms came first first_sent first_note end slot n now sent note) where
-  -- where a cell is still to come or waits, a slot is left
-  pub crossing_left : whole ≡ true → (end_of came ≤ slot → IsEmptyFabric now.fabric → ⊥) → 0 < n
-  crossing_left is more =
-      search (arith, rules, empty_beside slot (marked_fabric now) c.ideal c.agrees, cases_lt 0 n, more)
-
   -- the run is not over before a slot, or at it
   not_before : whole ≡ true → (end_of came ≤ slot → IsEmptyFabric now.fabric → ⊥) → (m : ℕ) (f : Marked Fabric) →
       m ≤ length c.records → RanTo ms came first m c.records f → end_of came ≤ first.next + m →
@@ -217,11 +212,6 @@ module _ {whole : Bool} (M : List ℕ → Machine) {came : List Arrival} {first 
       let cut = cases_lt slot next in
       search (arith, rules, length-append, c.lists, c.buffers, fewer.to, fewer.from, more, cut, c.going, before)
 
--- where no slot is skipped nothing comes either
-pub quiet_if : {came : List Arrival} {slot next : ℕ} → slot ≤ next → (slot < next → IsQuiet came slot next) →
-    IsQuiet came slot next
-quiet_if late is = grind (arith, common_steps)
-
 -- all that an engine asks for a slot, where what leaves is put into this list
 pub record CanRun (M : List ℕ → Machine) (slot : ℕ) (cells : List (Option Cell)) (now : EngineView)
     (leaving : RoomView Departure) (note : RoomView Transfer) : Type 0 where
@@ -235,10 +225,6 @@ pub record Stands (whole : Bool) (end : ℕ) (M : List ℕ → Machine) (came : 
     (sent : RoomView Departure) (note : RoomView Transfer) : Type 0 where
   pub crossing : Crossing whole (map M first.fixed) came first first_sent first_note end slot (suc n) now sent note
   pub more : whole ≡ true → end_of came ≤ slot → IsEmptyFabric now.fabric → ⊥
-
--- of a run that is not to its end
-pub never : {X : Type 0} → false ≡ true → X
-never is = absurd (let P : ⊥ = cc in P)
 
 -- ## Where a run stands
 
@@ -262,24 +248,15 @@ module _ {whole : Bool} {end : ℕ} {M : List ℕ → Machine} {came : List Arri
   buffer_room : (cells : List (Option Cell)) → cells ≡ arriving came slot → HaveBufferRoom cells now
   buffer_room cells are j within = search (arith, rules, same_ports, c.buffers, for_here)
 
-  -- each output can send a cell
-  pub room_here : length now.fixed ≤ sent.spare
-  room_here = search (arith, rules, same_ports)
-
-  -- a list that is free has a place for each of them
-  pub places_here : {leaving : RoomView Departure} → IsFree (length first.fixed) leaving →
-      length now.fixed ≤ leaving.spare
-  places_here free = let same = same_ports in omega arith
-
-  -- and the departures of the run can take over what leaves there
+  -- the departures of the run can take over what leaves into a free list
   pub can_take_over : {cells : List (Option Cell)} {after : EngineView} {leaving left : RoomView Departure}
       {note_new : RoomView Transfer} → IsFree (length first.fixed) leaving →
       SlotDone (map M now.fixed) slot cells now after leaving left note note_new → length left.items ≤ sent.spare
-  can_take_over free done = search (arith, rules, room_here, few_left, left_here)
+  can_take_over free done = search (arith, rules, few_left, left_here)
 
   -- the slot finds all that it asks for
   pub can_run_here : (cells : List (Option Cell)) → cells ≡ arriving came slot → (leaving : RoomView Departure) →
-      length now.fixed ≤ leaving.spare → CanRun M slot cells now leaving note
+      length first.fixed ≤ leaving.spare → CanRun M slot cells now leaving note
   can_run_here cells are leaving room =
       let counts = fewer_left (ports_of first) _ now.refused c.counts (omega arith) in
       search (arith, rules, list_room, buffer_room, for_ports, same_ports)
@@ -329,11 +306,12 @@ module _ {whole : Bool} {end : ℕ} {M : List ℕ → Machine} {came : List Arri
       search (arith, rules, numbers, c.lists, c.few, held, lists, arrives_found came, same, goes, at_inputs, cross_few)
 
   -- and a tag fault of the slot is one at which the run stops, whatever comes behind it
-  pub fault_here : (cells : List (Option Cell)) (fault : TagFault) (j count : ℕ) → slot + suc j ≡ first.next + count →
+  pub fault_here : (cells : List (Option Cell)) (fault : TagFault) (count : ℕ) → slot < first.next + count →
       cells ≡ arriving came slot →
       Err fault ≡ answer_to (ranking (map M now.fixed) slot 0 (its_admission cells now).cells now.fabric.ranks) →
       StopsWithin (map M first.fixed) came first count fault
-  fault_here cells fault j count long are answer =
+  fault_here cells fault count long are answer =
+      let j = first.next + count - (slot + 1) in
       let ms = map M first.fixed in
       let before = arriving_from came first.next (length c.records) in
       let so_far = arriving_length came first.next (length c.records) in
@@ -351,11 +329,12 @@ module _ (M : List ℕ → Machine) {came : List Arrival} {end : ℕ} {first : E
   -- quiet slots are skipped in a run to its end
   pub run_stands : Crossing true (map M first.fixed) came first first_sent first_note end slot (end - slot) now sent
       note → {next : ℕ} {new : EngineView} → (end_of came ≤ slot → IsEmptyFabric now.fabric → ⊥) →
-      IsQuiet came slot next → HasRested (map M now.fixed) slot next now new →
+      slot ≤ next → (slot < next → IsQuiet came slot next) → HasRested (map M now.fixed) slot next now new →
       Stands true end M came first first_sent first_note next (end - (next + 1)) new sent note
-  run_stands runs {next} {new} more quiet rested =
-      let left = crossing_left runs refl more in
-      search (arith, rules, crossing_rest M runs rested (suc (end - (next + 1))), cases_lt slot next)
+  run_stands runs {next} {new} more late quiet rested =
+      let empty = empty_beside slot (marked_fabric now) runs.ideal runs.agrees in
+      let some : 0 < end - slot = search (arith, rules, empty, runs.few, cases_lt 0 (end - slot), more) in
+      search (arith, rules, crossing_rest M runs rested (suc (end - (next + 1))), cases_lt slot next, quiet)
 
   -- in a run up to a slot those in which nothing comes are skipped, if any are
   pub part_rests : Crossing false (map M first.fixed) came first first_sent first_note end slot (end - slot) now sent
@@ -363,7 +342,7 @@ module _ (M : List ℕ → Machine) {came : List Arrival} {end : ℕ} {first : E
       (slot < next → (next ≤ end) × NoneCome came slot next) → HasRested (map M now.fixed) slot next now new →
       Crossing false (map M first.fixed) came first first_sent first_note end next (end - next) new sent note
       × (next ≤ end)
-  part_rests parts {next} before late skipped rested = grind (arith, common_steps, cases_lt, crossing_rest, never)
+  part_rests parts {next} before late skipped rested = grind (arith, common_steps, cases_lt, crossing_rest)
 
   pub part_stands : Crossing false (map M first.fixed) came first first_sent first_note end slot (end - slot) now sent
       note → slot < end → Stands false end M came first first_sent first_note slot (end - (slot + 1)) now sent note

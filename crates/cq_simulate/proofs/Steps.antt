@@ -8,11 +8,10 @@ use Rattle.cq_ideal.proofs.LimitedParts.{behind, limited_parts, limited_stays_em
 
 -- The run of the ideal switch, slot by slot. The slots so far are a run, which the slots that are left go on with, and
 -- what was sent is what that run sent. Of the cells that come in a slot each is admitted or refused. So the cells that
--- wait and those that are still to come are no more than there is room for, in each list and in all, and those that
--- were refused and those that are still to come are no more than all that come. And those that wait or come are no
--- more than the slots that are left after the last arrival: in each of these a cell leaves, while one waits. So the
--- slots do not end before the cells. Once no cell is to come and none waits, the slots that are left send nothing and
--- meet no fault.
+-- wait and those that are still to come are no more than there is room for, in each list and in all, and what counts
+-- the refused ones has room for all that are still to come. And those that wait or come are no more than the slots
+-- that are left after the last arrival: in each of these a cell leaves, while one waits. So the slots do not end before
+-- the cells. Once no cell is to come and none waits, the slots that are left send nothing and meet no fault.
 
 -- ## What a slot admits
 
@@ -49,7 +48,7 @@ of_admitted limits ms slot cells old of_slot is =
 -- ## The loop
 
 -- What is known before a slot, where so many slots are left of a run that could begin: what the slots so far came to,
--- which refused these cells, and what was sent in them.
+-- and what was sent in them.
 pub record Running (ms : List Machine) (came : List Arrival) (first : IdealSwitch) (first_sent : RoomView Departure)
     (slot n : ℕ) (now : IdealSwitch) (sent : RoomView Departure) : Type 0 where
   pub ready : IsReady ms came first first_sent

@@ -1,5 +1,5 @@
-use Rattle.cq_simulate.proofs.Terms.{ap, is_err, ◌+◌, ◌-◌, true, zero, ◌∙◌, arith, rules, sym, err_from_is_err_and, end_of, IsEmptyFabric, quiet_of}
-use Rattle.cq_simulate.proofs.FabricSteps.{over_by, Stands, can_run_here, can_take_over, crossing_first, crossing_over, fault_here, left_here, next_here, places_here, quiet_if, run_stands}
+use Rattle.cq_simulate.proofs.Terms.{ap, is_err, ◌+◌, ◌-◌, true, ◌∙◌, arith, rules, sym, err_from_is_err_and, end_of, IsEmptyFabric, quiet_of}
+use Rattle.cq_simulate.proofs.FabricSteps.{over_by, Stands, can_run_here, can_take_over, crossing_first, crossing_over, fault_here, left_here, next_here, run_stands}
 use Rattle.cq_simulate.proofs.Steps.{enough_are, free_again, goes_on, left_with_all}
 use Rattle.cq_simulate.proofs.fabric_run.run_slots.Given as given
 use Rattle.cq_simulate.proofs.fabric_run.run_slots.Goals as goal
@@ -15,8 +15,8 @@ stands : (g : given.Over) (c : After-arrivals g) →
     c.slots.sent c.slots.note
 stands g c = run_stands g.R.Rank.machine c.slots.invariant.runs (goes_on c.is_over.result
     (end_of c.args.schedule.now.came) c.slots.slot (IsEmptyFabric c.slots.engine.fabric) c.slots-test.true
-    c.is_over.ensures) (quiet_if c.skip-slot.ensures.late (λ lt.
-    let told = (c.skip-slot.ensures.told (c.skip-slot.ensures.idle lt)).1 in search (rules, quiet_of)))
+    c.is_over.ensures) c.skip-slot.ensures.late (λ lt.
+    let told = (c.skip-slot.ensures.told (c.skip-slot.ensures.idle lt)).1 in search (rules, quiet_of))
     c.skip-slot.ensures.rested
 
 -- ## The loop
@@ -28,13 +28,13 @@ pub slot-requires : goal.slot-requires
 slot-requires g c =
     let here = stands g (goal.at.slot-requires g c).After-arrivals in
     let can = can_run_here here c.arrivals.result.now (c.arrivals.ensures ∙ c.skip-slot.ensures.came) c.slots.leaving
-    (places_here here c.slots.invariant.free) in search (arith, rules, sym)
+    (omega arith) in search (arith, rules, sym)
 
 pub returns-in_err-slot-clause-refused : goal.returns-in_err-slot-clause-refused
 returns-in_err-slot-clause-refused g c =
     let here = stands g (goal.at.returns-in_err-slot-clause-refused g c).After-arrivals in
     let count = c.skip-slot.result + 1 - c.args.engine.now.next in
-    let stops = fault_here here c.arrivals.result.now c.in_err-slot.field-0.0 zero count in
+    let stops = fault_here here c.arrivals.result.now c.in_err-slot.field-0.0 count in
     search (arith, rules, stops, err_from_is_err_and)
 
 pub overflow_add-slot : goal.overflow_add-slot

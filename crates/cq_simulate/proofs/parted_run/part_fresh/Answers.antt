@@ -26,9 +26,8 @@ returns-in_err-run_before-clause-refused g c =
 
 pub returns-clause-parted : goal.returns-clause-parted
 returns-clause-parted g c =
-    parted_of c.args.tables.now c.args.schedule.now (made g (goal.at.returns-clause-parted g c).In_ok-note)
-    c.args.slots c.run_before.new.engine c.run_before.new.sent c.run_before.new.note c.in_ok-frozen.frozen
-    c.in_ok-run_before.ensures.run c.in_ok-frozen.ensures
+    let begins = made g (goal.at.returns-clause-parted g c).In_ok-note in
+    parted_of begins c.in_ok-run_before.ensures.run c.in_ok-frozen.ensures
 
 -- the fabric that stands still has a list for each port
 pub returns-clause-ports : goal.returns-clause-ports

@@ -1,5 +1,5 @@
 use Rattle.cq_simulate.proofs.Terms.{ap, is_err, ◌+◌, ◌-◌, ◌≤◌, false, ◌∙◌, arith, rules, sym, err_from_is_err_and}
-use Rattle.cq_simulate.proofs.FabricSteps.{Stands, can_run_here, crossing_first, fault_here, left_here, never, next_here, part_rests, part_stands, room_here}
+use Rattle.cq_simulate.proofs.FabricSteps.{Stands, can_run_here, crossing_first, fault_here, left_here, next_here, part_rests, part_stands}
 use Rattle.cq_simulate.proofs.parted_run.run_before.Given as given
 use Rattle.cq_simulate.proofs.parted_run.run_before.Goals as goal
 use Rattle.cq_simulate.proofs.parted_run.run_before.Goals.{After-arrivals-arrivals}
@@ -16,13 +16,13 @@ stands g c = search (arith, rules, part_stands, part_rests, c.skip-slot.ensures.
 -- ## The loop
 
 pub slots-init : goal.slots-init
-slots-init g c = search (arith, rules, crossing_first, never)
+slots-init g c = search (arith, rules, crossing_first)
 
 pub slot-requires : goal.slot-requires
 slot-requires g c =
     let here = stands g (goal.at.slot-requires g c).After-arrivals-arrivals in
     let can = can_run_here here c.arrivals-arrivals.result.now (c.arrivals-arrivals.ensures
-    ∙ c.skip-slot.ensures.came) c.slots.sent (room_here here) in search (arith, rules, sym)
+    ∙ c.skip-slot.ensures.came) c.slots.sent (omega arith) in search (arith, rules, sym)
 
 pub returns-in_err-slot-clause-fault : goal.returns-in_err-slot-clause-fault
 returns-in_err-slot-clause-fault g c =
@@ -30,7 +30,7 @@ returns-in_err-slot-clause-fault g c =
     let p = err_from_is_err_and c.from_residual.result c.from_residual.ensures.1 in
     let last = c.args.last in
     rw (p.1, p.2) (fault_here here c.arrivals-arrivals.result.now c.in_err-slot.field-0.0
-    (last - (c.skip-slot.result + 1)) (last - c.args.engine.now.next) (omega arith)
+    (last - c.args.engine.now.next) (omega arith)
     (c.arrivals-arrivals.ensures ∙ c.skip-slot.ensures.came) (sym c.in_err-slot.was ∙ c.slot.ensures.answer))
 
 pub slots-smaller : goal.slots-smaller
