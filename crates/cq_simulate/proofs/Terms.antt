@@ -21,7 +21,7 @@ pub use Rattle.cq_rank.specs.Switch.{class_count}
 pub use Rattle.cq_scfq.specs.Discipline.{machine_from}
 pub use Rattle.cq_scfq.specs.Disciplines.{machine_of, machines_of, openings_of}
 pub use Rattle.cq_ideal.proofs.AtInput.{come_in_order, comes_at_input}
-pub use Rattle.cq_ideal.proofs.Counting.{all_counted_both, counts_fit, fewer_left, none_counted, zero_fits}
+pub use Rattle.cq_ideal.proofs.Counting.{counts_fit, fewer_left, none_counted, zero_fits}
 pub use Rattle.cq_ideal.proofs.Ends.{all_slots, none_waits, nothing_left}
 pub use Rattle.cq_ideal.proofs.FlowCount.{come_count-first, come_count-traffic_of, none_after}
 pub use Rattle.cq_ideal.proofs.FlowFound.{all_found, all_present, arriving_is}
@@ -35,7 +35,7 @@ unfoldable pub use Rattle.cq_ideal.proofs.FlowStands.{of_flow}
 pub use Rattle.cq_ideal.proofs.LimitedEnds.{limited_found_end, limited_same_sent, limited_whole_fault, run_as_before, slots_as_before}
 pub use Rattle.cq_ideal.proofs.LimitedRuns.{is_run_of, judged, run_fault, run_step}
 pub use Rattle.cq_ideal.proofs.Parted.{arriving_here, arriving_length, arriving_parts, departures_append}
-pub use Rattle.cq_ideal.proofs.Refusals.{counts_more, each_once, one_slot_more}
+pub use Rattle.cq_ideal.proofs.Refusals.{counts_more, each_once}
 pub use Rattle.cq_ideal.proofs.RestAtInput.{comes_from, line_at, rest_of}
 pub use Rattle.cq_ideal.proofs.Waiting.{counted, total_none, total_same}
 unfoldable pub use Rattle.cq_ideal.proofs.Waiting.{total, waiting}
@@ -54,7 +54,7 @@ unfoldable pub use Rattle.cq_ideal.specs.LimitedEnding.{whole_limited_run}
 pub use Rattle.cq_ideal.specs.LimitedIdeal.{LimitedRan, LimitedSent, empty_limited, ideal_admission, with_admission}
 unfoldable pub use Rattle.cq_ideal.specs.LimitedIdeal.{limited_run, limited_slot}
 pub use Rattle.cq_ideal.specs.Ranking.{AreForPorts, ranking}
-pub use Rattle.cq_ideal.specs.Refused.{refused_counts, refused_in, with_refused}
+pub use Rattle.cq_ideal.specs.Refused.{refused_counts, refused_in}
 unfoldable pub use Rattle.cq_ideal.specs.Refused.{packets_refused}
 pub use Rattle.cq_ideal.specs.WholePackets.{AreJudged, AreOfPackets, came_at, cells_at}
 pub use Rattle.cq_reasm.specs.Joining.{JoinerView, open_after, open_at}
@@ -67,7 +67,6 @@ pub use Rattle.cq_laws.proofs.LimitedEnds.{limited_ends, one_limited_whole}
 pub use Rattle.cq_laws.proofs.LimitedSlots.{admission_for_ports, limited_ports_kept, same_limited_slot}
 pub use Rattle.cq_laws.proofs.OneRun.{only_limited_run, outputs_at}
 pub use Rattle.cq_laws.proofs.OneSlot.{after_sent, arrived}
-pub use Rattle.cq_laws.proofs.QuietSlots.{quiet_figures, quiet_transfers}
 pub use Rattle.cq_laws.proofs.Sound.{orders_are}
 pub use Rattle.cq_laws.proofs.WholeRuns.{empty_list, empty_together}
 pub use Rattle.cq_laws.specs.{Agreement.Agrees, Frozen.ideal_of, Records.gone_in}
@@ -124,7 +123,7 @@ pub use Rattle.cq_reasm.proofs.Pieces.{pieces_give_frame}
 pub use Rattle.cq_state.specs.declared.state.Named.{Named}
 pub use Rattle.cq_prefs.specs.Orders.{Orders}
 pub use Rattle.cq_prefs.proofs.{InputOrder.OutputsInRange, InputOrder.are_offers, Places.outputs_at_most}
-pub use Rattle.cq_laws.specs.{Frozen.fabric_in, Frozen.marked_in, Frozen.IsSoundFabric, LimitedQuiet.quiet_limited_slots, LimitedQuiet.quiet_limited_slot, Phases.Transfers, Phases.came_to, Phases.list_arrived, Places.HasFor, declared.frozen.Frozen.Frozen}
-pub use Rattle.cq_laws.proofs.{ActingAlike.best_act_alike_from_empty, ActingAlike.best_act_alike, AddingUp.figures_fold, Came.came_from, EndsTogether.slots_of_figures, Held.hold_as_many, Held.nothing_for, Joined.all_go_on, KeptParts.departures_one, KeptParts.transfers_both, KeptParts.transfers_one, KeptParts.departures_on, Members.first_at, Parted.run_length, Parted.run_of_whole}
+pub use Rattle.cq_laws.specs.{Frozen.fabric_in, Frozen.marked_in, Frozen.IsSoundFabric, LimitedQuiet.quiet_limited_slots, Phases.Transfers, Phases.came_to, Phases.list_arrived, Places.HasFor, declared.frozen.Frozen.Frozen}
+pub use Rattle.cq_laws.proofs.{ActingAlike.best_act_alike_from_empty, ActingAlike.best_act_alike, AddingUp.figures_fold, Came.came_from, EndsTogether.slots_of_figures, Held.hold_as_many, Held.nothing_for, Joined.all_go_on, KeptParts.departures_one, KeptParts.transfers_one, Members.first_at, Parted.run_length, Parted.run_of_whole}
 pub use Rattle.cq_resume.specs.Parts.{IsParted}
 pub use Rattle.cq_engine.proofs.{Kept.limited_lists_kept, Kept.limited_outputs_kept}
