@@ -1,5 +1,5 @@
 -- What each step of the loop over the slots of the fabric asks for, where so many slots are left as are not yet over.
-use Rattle.cq_simulate.proofs.Terms.{common_steps, rules, ◌≡◌, ℕ, suc, ◌+◌, ◌-◌, ◌<◌, ◌≤◌, ◌^◌, Bool, true, false, List, [], ◌++◌, length, map, Option, Err, refl, sym, ap, arith, zero, ◌*◌, ◌∷◌, length-append, sum, slice_index, cases_lt, and_left, leb-false, ne_eqb, Arrival, arriving, end_of, arriving_at, RoomView, Cell, Departure, TagFault, Transfer, EngineView, HaveBufferRoom, HaveListRoom, IsMadeAs, IsReadyFor, SlotDone, answer_to, its_admission, marked_fabric, HaveLeft, CanCount, AreForPorts, ranking, IsEmptyFabric, Fabric, input, LimitedFabricRun, LimitedRecord, IsLimitedFault, LimitedFabricSlot, IsInputBest, Machine, class_count, counts_fit, none_counted, HasRunOn, IsReadyOn, NoneCome, StopsWithin, RanTo, WentOn, to_come, arrivals_for, arrives_found, from_here, one_if, come_from, no_more_from, for_here, come_for, no_more_to, IsQuiet, append-nil, get_or_past, take_all, take-append-le, IdealState, transfers_of_run, range_with_len, Queued, nothing_left, come_count, come_count-first, arriving_length, arriving_here, arriving_parts, waiting, total, total_same, Marked, arriving_from, departures_of, LimitedSent, stable_limited_slot, limited_ports_kept, same_limited_slot, only_limited_run, empty_together, Agrees, fabric_held, held_for, LimitedAgrees, figures_after, sum_by-cons, agrees_of, ideal_of, is_from, is_to, number_of, arriving_is, found, quiet_limited_slots, limited_lists_kept, limited_outputs_kept, all_go_on, departures_one, transfers_one, hold_as_many, most_ports, quiet_slots, best_act_alike, kept_on, kept_with, fewer_left, slots_fit, run_length, ◌∙◌, kept_both, kept_quiet}
+use Rattle.cq_simulate.proofs.Terms.{common_steps, rules, ◌≡◌, ℕ, suc, ◌+◌, ◌-◌, ◌<◌, ◌≤◌, ◌^◌, Bool, true, false, List, [], ◌++◌, length, map, Option, Err, refl, sym, ap, arith, zero, ◌*◌, ◌∷◌, length-append, sum, slice_index, cases_lt, and_left, leb-false, ne_eqb, Arrival, arriving, end_of, arriving_at, RoomView, Cell, Departure, TagFault, Transfer, EngineView, HaveBufferRoom, HaveListRoom, IsMadeAs, IsReadyFor, SlotDone, answer_to, its_admission, marked_fabric, HaveLeft, CanCount, AreForPorts, ranking, IsEmptyFabric, Fabric, input, LimitedFabricRun, LimitedRecord, IsLimitedFault, LimitedFabricSlot, IsInputBest, Machine, class_count, counts_fit, none_counted, HasRunOn, IsReadyOn, NoneCome, StopsWithin, RanTo, WentOn, to_come, arrivals_for, arrives_found, from_here, one_if, come_from, no_more_from, for_here, come_for, no_more_to, IsQuiet, append-nil, get_or_past, take_all, take-append-le, IdealState, transfers_of_run, range_with_len, Queued, nothing_left, come_count, come_count-first, arriving_length, arriving_here, arriving_parts, waiting, total, total_same, Marked, arriving_from, departures_of, LimitedSent, stable_limited_slot, limited_ports_kept, same_limited_slot, only_limited_run, empty_together, Agrees, fabric_held, held_for, LimitedAgrees, figures_after, sum_by-cons, agrees_of, ideal_of, is_from, is_to, number_of, arriving_is, found, quiet_limited_slots, limited_lists_kept, limited_outputs_kept, all_go_on, departures_one, transfers_one, hold_as_many, most_ports, quiet_slots, best_act_alike, kept_on, kept_with, slots_fit, run_length, ◌∙◌, kept_both, kept_quiet}
 use Rattle.cq_engine.specs.Engine.{HasGoneOn, ports_of}
 use Rattle.cq_engine.specs.Resting.{HasRested}
 use Rattle.cq_simulate.proofs.Steps.{IsFree, few_left, fewer_come, of_admitted, come_here, numbers, slot_err}
@@ -198,19 +198,15 @@ module _ {whole : Bool} (M : List ℕ → Machine) {came : List Arrival} {first 
       let held : sum (fabric_held new.fabric) ≡ sum (fabric_held now.fabric) = simp (rested.inputs, rested.buffers) in
       let listed : at_inputs new.fabric (ports_of first) ≡ at_inputs now.fabric (ports_of first) =
       simp rested.inputs in
-      let so_long = arriving_length came slot k in
-      let there : slot + length (arriving_from came slot k) ≡ next = omega arith in
-      let agrees = rw there at alike.agrees in
-      let many = run_length (LimitedFabricSlot IsInputBest first.limits ms) slot _ _ _ rs run ∙ so_long in
-      let fewer = fewer_come came slot k n next m (omega arith) (omega arith) in
+      let long = arriving_length came slot k in
+      let many = run_length (LimitedFabricSlot IsInputBest first.limits ms) slot _ _ _ rs run ∙ long in
+      let less = fewer_come came slot k n next m (omega arith) (omega arith) in
       let nothing = kept_quiet ms (ports_of now) now.marks (kept_with now sent note) k slot now.fabric.ranks in
-      let to_count = ports_of first + come_count (arriving_from came next n) in
-      let counts = fewer_left to_count _ now.refused c.counts (omega arith) in
       let went = went_on c k rs {after = new} {sent_new = sent} {note_new = note} many run (cc) rested.limits
       rested.running in
-      let before = λ (m : ℕ). take-append-le m c.records rs in
+      let ahead = λ (m : ℕ). take-append-le m c.records rs in
       let cut = cases_lt slot next in
-      search (arith, rules, length-append, c.lists, c.buffers, fewer.to, fewer.from, more, cut, c.going, before)
+      search (arith, rules, length-append, c.lists, c.buffers, less.to, less.from, more, cut, c.going, ahead, c.counts)
 
 -- all that an engine asks for a slot, where what leaves is put into this list
 pub record CanRun (M : List ℕ → Machine) (slot : ℕ) (cells : List (Option Cell)) (now : EngineView)
@@ -258,8 +254,7 @@ module _ {whole : Bool} {end : ℕ} {M : List ℕ → Machine} {came : List Arri
   pub can_run_here : (cells : List (Option Cell)) → cells ≡ arriving came slot → (leaving : RoomView Departure) →
       length first.fixed ≤ leaving.spare → CanRun M slot cells now leaving note
   can_run_here cells are leaving room =
-      let counts = fewer_left (ports_of first) _ now.refused c.counts (omega arith) in
-      search (arith, rules, list_room, buffer_room, for_ports, same_ports)
+      search (arith, rules, list_room, buffer_room, for_ports, same_ports, c.counts)
 
   -- once it is run, the run stands at the next one
   pub next_here : {cells : List (Option Cell)} {after : EngineView} {leaving left sent_new : RoomView Departure}
@@ -301,8 +296,7 @@ module _ {whole : Bool} {end : ℕ} {M : List ℕ → Machine} {came : List Arri
       let empty_beside-here = empty_beside slot f in search (arith, rules, get_or_past, cases_lt) in
       let lost = r.admission.refused in
       let to_count = p + come_count (arriving_from came (slot + 1) n) in
-      let all_fit = fewer_left (to_count + length lost) _ now.refused c.counts (omega arith) in
-      let counts = counts_fit lost to_count (length lost) now.refused all_fit (omega arith) in
+      let counts = counts_fit lost to_count (length lost) now.refused (search (arith, rules, c.counts)) (omega arith) in
       search (arith, rules, numbers, c.lists, c.few, held, lists, arrives_found came, same, goes, at_inputs, cross_few)
 
   -- and a tag fault of the slot is one at which the run stops, whatever comes behind it

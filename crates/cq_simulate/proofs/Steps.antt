@@ -1,5 +1,5 @@
 -- What each step of the loop over the slots asks for, where so many slots are left as are not yet over.
-use Rattle.cq_simulate.proofs.Terms.{common_steps, rules, ◌≡◌, ◌↔◌, ℕ, suc, ◌+◌, ◌-◌, ◌<◌, ◌≤◌, ◌^◌, Bool, true, false, List, [], ◌++◌, length, map, replicate, Option, Result, Ok, Err, refl, sym, ap, arith, zero, None, ◌∷◌, IsTrue, All, slice_index_or, cases_lt, Cell, Departure, Queued, TagFault, no_arrivals, Arrival, arriving, end_of, enough, traffic_of, RoomView, Machine, Marked, nothing_refused, admission, admitted, refused, IdealSwitch, HasRoomFor, HaveLeft, marked_state, count_for, IdealState, departures_in, ideal_slot, departures_limited, LimitedSent, limited_run, limited_slot, ideal_admission, with_admission, CanCount, IsReady, waiting, counted, arriving_from, none_waits, nothing_left, all_slots, arrivals_for, for_here, from_here, some_one, come_for, come_for-traffic_of, IsQuiet, come_count, arriving_parts, departures_of, no_departures, quiet_slots, length-replicate, append-nil, length-append, get_or-replicate, number_of, is_to, counts_fit, zero_fits, present, come_count-traffic_of, none_after, run_fault, run_step, each_once, waiting-empty, CanHaveSlot, HasHadSlot, IsSameSwitch, arriving_length, first_slots, departures_append, first_more, LimitedRan, marked, fewer_left, come_from}
+use Rattle.cq_simulate.proofs.Terms.{common_steps, rules, ◌≡◌, ◌↔◌, ℕ, suc, ◌+◌, ◌-◌, ◌<◌, ◌≤◌, ◌^◌, Bool, true, false, List, [], ◌++◌, length, map, replicate, Option, Result, Ok, Err, refl, sym, ap, arith, zero, None, ◌∷◌, IsTrue, All, slice_index_or, cases_lt, Cell, Departure, Queued, TagFault, no_arrivals, Arrival, arriving, end_of, enough, traffic_of, RoomView, Machine, Marked, nothing_refused, admission, admitted, refused, IdealSwitch, HasRoomFor, HaveLeft, marked_state, count_for, IdealState, departures_in, ideal_slot, departures_limited, LimitedSent, limited_run, limited_slot, ideal_admission, with_admission, CanCount, IsReady, waiting, counted, arriving_from, none_waits, nothing_left, all_slots, arrivals_for, for_here, from_here, some_one, come_for, come_for-traffic_of, IsQuiet, come_count, arriving_parts, departures_of, no_departures, quiet_slots, length-replicate, append-nil, length-append, get_or-replicate, number_of, is_to, counts_fit, zero_fits, present, come_count-traffic_of, none_after, run_fault, run_step, each_once, waiting-empty, CanHaveSlot, HasHadSlot, IsSameSwitch, arriving_length, first_slots, departures_append, first_more, LimitedRan, marked, come_from}
 use Rattle.cq_ideal.specs.Ideal.{answer_to, its_slot}
 use Rattle.cq_ideal.specs.IdealSlot.{Sent}
 use Rattle.cq_ideal.proofs.Waiting.{Counted}
@@ -181,10 +181,8 @@ module _ (M : List ℕ → Machine) {came : List Arrival} {first : IdealSwitch} 
       search (arith, rules, run_behind r (replicate k no_arrivals) (first_slots came next)) in
       let sent_all = departures_append 0 slot r.ran.gone gone (omega arith) in
       let nothing = none_departs (length now.fixed) k slot in
-      let to_count = length first.fixed + come_count (arriving_from came next n) in
-      let counts = fewer_left to_count _ now.refused r.counts (omega arith) in
       let cut = cases_lt slot next in
-      search (arith, rules, append-nil, r.each, fewer.to, quiet.more, cut, length-append, length-replicate)
+      search (arith, rules, append-nil, r.each, fewer.to, quiet.more, cut, r.counts, length-append, length-replicate)
 
   -- where a cell is to come or waits, the run stands at a slot that is to be run
   pub stands : (end_of came ≤ slot → All (λ cells. cells ≡ []) now.state.lists → ⊥) →
@@ -240,8 +238,7 @@ module _ (M : List ℕ → Machine) {came : List Arrival} {first : IdealSwitch} 
       IsFree (length first.fixed) leaving → CanHaveSlot (map M now.fixed) slot cells now leaving
   can_have {cells} are free =
       let short : enough came ≤ 2 ^ 63 + 2 ^ 35 = r.ready.short in
-      let counts = fewer_left (length first.fixed) _ now.refused r.counts (omega arith) in
-      search (arith, rules, room_left, arrivals_for)
+      search (arith, rules, room_left, arrivals_for, r.counts)
 
   -- and the departures of the run can take over what leaves there
   pub can_take_over : {cells : List (Option Cell)} {after : IdealSwitch} {leaving left : RoomView Departure} →
@@ -274,9 +271,8 @@ module _ (M : List ℕ → Machine) {came : List Arrival} {first : IdealSwitch} 
       let ran_on : limited_run first.limits ms 0 (first_slots came (slot + 1)) (marked_state first) ≡ Ok ran = cc in
       let gone_on = departures_append 0 slot r.ran.gone (of_slot.gone ∷ []) (omega arith) in
       let lost = of_slot.admission.refused in
-      let left_to_count = length first.fixed + come_count (arriving_from came (slot + 1) n) in
-      let all_fit = fewer_left (left_to_count + length lost) _ now.refused r.counts (omega arith) in
-      let counts = counts_fit lost left_to_count (length lost) now.refused all_fit (omega arith) in
+      let to_count = length first.fixed + come_count (arriving_from came (slot + 1) n) in
+      let counts = counts_fit lost to_count (length lost) now.refused (search (arith, rules, r.counts)) (omega arith) in
       search (arith, rules, numbers, append-nil, r.each, o.each, o.counts.each, r.few)
 
   pub at_fault : (cells : List (Option Cell)) (fault : TagFault) → cells ≡ arriving came slot →

@@ -21,7 +21,7 @@ pub use Rattle.cq_rank.specs.Switch.{class_count}
 pub use Rattle.cq_scfq.specs.Discipline.{machine_from}
 pub use Rattle.cq_scfq.specs.Disciplines.{machine_of, machines_of, openings_of}
 pub use Rattle.cq_ideal.proofs.AtInput.{come_in_order, comes_at_input}
-pub use Rattle.cq_ideal.proofs.Counting.{counts_fit, fewer_left, none_counted, zero_fits}
+pub use Rattle.cq_ideal.proofs.Counting.{counts_fit, none_counted, zero_fits}
 pub use Rattle.cq_ideal.proofs.Ends.{all_slots, none_waits, nothing_left}
 pub use Rattle.cq_ideal.proofs.FlowCount.{come_count-first, come_count-traffic_of, none_after}
 pub use Rattle.cq_ideal.proofs.FlowFound.{all_found, all_present, arriving_is}
