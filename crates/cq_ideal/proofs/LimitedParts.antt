@@ -18,7 +18,7 @@ pub no_departures : (n slot j : ℕ) → departures_from slot j (replicate n Non
 no_departures zero slot j = refl
 no_departures (suc n) slot j = no_departures n slot (j + 1)
 
-none_departs : (ports n slot : ℕ) → departures_of slot (replicate n (replicate ports None)) ≡ []
+pub none_departs : (ports n slot : ℕ) → departures_of slot (replicate n (replicate ports None)) ≡ []
 unfolding departures_of departures_in
 none_departs ports zero slot = refl
 none_departs ports (suc n) slot =

@@ -48,7 +48,6 @@ pub use Rattle.cq_ideal.specs.Ideal.{HasRoomFor, HaveLeft, IdealSwitch, answer_t
 pub use Rattle.cq_ideal.specs.{Limiter.CanCount}
 unfoldable pub use Rattle.cq_ideal.specs.IdealRun.{departures_of}
 pub use Rattle.cq_ideal.specs.IdealSlot.{IdealState, ideal_slot}
-unfoldable pub use Rattle.cq_ideal.specs.IdealSlot.{departures_in}
 pub use Rattle.cq_ideal.specs.LimitedEnding.{departures_limited, slots_of_limited_run}
 unfoldable pub use Rattle.cq_ideal.specs.LimitedEnding.{whole_limited_run}
 pub use Rattle.cq_ideal.specs.LimitedIdeal.{LimitedRan, LimitedSent, empty_limited, ideal_admission, with_admission}
@@ -116,7 +115,7 @@ pub use Rattle.cq_base.proofs.Pooled.{each_pair, has_looked_up, looked_up, pairs
 pub use Rattle.cq_cells.proofs.Stamps.{length-rows_from}
 pub use Rattle.cq_cells.proofs.Ranges.{range_more}
 pub use Rattle.cq_ideal.proofs.EnoughSlots.{waiting-empty}
-pub use Rattle.cq_ideal.proofs.{LimitedParts.no_departures, EachLeaves.each_leaves_or_is_refused, EachLeaves.refuses_none_elsewhere, FlowLaw.all_in_range, FlowLaw.class_in_slot, FlowLaw.none_came, FlowOn.flow_on, FlowOn.flows_leave_in_packets, FlowOn.whole_on, LastSlot.slots_within, LimitedLast.last_departs, LimitedLast.limited_slots, Standing.StandAt, Standing.stand_in}
+pub use Rattle.cq_ideal.proofs.{EachLeaves.each_leaves_or_is_refused, EachLeaves.refuses_none_elsewhere, FlowLaw.all_in_range, FlowLaw.class_in_slot, FlowLaw.none_came, FlowOn.flow_on, FlowOn.flows_leave_in_packets, FlowOn.whole_on, LastSlot.slots_within, LimitedLast.last_departs, LimitedLast.limited_slots, Standing.StandAt, Standing.stand_in}
 pub use Rattle.cq_ideal.specs.{EachOnce.KeepTheirOutput, EachOnce.LeaveOrAreRefused, OneSlot.CanHaveSlot, OneSlot.HasHadSlot, OneSlot.IsSameSwitch}
 pub use Rattle.cq_reasm.specs.{Cutting.AreCutFrom, Open.Open, Piece.Piece}
 pub use Rattle.cq_reasm.proofs.Pieces.{pieces_give_frame}
