@@ -33,18 +33,9 @@ other_place : (input class input' class' n : ℕ) → class < n → class' < n �
 other_place input class input' class' n l l' differs e =
     grind (arith, common_steps, div-mul-add input n class l, div-mul-add input' n class' l')
 
-open_of_others : (joiner : JoinerView) (cell : Cell) (now : Option Open) (input class : ℕ) →
-    cell.class < joiner.classes → class < joiner.classes → IsOtherPair input class cell →
-    open_at (with_open joiner cell.id.input cell.class now) input class ≡ open_at joiner input class
-open_of_others joiner cell now input class h l differs = search (rules, get_or-set_other, other_place)
-
--- every other pair is as before, whatever was put at the place of this one
-pub others_kept : (inputs classes : ℕ) (packets left : List (Option Open)) (joiner : JoinerView) (cell : Cell)
-    (place : ℕ) (now : Option Open) →
-    (let seen : JoinerView = record { inputs = inputs; classes = classes; open_packets = packets } in seen) ≡ joiner →
-    place ≡ cell.id.input * classes + cell.class → left ≡ set packets place now → cell.class < joiner.classes →
-    (input class : ℕ) → class < joiner.classes → IsOtherPair input class cell →
-    open_at (let seen : JoinerView = record { inputs = inputs; classes = classes; open_packets = left } in seen) input
-    class ≡ open_at joiner input class
-others_kept inputs classes packets left joiner cell place now e p h inside input class l differs =
-    grind (arith, common_steps, left_is, open_of_others)
+-- every other pair is as before, whatever is put at the place of this one
+pub others_kept : (new joiner : JoinerView) (cell : Cell) (now : Option Open) →
+    new ≡ with_open joiner cell.id.input cell.class now → cell.class < joiner.classes → (input class : ℕ) →
+    class < joiner.classes → IsOtherPair input class cell → open_at new input class ≡ open_at joiner input class
+others_kept new joiner cell now left inside input class l differs =
+    rw left (search (rules, get_or-set_other, other_place))

@@ -8,10 +8,10 @@ add-requires-clause-next c = search (arith, rules, open_is, taken_before)
 pub returns-then-not-cell : goal.returns-then-not-cell
 returns-then-not-cell c =
     let at = c.from.result * c.from-2.result + c.from-3.result in
-    let added = Some (with_piece (get_or c.self.inside.packets at None) c.args.cell.now.id.packet c.args.piece.now) in
-    let others = others_kept c.self.inside.inputs c.self.inside.classes c.self.inside.packets c.add.new.self
-    c.args.self.now c.args.cell.now at added c.self.view_is in
-    search (arith, rules, c.from.result * c.from-2.result, others)
+    let place : at ≡ c.args.cell.now.id.input * c.self.inside.classes + c.args.cell.now.class = cc in
+    let left = left_is c.self.inside.inputs c.self.inside.classes c.self.inside.packets c.add.new.self c.args.self.now
+    c.args.cell.now.id.input c.args.cell.now.class at _ c.self.view_is place c.in_ok-add.ensures.added in
+    search (arith, rules, left, others_kept _ c.args.self.now c.args.cell.now _ left)
 
 pub returns : goal.returns
 returns c =
@@ -27,6 +27,5 @@ returns c =
     class at None c.self.view_is place closed
     ∙ ap (with_open c.args.self.now id.input class) (closed_by_last (open_at c.args.self.now id.input class)
     c.args.cell.now c.args.piece.now c.if-not-cell.false) in
-    let others = others_kept c.self.inside.inputs c.self.inside.classes packets c.close-body.new.self c.args.self.now
-    c.args.cell.now at None c.self.view_is place closed c.requires.class in
+    let others = others_kept _ c.args.self.now c.args.cell.now _ left c.requires.class in
     search (arith, rules, left, others)
