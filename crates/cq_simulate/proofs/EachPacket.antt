@@ -1,13 +1,13 @@
 -- Every packet leaves its output whole or is counted as refused there, once. The fabric sends and refuses what the
 -- ideal switch does, and there each packet of an input leaves or is refused: what comes are whole packets, and the
 -- cells of one are for one output.
-use Rattle.cq_simulate.proofs.Terms.{all_in_range, bit, common_steps, rules, append-nil, flat_map, ◌≡◌, ℕ, ◌<◌, List, length, Ok, ap, arith, ◌+◌, Bool, [], ◌∷◌, map, Option, cond, not, filter, refl, sym, ◌∙◌, ◌-◌, AllByRecursion, range_with_len, All-from_recursion, all_from_has, all_of_has, Arrival, arriving, Departure, traffic_is, at_input, arrivals, packets_of, arrivals_at, arrivals_of, cell_of, cells, packet_at, come_in_order, departures_of, departures_limited, whole_limited_run, slots_of_limited_run, LimitedRan, refused_in, packets_refused, AreOfPackets, came_at, AreJudged, LimitedRecord, Captured, AreTables, ports_of, Tables, machines_of, openings_of, IsFabricRun, departures_in_run, refused_in_run, ideal_departures, ran_ideal, Cell, all_found, all_present, all_weaker, present, judged, Admission, Marked, admission, refused, is_first, arriving_from, IdealState, Machine, ◌&&◌, ◌==◌, sum_by, length-map, length-filter, sum-map, is_from, came_in_flow, comes_in_flow, ends_packet_at, leaving, packets_out, eq-eqb, cells_above, route, each_leaves_or_is_refused, refuses_none_elsewhere, KeepTheirOutput, LeaveOrAreRefused, most_ports, filter_agree, cases_eq, ne_eqb}
+use Rattle.cq_simulate.proofs.Terms.{all_in_range, bit, common_steps, rules, append-nil, ◌≡◌, ℕ, ◌<◌, List, length, Ok, ap, arith, ◌+◌, Bool, [], ◌∷◌, map, Option, cond, not, filter, refl, sym, ◌∙◌, ◌-◌, AllByRecursion, range_with_len, All-from_recursion, all_from_has, all_of_has, Arrival, arriving, Departure, traffic_is, at_input, arrivals, packets_of, arrivals_at, cell_of, cells, packet_at, come_in_order, departures_of, departures_limited, whole_limited_run, slots_of_limited_run, LimitedRan, refused_in, packets_refused, AreOfPackets, came_at, AreJudged, LimitedRecord, Captured, AreTables, ports_of, Tables, machines_of, openings_of, IsFabricRun, departures_in_run, refused_in_run, ideal_departures, ran_ideal, Cell, all_found, all_present, all_weaker, present, judged, Admission, Marked, admission, refused, is_first, arriving_from, IdealState, Machine, ◌&&◌, ◌==◌, length-map, length-filter, sum-map, came_in_flow, ends_packet_at, packets_out, eq-eqb, cells_above, route, each_leaves_or_is_refused, refuses_none_elsewhere, KeepTheirOutput, LeaveOrAreRefused, most_ports, filter_agree, cases_eq, ne_eqb, kept_has, all_both, of_images, all_filter, eqb-true, filter_both, length-append, filter-append, ◌++◌, leaves_in_flow, left_in_flow}
 use Rattle.cq_simulate.proofs.Departed.{all_cells, came_as, left_in_packets}
 use Rattle.cq_simulate.proofs.FabricLaws.{slot_by_slot}
-use Rattle.cq_simulate.proofs.OfPackets.{by_packet, line_cells, packets_come}
+use Rattle.cq_simulate.proofs.OfPackets.{by_packet, flow_in_line, line_cells, packet_cells, packets_come}
 use Rattle.cq_simulate.proofs.Runnable.{runnable}
 use Rattle.cq_simulate.specs.EachPacket.{EachPacketOnce, number_for, number_from, output_of, times_left, times_refused}
-use Rattle.cq_simulate.proofs.Tallies.{all_in_row, sum_by_both, sum_by_same, tally, tally-map, tally_both, tally_by_parts, tally_of_kind, tally_same, one_is, one_where}
+use Rattle.cq_simulate.proofs.Tallies.{filter_images, filter_same, kinds_summed, of_kind, one_is, one_where, tally, tally_turned, tests_turned}
 
 -- Each packet leaves its output or is refused there, once, and so are all of them together. Where a packet is one of
 -- those that are taken in at its input its last cell leaves in its flow, and where it is not its first cell is one of
@@ -28,46 +28,10 @@ pub record IsOfPacket (t : Tables) (captures : List (List Captured)) (cell : Cel
   pub output : cell.output ≡ output_of t captures cell.id.input cell.id.packet
   pub class : cell.class ≡ class_of t captures cell.id.input cell.id.packet
 
-module _ (t : Tables) (captures : List (List Captured)) where
-  -- ## All cells that come
-
-  pub all_of_packets : AllByRecursion (λ a. IsOfPacket t captures a.cell) (arrivals t captures)
-  unfolding cell_of
-  all_of_packets = all_cells t captures (λ a. IsOfPacket t captures a.cell) (search (arith, rules))
-
-  module _ (input k : ℕ) (inside : k < length (packets_of captures input)) where
-    -- ## Those of one packet
-
-    of_packet : (p : Cell → Bool) →
-        tally (λ a. a.cell.id.packet == k && p a.cell) (arrivals_at t captures input)
-        ≡ tally (λ i. p (cell_of t captures input k i)) (range_with_len 0 (cells t captures input k))
-    unfolding arrivals_at cell_of
-    of_packet p =
-        let one = one_is k 0 (length (packets_of captures input)) (omega arith) (omega arith) in
-        let ks = range_with_len 0 (length (packets_of captures input)) in
-        let line = flat_map (arrivals_of t captures input) ks in
-        let own : Cell → Bool = λ cell. cell.id.packet == k in
-        let here = by_packet t captures input own (λ n. n == k) (λ n m. refl) ks in
-        let both = tally_both p own (map (λ (a : Arrival). a.cell) line) in
-        let images = tally-map (λ cell. own cell && p cell) (λ (a : Arrival). a.cell) line in
-        let its = tally-map p (cell_of t captures input k) (range_with_len 0 (cells t captures input k)) in
-        grind (arith, common_steps, append-nil, line_cells)
-
-    -- of its cells for an output the one at this place: there is one, if the packet goes there
-    pub one_cell : (own : Cell → Bool) (place j : ℕ) → place < cells t captures input k →
-        ((i : ℕ) → own (cell_of t captures input k i) ≡ (i == place)) →
-        tally (λ a. a.cell.id.packet == k && (a.cell.output == j && own a.cell)) (arrivals_at t captures input)
-        ≡ bit (output_of t captures input k == j)
-    unfolding cell_of
-    one_cell own place j within same =
-        let there = of_packet (λ cell. cell.output == j && own cell) in
-        let one = one_where (output_of t captures input k == j) (cells t captures input k) place within in
-        search (arith, rules, there, one, filter_agree, same)
-
--- ## Tests of a cell, in another order
-
-input_first : (here input packet : Bool) → (here && (input && packet)) ≡ (input && (packet && here))
-input_first here input packet = grind (arith, common_steps)
+pub all_of_packets : (t : Tables) (captures : List (List Captured)) →
+    AllByRecursion (λ a. IsOfPacket t captures a.cell) (arrivals t captures)
+unfolding cell_of
+all_of_packets t captures = all_cells t captures (λ a. IsOfPacket t captures a.cell) (search (arith, rules))
 
 -- ## One packet, then all
 
@@ -77,6 +41,9 @@ module _ (t : Tables) (captures : List (List Captured)) (sent : List Departure) 
     (lost : AllByRecursion (IsOfPacket t captures) refused) where
   module _ (input k j : ℕ) (in_captures : input < length captures)
       (in_packets : k < length (packets_of captures input)) where
+    abbrev its : List Cell
+    its = packet_cells t captures input k
+
     abbrev class : ℕ
     class = class_of t captures input k
 
@@ -84,106 +51,115 @@ module _ (t : Tables) (captures : List (List Captured)) (sent : List Departure) 
     abbrev goes : Bool
     goes = output_of t captures input k == j
 
-    abbrev ends : Cell → Bool
-    ends cell = cell.id.packet == k && cell.last
+    abbrev taken : ℕ → Bool
+    taken = (parted input in_captures).is_taken
 
-    -- the test of a cell that begins it there
+    abbrev of_input : Cell → Bool
+    of_input cell = cell.id.input == input
+
+    abbrev own : Cell → Bool
+    own cell = cell.id.packet == k
+
+    -- the tests of a cell of its flow, and of one that begins it at the output
+    abbrev in_flow : Cell → Bool
+    in_flow cell = cell.output == j && cell.class == class
+
     abbrev begins : Cell → Bool
-    begins cell = cell.id.packet == k && (cell.output == j && is_first cell)
+    begins cell = cell.output == j && is_first cell
+
+    -- of what comes to the input its cells are those of its number, and of its flow those too
+    in_line : filter own (came_at input (arrivals t captures)) ≡ its
+    unfolding arrivals_at cell_of
+    in_line =
+        let ks = range_with_len 0 (length (packets_of captures input)) in
+        let one = one_is k 0 (length (packets_of captures input)) (omega arith) (omega arith) in
+        let here = by_packet t captures input own (λ n. n == k) (λ n m. refl) ks in
+        grind (arith, common_steps, append-nil, line_cells, at_input)
+
+    in_its_flow : filter own (came_in_flow input class j (arrivals t captures)) ≡ filter in_flow its
+    in_its_flow =
+        let line = came_at input (arrivals t captures) in
+        let both = filter_both in_flow own line in
+        cc (flow_in_line t captures input class j (arrivals t captures), tests_turned own in_flow line, in_line)
+
+    -- of its cells for an output the one at this place: there is one, if the packet goes there
+    one_cell : (p : Cell → Bool) (place : ℕ) → place < cells t captures input k →
+        ((i : ℕ) → p (cell_of t captures input k i) ≡ (goes && i == place)) → tally p its ≡ bit goes
+    one_cell p place within same =
+        let row = range_with_len 0 (cells t captures input k) in
+        let images = filter_images p (cell_of t captures input k) row in
+        search (arith, rules, images, length-map, one_where goes, filter_agree p, same)
+
+    last_one : tally (λ cell. in_flow cell && cell.last) its ≡ bit goes
+    unfolding cell_of cells
+    last_one =
+        let some = cells_above (length (packet_at captures input k).body) t.cell_bytes in
+        one_cell _ (cells t captures input k - 1) (omega arith) (λ i. grind (arith, common_steps, cases_eq, eq-eqb, ne_eqb))
+
+    first_one : tally begins its ≡ bit goes
+    unfolding cell_of cells
+    first_one = one_cell begins 0 (cells_above (length (packet_at captures input k).body) t.cell_bytes) (λ i. refl)
 
     -- in the flow of its class it is the only packet of its number
-    flow_test : (here : Bool) (cell : Cell) → IsOfPacket t captures cell →
-        ((here && (cell.id.input == input && cell.class == class)) && ends cell)
-        ≡ ((here && cell.last) && (cell.id.input == input && cell.id.packet == k))
-    flow_test here cell of = grind (arith, common_steps)
+    flow_test : (d : Departure) → IsOfPacket t captures d.queued.cell →
+        (ends_packet_at j d && (of_input d.queued.cell && own d.queued.cell))
+        ≡ (leaves_in_flow input class j d && (own d.queued.cell && d.queued.cell.last))
+    flow_test d of = grind (arith, common_steps)
 
-    -- its last cell came in its flow, if it goes here
-    came_last : tally ends (came_in_flow input class j (arrivals t captures)) ≡ bit goes
-    unfolding cell_of cells
-    came_last =
-        let some : 0 < cells t captures input k = cells_above (length (packet_at captures input k).body) t.cell_bytes in
-        let in_line : Arrival → Bool = λ a. a.cell.id.packet == k && (a.cell.output == j && a.cell.last) in
-        tally-map ends (λ (a : Arrival). a.cell) (filter (comes_in_flow input class j) (arrivals t captures))
-        ∙ tally_both (λ (a : Arrival). ends a.cell) (comes_in_flow input class j) (arrivals t captures)
-        ∙ tally_same (λ a. comes_in_flow input class j a && ends a.cell) (λ a. is_from input a && in_line a)
-        (arrivals t captures) (search (arith, rules, all_weaker, flow_test, input_first, all_of_packets))
-        ∙ sym (tally_both in_line (is_from input) (arrivals t captures))
-        ∙ ap (tally in_line) (at_input t captures input in_captures)
-        ∙ one_cell t captures input k in_packets (λ cell. cell.last) (cells t captures input k - 1) j (omega arith)
-        (λ i. search (arith, rules, cases_eq i (cells t captures input k - 1), eq-eqb, ne_eqb))
-
-    -- and so did its first
-    came_first : tally begins (came_at input (arrivals t captures)) ≡ bit goes
-    unfolding cell_of cells
-    came_first =
-        search (arith, rules, tally-map, at_input, one_cell t captures input k in_packets is_first 0 j, cells_above)
-
-    leaves : times_left input k j sent ≡ cond ((parted input in_captures).is_taken k) (bit goes) 0
+    leaves : times_left input k j sent ≡ cond (taken k) (bit goes) 0
     leaves =
         let p = parted input in_captures in
-        sym
-        (search (arith, rules, tally-map, tally_both, tally_same, all_weaker, flow_test))
-        ∙ ap (tally ends) (p.left class j)
-        ∙ tally_of_kind (λ (cell : Cell). cell.id.packet) k p.is_taken (λ cell. cell.last)
-        (came_in_flow input class j (arrivals t captures)) ∙ ap (λ (n : ℕ). cond (p.is_taken k) n 0) came_last
+        let gone = left_in_flow input class j sent in
+        let ends : Cell → Bool = λ cell. own cell && cell.last in
+        let its_own = of_kind (λ (cell : Cell). cell.id.packet) k taken
+        (came_in_flow input class j (arrivals t captures)) in
+        let own_gone : filter own gone ≡ cond (taken k) (filter in_flow its) [] = cc (p.left class j, in_its_flow) in
+        let images = filter_images ends (λ (d : Departure). d.queued.cell) (filter (leaves_in_flow input class j) sent) in
+        let both = filter_both (λ (d : Departure). ends d.queued.cell) (leaves_in_flow input class j) sent in
+        let same = filter_same _ _ sent (all_weaker _ _ flow_test sent left) in
+        let last = filter_both (λ (cell : Cell). cell.last) own gone in
+        let last_its = filter_both (λ (cell : Cell). cell.last) in_flow its in
+        grind (arith, common_steps, length-map, last_one)
 
-    is_refused : times_refused input k j refused ≡ cond (not ((parted input in_captures).is_taken k)) (bit goes) 0
+    is_refused : times_refused input k j refused ≡ cond (not (taken k)) (bit goes) 0
     is_refused =
         let p = parted input in_captures in
-        let at = λ (cell : Cell). cell.id.input == input in
-        let here = λ (cell : Cell). cell.output == j && is_first cell in
-        let same = tally_same (λ cell. here cell && (at cell && cell.id.packet == k)) (λ cell. at cell && begins cell)
-        refused (search (arith, rules, all_weaker, input_first)) in
-        let its = tally_of_kind (λ (cell : Cell). cell.id.packet) k (λ n. not (p.is_taken n)) here
+        let its_own = of_kind (λ (cell : Cell). cell.id.packet) k (λ n. not (taken n))
         (came_at input (arrivals t captures)) in
-        cc (tally_both begins at refused, p.others, came_first)
+        let own_lost : filter own (filter of_input refused) ≡ cond (not (taken k)) its [] = cc (p.others, in_line) in
+        let turned = tally_turned begins (λ (cell : Cell). of_input cell && own cell) refused in
+        let both = filter_both own of_input refused in
+        grind (arith, common_steps, first_one)
 
     pub each_once : times_left input k j sent + times_refused input k j refused ≡ bit goes
     each_once = search (arith, rules, leaves, is_refused, bit)
 
   module _ (j : ℕ) where
-    abbrev packets : ℕ → List ℕ
-    packets input = range_with_len 0 (length (packets_of captures input))
+    -- the cells with which a packet leaves the output, or is refused there
+    abbrev ends_or_begins : List Cell
+    ends_or_begins = map (λ (d : Departure). d.queued.cell) (filter (ends_packet_at j) sent)
+        ++ filter (λ cell. cell.output == j && is_first cell) refused
 
-    -- these numbers of all packets of all inputs
-    abbrev summed : (ℕ → ℕ → ℕ) → ℕ
-    summed f = sum_by (λ input. sum_by (f input) (packets input)) (range_with_len 0 (length captures))
-
-    abbrev lefts : ℕ → ℕ → ℕ
-    lefts input k = times_left input k j sent
-
-    abbrev refusals : ℕ → ℕ → ℕ
-    refusals input k = times_refused input k j refused
-
-    written : length (packets_out t captures sent j) ≡ summed lefts
-    unfolding packets_out
-    written = length-map (filter (ends_packet_at j) sent) (leaving t captures)
-        ∙ tally_by_parts (ends_packet_at j) (λ d. d.queued.cell.id.input) (λ d. d.queued.cell.id.packet)
-        (length captures) (λ i. length (packets_of captures i)) sent (search (arith, rules, all_weaker))
-
-    counted : packets_refused j refused ≡ summed refusals
-    unfolding packets_refused
-    counted = tally_by_parts (λ cell. cell.output == j && is_first cell) (λ cell. cell.id.input)
-        (λ cell. cell.id.packet) (length captures) (λ i. length (packets_of captures i)) refused
-        (search (arith, rules, all_weaker))
+    all_of : AllByRecursion (IsOfPacket t captures) ends_or_begins
+    all_of = search (rules, all_both, of_images, all_filter)
 
     from_input : (input : ℕ) → input < length captures →
-        sum_by (lefts input) (packets input) + sum_by (refusals input) (packets input) ≡ number_from t captures j input
+        tally (λ cell. cell.id.input == input) ends_or_begins ≡ number_from t captures j input
     from_input input inside =
-        let goes : ℕ → ℕ = λ k. bit (output_of t captures input k == j) in
-        sym (sum_by_both (lefts input) (refusals input) (packets input))
-        ∙ sum_by_same (λ k. lefts input k + refusals input k) goes (packets input)
-        (all_in_row _ 0 (length (packets_of captures input)) (λ k less. each_once input k j inside (omega arith)))
-        ∙ sym (length-filter (λ k. output_of t captures input k == j) (packets input))
+        let many = length (packets_of captures input) in
+        let goes : ℕ → Bool = λ k. output_of t captures input k == j in
+        kinds_summed (λ (cell : Cell). cell.id.packet) (λ k. bit (goes k)) 0 many
+        (filter (λ cell. cell.id.input == input) ends_or_begins) (search (arith, rules, kept_has, all_of, all_of_has, eqb-true))
+        (λ k _ below. rw filter_both (simp (filter-append, filter_images, filter_both, length-append, length-map)
+        (each_once input k j inside (omega arith))))
+        ∙ sym (length-filter goes (range_with_len 0 many))
 
     pub all_once : length (packets_out t captures sent j) + packets_refused j refused ≡ number_for t captures j
+    unfolding packets_out packets_refused
     all_once =
-        let left : ℕ → ℕ = λ input. sum_by (lefts input) (packets input) in
-        let lost : ℕ → ℕ = λ input. sum_by (refusals input) (packets input) in
-        let inputs = range_with_len 0 (length captures) in
-        let same = sum_by_same (λ input. left input + lost input) (number_from t captures j) inputs
-        (all_in_row _ 0 (length captures) (λ input less. from_input input (omega arith))) in
-        cc (written, counted, sum_by_both left lost inputs, sum-map (number_from t captures j) inputs)
+        let all = kinds_summed (λ (cell : Cell). cell.id.input) (number_from t captures j) 0 (length captures)
+        ends_or_begins (search (arith, rules, all_of, all_of_has)) (λ input _ below. from_input input (omega arith)) in
+        grind (arith, common_steps, length-append, length-map, sum-map)
 
 -- What is refused has come: slot by slot the refused cells are some of those that arrive, and these are some of the
 -- arrivals. So what holds of each cell that comes holds of each that is refused.

@@ -109,7 +109,7 @@ module _ (t : Tables) (captures : List (List Captured)) (input : ℕ) where
   abbrev in_flow : ℕ → ℕ → Cell → Bool
   in_flow c j cell = cell.output == j && cell.class == c
 
-  flow_in_line : (c j : ℕ) (came : List Arrival) → came_in_flow input c j came
+  pub flow_in_line : (c j : ℕ) (came : List Arrival) → came_in_flow input c j came
       ≡ filter (in_flow c j) (map (λ (a : Arrival). a.cell) (filter (is_from input) came))
   flow_in_line c j [] = refl
   flow_in_line c j (a ∷ came) = grind (arith, common_steps, flow_in_line c j came)

@@ -105,7 +105,7 @@ unfoldable pub use Rattle.cq_simulate.specs.Packets.{packets_out}
 pub use Rattle.cq_simulate.specs.Pieces.{CanBeJoined, Fits, IsCaptured, IsEmptied, JoinsOn, Took, left_with, opened, piece_at, records_of}
 pub use Rattle.cq_simulate.specs.{declared.fabric_run.PackedFabricRun.PackedFabricRun, declared.refusal.RunRefusal.RunRefusal}
 pub use Rattle.cq_simulate.specs.Terms.{AreTables, CanBeTakenUp, Cell, FabricRun, GoesOnFrom, IsFreshFor, IsQuiet, IsReady, IsResumeFault, IsScheduleFor, IsSetup, NoneCome, Tables, classes_of, kept_of, ports_of}
-pub use Rattle.cq_base.proofs.Each.{all_filter, all_weaker, all_flat, all_made, filter_all, filter_none}
+pub use Rattle.cq_base.proofs.Each.{all_both, all_filter, all_weaker, all_flat, all_made, filter_all, filter_none, of_images}
 pub use Rattle.cq_base.specs.{declared.figures.OutputFigures.OutputFigures, declared.packed.PackedDeparture.PackedDeparture, declared.setup.Kind.Kind, declared.setup.Kind.TheVariants.FirstCome}
 pub use Rattle.cq_base.proofs.Keys.{key_laws}
 pub use Rattle.cq_pcap.proofs.Writing.{written_with}
