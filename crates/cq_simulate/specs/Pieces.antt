@@ -1,6 +1,6 @@
 -- Only proofs use this.
--- The pieces of the cells of captured packets, and what is open of a packet after some of its cells were taken.
-use Rattle.std.specs.Prelude.{ℕ, ◌≡◌, ◌+◌, ◌<◌, ◌≤◌, true, if◌then◌else◌, List, [], ◌∷◌, ◌++◌, length, take, drop, Option, None, Some, IfSome}
+-- The pieces of the cells of captured packets, and how they fit what is open of a packet, one after another.
+use Rattle.std.specs.Prelude.{ℕ, ◌≡◌, ◌+◌, ◌<◌, ◌≤◌, true, if◌then◌else◌, List, [], ◌∷◌, ◌++◌, length, take, drop, Option, None, Some, IfSome, ⊤}
 use Rattle.cq_base.specs.declared.cell.Cell.{Cell}
 use Rattle.cq_cells.specs.Schedule.{packet_at, packets_of}
 use Rattle.cq_pcap.specs.Captured.{Captured, longest_body}
@@ -23,11 +23,6 @@ pub record IsCaptured (captures : List (List Captured)) (cell : Cell) : Type 0 w
   pub packet : cell.id.packet < length (packets_of captures cell.id.input)
   pub piece : cell.at + cell.len ≤ length (packet_at captures cell.id.input cell.id.packet).body
 
--- what is open after these cells were taken, where this was open before
-abbrev pub opened : List (List Captured) → Option Open → List Cell → Option Open
-opened captures was [] = was
-opened captures was (cell ∷ cells) = opened captures (open_after was cell (piece_at captures cell)) cells
-
 -- the cell is the next, none is open if it is the first, and if it is the last all pieces of its packet are together
 -- with it
 pub record Fits (captures : List (List Captured)) (was : Option Open) (cell : Cell) : Type 0 where
@@ -35,6 +30,12 @@ pub record Fits (captures : List (List Captured)) (was : Option Open) (cell : Ce
   pub first : cell.id.index ≡ 0 → was ≡ None
   pub whole : cell.last ≡ true →
       bytes_taken was ++ piece_at captures cell ≡ (packet_at captures cell.id.input cell.id.packet).body
+
+-- each of these cells fits what those before it leave open, where this was open before
+abbrev pub AllFit : List (List Captured) → Option Open → List Cell → Type 0
+AllFit captures was [] = ⊤
+AllFit captures was (cell ∷ cells) =
+    Fits captures was cell × AllFit captures (open_after was cell (piece_at captures cell)) cells
 
 -- what leaves with the cell that departs: its packet, if it is the last
 abbrev pub left_with : Tables → List (List Captured) → Departure → Option OutPacket

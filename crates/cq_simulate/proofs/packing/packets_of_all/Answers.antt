@@ -1,9 +1,9 @@
-use Rattle.cq_simulate.proofs.Terms.{rules, length, ap, arith}
+use Rattle.cq_simulate.proofs.Terms.{rules, length, ap, arith, packets_out}
 use Rattle.cq_simulate.proofs.AllPacked.{all_packed, at_port, can_take, none_yet, one_more}
 use Rattle.cq_simulate.proofs.packing.packets_of_all.Goals as goal
 
 pub departures-init : goal.departures-init
-departures-init c = search (arith, rules, none_yet)
+departures-init c = search (arith, rules, none_yet c.requires)
 
 pub index_mut-requires : goal.index_mut-requires
 index_mut-requires c =
@@ -24,4 +24,5 @@ departures-preserved c =
     c.index_mut.ensures.value c.take.new.self c.in_ok-take.ensures
 
 pub returns : goal.returns
+unfolding packets_out
 returns c = search (arith, rules, all_packed)
