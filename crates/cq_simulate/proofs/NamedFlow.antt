@@ -156,9 +156,6 @@ module _ (w : Switch) (s : State) (i : ℕ) (whole : AreWholePackets w s)
   of_line : (a : Arrival) → Has before a → OfLine a
   of_line a has = grind (arith, common_steps, kept_has, eqb-true, ltb-true)
 
-  to_line : (a : Arrival) → OfLine a → Has before a
-  to_line a of = grind (arith, common_steps, has_kept, eq-eqb, lt-ltb)
-
   -- a cell of the same packet that came before the slot is among those of which the state is asked
   in_packet : (f a : Arrival) → OfLine f → OfLine a → packet f ≡ packet a → Has (packet_before w.came s.head.next f) a
   in_packet f a first of same = search (rules, has_kept, and_from, a.cell.id.input, packet, eq-eqb, lt-ltb)
@@ -187,8 +184,8 @@ module _ (w : Switch) (s : State) (i : ℕ) (whole : AreWholePackets w s)
   rise : EachPair Rises before
   rise = both_rise 0 before (pairs_kept IsEarlier (is_early s.head.next) line rising) packets_parted.0
 
-  of_first : (a : Arrival) → Has (firsts_at w.came s i) a → OfLine a × (a.cell.id.index ≡ 0)
-  of_first a has = grind (arith, common_steps, kept_has, and_parts, eqb-true, ltb-true)
+  of_first : (a : Arrival) → Has (firsts_at w.came s i) a → Has before a × (a.cell.id.index ≡ 0)
+  of_first a has = grind (arith, common_steps, kept_has, and_parts, eqb-true, ltb-true, has_kept)
 
   -- the packet that goes on is named exactly where the mark is down
   pub mark_says : (a : Arrival) → Has before a → packet a + 1 ≡ begin_from →
@@ -201,11 +198,10 @@ module _ (w : Switch) (s : State) (i : ℕ) (whole : AreWholePackets w s)
       let found = latest_is (firsts_at w.came s i) f there in
       let g = found.0 in
       let first = of_first g found.2.has in
-      let g_has : Has before g = to_line g first.0 in
       let most = within 0 0 before (omega arith) packets_parted.0 in
-      let high = all_of_has _ before g most.1 g_has in
+      let high = all_of_has _ before g most.1 first.0 in
       let low : packet f ≤ packet g = search (arith, rules, packet, pair_of_has, rise, found.2.after f there) in
-      search (arith, rules, any_alike is_told (is_told g), in_packet, one_answer g, alike g a)
+      search (arith, rules, any_alike is_told (is_told g), of_line, in_packet, one_answer g, alike g a)
 
   -- ## Together
 
@@ -292,16 +288,11 @@ module _ (w : Switch) (s : State) (in_range : IsInRange s) (shape : HasShape w s
       pub output : q.cell.output ≡ j
       pub kind : is_kind i c q ≡ true
 
-    record WasSent (q : Queued) : Type 0 where
-      pub sent : Sent
-      pub has : Has s.sent sent
-      pub of : InFlow sent.cell q
-
     sent_in_flow : (d : Sent) (x : Departure) → departure_of w.came d ≡ Some x → leaves x ≡ true →
         InFlow d.cell x.queued
     sent_in_flow d x is passes = grind (arith, common_steps, and_parts, x.output, is_kind, eqb-true)
 
-    was_sent : (q : Queued) → Has gone q → WasSent q
+    was_sent : (q : Queued) → Has gone q → (d : Sent) × Has s.sent d × InFlow d.cell q
     was_sent q has = grind (arith, common_steps, image_has, kept_has, looked_up, sent_in_flow)
 
     waits : (q : Queued) → Has waiting q → (n : Named) × Has (queued_in s) n × InFlow n q
@@ -378,8 +369,8 @@ module _ (w : Switch) (s : State) (in_range : IsInRange s) (shape : HasShape w s
     sent_earlier q r first second =
         let a = was_sent q first in
         let b = waits r second in
-        let all = all_has (λ (d : Sent). All (After d.cell) (queued_in s)) s.sent a.sent sound.flows.after a.has in
-        search (arith, rules, one_flow, slot_is, all_has (After a.sent.cell) (queued_in s) b.0)
+        let all = all_has (λ (d : Sent). All (After d.cell) (queued_in s)) s.sent a.0 sound.flows.after a.1 in
+        search (arith, rules, one_flow, slot_is, all_has (After a.0.cell) (queued_in s) b.0)
 
     told_rise : EachPair IsEarlier (map as_arrival (gone ++ waiting))
     told_rise = search (rules, pairs_mapped, IsEarlier, pairs_joined, gone_rise, waiting_rise, sent_earlier)
@@ -418,8 +409,8 @@ module _ (w : Switch) (s : State) (in_range : IsInRange s) (shape : HasShape w s
     has_told x has =
         let image = image_has as_arrival (gone ++ waiting) x has in
         let q = image.0 in
-        let sent = λ (it : WasSent q). one_of_names it.sent.cell q (has_right (queued_in s) _ it.sent.cell
-        (has_image (λ (d : Sent). d.cell) s.sent it.sent it.has)) it.of in
+        let sent = λ (d : Sent) (has : Has s.sent d). one_of_names d.cell q (has_right (queued_in s) _ d.cell
+        (has_image (λ (d : Sent). d.cell) s.sent d has)) in
         let named = queued_named w s in_range shape sound traffic in
         search (arith, rules, to_told, has_cases gone waiting q image.1, was_sent q, sent, waits q, one_of_names, named)
 
