@@ -2,20 +2,15 @@
 -- state says was sent, and then what waits in it, are the arrivals that it names, in their order. What waits leaves
 -- first, as it does from the list of the ideal switch beside it, and then what is admitted of what comes. A packet
 -- that the state names is named with all its cells, and goes on as it began.
-use Rattle.cq_simulate.proofs.Terms.{rules, ◌≡◌, ℕ, ◌+◌, ◌<◌, ◌≤◌, Bool, not, List, [], ◌∷◌, ◌++◌, length, filter, Option, refl, sym, ap, ◌∙◌, ⊎_elim, arith, common_steps, All, AllByRecursion, cases_lt, append_assoc, map-append, take_all, filter-append, get_or-map-range_with_len, Arrival, Cell, traffic_is, arrivals, schedule_of, IsTraffic, come_in_order, comes_at_input, AreOfClasses, present, flow_came, no_port, is_of_flow, of_flow, shown, is_run_of, comes_from, line_at, rest_of, Marked, arriving_from, IsRunnable, came_in_flow, comes_in_flow, left_in_flow, departures_of, IdealState, LimitedRan, AreOfPackets, cells_at, agrees_of, empty_together, Agrees, Fabric, ideal_of, LimitedRunsAlike, LimitedFabricRun, LimitedRecord, admissions_in, slots_in, gone_in, Captured, list_of, IsInputBest, machine_at, firsts_at, frozen_told, is_refused, latest, marks_told, sent_told, taken_of, IsResumed, Kept, RunsOn, IsSound, HasShape, Switch, switch_of, fabric_told, is_named, named_in, Taken, EachPair, GoesOn, goes_on, all_from_has, AreTables, classes_of, ports_of, Tables, openings_of, LeaveInOrder, LeaveWhole, LeftInOrder, CanBeTakenUp, IsInRange, State, slots_fit, all_filter, all_in_range, class_in_slot, none_came, flow_on, whole_on, StandAt, stand_in, best_act_alike, most_ports, filter_both, filter_agree}
+use Rattle.cq_simulate.proofs.Terms.{rules, ◌≡◌, ℕ, ◌+◌, ◌<◌, ◌≤◌, Bool, not, List, [], ◌∷◌, ◌++◌, length, filter, Option, refl, ap, ◌∙◌, ⊎_elim, arith, common_steps, All, AllByRecursion, cases_lt, append_assoc, map-append, take_all, filter-append, get_or-map-range_with_len, Arrival, Cell, traffic_is, arrivals, schedule_of, IsTraffic, come_in_order, comes_at_input, AreOfClasses, present, flow_came, no_port, is_of_flow, of_flow, shown, is_run_of, comes_from, line_at, rest_of, Marked, arriving_from, IsRunnable, came_in_flow, comes_in_flow, left_in_flow, departures_of, IdealState, LimitedRan, AreOfPackets, cells_at, agrees_of, empty_together, Agrees, Fabric, ideal_of, LimitedRunsAlike, LimitedFabricRun, LimitedRecord, admissions_in, slots_in, gone_in, Captured, list_of, IsInputBest, machine_at, firsts_at, frozen_told, is_refused, latest, marks_told, sent_told, taken_of, IsResumed, Kept, RunsOn, IsSound, HasShape, Switch, switch_of, fabric_told, is_named, named_in, Taken, EachPair, GoesOn, goes_on, AreTables, classes_of, ports_of, Tables, openings_of, LeaveInOrder, LeaveWhole, LeftInOrder, CanBeTakenUp, IsInRange, State, slots_fit, all_filter, all_in_range, class_in_slot, none_came, flow_on, whole_on, StandAt, stand_in, best_act_alike, most_ports, filter_both, filter_agree, of_images}
 use Rattle.cq_ideal.proofs.RestAtInput.{cells_of}
 use Rattle.cq_simulate.proofs.NamedFlow.{line_rises, told_flow, stands_there, IsEarlier, early_of, is_taken, packets_behind, parted_at, taken_before, taken_behind, next_after, packet}
 use Rattle.cq_simulate.proofs.OfPackets.{as_packets, none_at, none_from, packets_come}
 use Rattle.cq_simulate.proofs.Runnable.{right_classes, runnable}
 use Rattle.cq_simulate.proofs.TakenUp.{machines_many}
+use Rattle.cq_simulate.proofs.Tallies.{filter_images, filter_same}
 
 -- ## Cells of arrivals
-
--- a test of cells is one of their arrivals
-cells_kept : (p : Cell → Bool) (q : Arrival → Bool) (xs : List Arrival) →
-    AllByRecursion (λ a. p a.cell ≡ q a) xs → filter p (cells_of xs) ≡ cells_of (filter q xs)
-cells_kept p q [] same = refl
-cells_kept p q (a ∷ xs) same = grind (arith, common_steps, cells_kept p q xs same.1)
 
 -- the arrivals of a flow come to its input
 flow_at : (i c j : ℕ) (came : List Arrival) →
@@ -181,14 +176,15 @@ module _ (t : Tables) (captures : List (List Captured)) (are : AreTables t) (man
       waits = shown i c (list_of (ideal_of f).lists j)
 
       early_taken : filter takes_cell (cells_of (filter flow early)) ≡ cells_of told
-      early_taken = cells_kept takes_cell named (filter flow early) (all_filter (λ a. takes (packet a) ≡ named a) flow
-          early (taken_before w s i sound.packets rises line_is.0 taken goes_as_marked))
+      early_taken =
+          let test = filter_same (λ (a : Arrival). takes (packet a)) named (filter flow early) in
+          let own = filter_images takes_cell (λ (a : Arrival). a.cell) (filter flow early) in
+          search (arith, rules, own, test, all_filter, taken_before w s i sound.packets rises line_is.0 taken goes_as_marked)
 
       late_taken : filter takes_cell later ≡ filter taken_cell later
       late_taken =
-          let same = all_filter _ flow late (taken_behind w s i sound.packets rises line_is.0 taken goes_as_marked) in
-          cells_kept takes_cell (λ a. taken (packet a)) (filter flow late) same
-          ∙ sym (cells_kept taken_cell (λ a. taken (packet a)) (filter flow late) (all_from_has _ _ (λ _ _. refl)))
+          let all = all_filter _ flow late (taken_behind w s i sound.packets rises line_is.0 taken goes_as_marked) in
+          filter_same takes_cell taken_cell later (of_images (λ (a : Arrival). a.cell) _ (filter flow late) all)
 
       takes_parts : filter takes_cell (came_in_flow i c j came) ≡ cells_of told ++ filter taken_cell later
       takes_parts =
@@ -198,7 +194,7 @@ module _ (t : Tables) (captures : List (List Captured)) (are : AreTables t) (man
       flow_late : flow_came i c j slots ≡ later
       unfolding of_flow
       flow_late = comes_at_input i c j slots stand ∙ ap (filter (is_of_flow i c j)) line_is.1
-          ∙ cells_kept (is_of_flow i c j) flow late (all_from_has _ late (λ _ _. refl))
+          ∙ filter_images (is_of_flow i c j) (λ (a : Arrival). a.cell) late
 
       -- ## What left
 
