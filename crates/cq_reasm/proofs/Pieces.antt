@@ -1,7 +1,7 @@
 -- The pieces of consecutive cells are consecutive stretches of the frame, so the pieces of as many cells as the frame
 -- needs are all of it. A last piece that is cut off at the frame's end is the same as one of full length, since
 -- nothing follows.
-use Rattle.cq_reasm.proofs.Terms.{common_steps, ◌≡◌, ℕ, ◌+◌, ◌*◌, ◌/◌, ◌%◌, ◌≤◌, min, div_ceil_times, List, [], ◌∷◌, length, take, drop, arith, suc, take_min, take_all, length-drop, drop-drop, mul-le-mul_right, take-add, Piece}
+use Rattle.cq_reasm.proofs.Terms.{common_steps, ◌≡◌, ℕ, ◌+◌, ◌*◌, div_ceil_times, List, [], ◌∷◌, length, take, drop, arith, suc, take_min, take_all, length-drop, drop-drop, take-add, Piece}
 unfoldable use Rattle.cq_base.specs.Pieces.{cells_of}
 use Rattle.cq_reasm.specs.Cutting.{IsCutFrom, AreCutFrom, joined_pieces, PiecesGiveFrame}
 
@@ -22,8 +22,5 @@ stretch frame cell_bytes first (x ∷ pieces) h =
 pub pieces_give_frame : PiecesGiveFrame
 unfolding cells_of
 pieces_give_frame frame cell_bytes pieces h cut count =
-    let needed : ℕ = length frame / cell_bytes + min 1 (length frame % cell_bytes) in
-    let many : needed ≤ length pieces = omega (arith, count) in
     let room = div_ceil_times (length frame) cell_bytes h in
-    let more = mul-le-mul_right cell_bytes many in
     grind (arith, common_steps, stretch, take_all)

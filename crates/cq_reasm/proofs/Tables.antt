@@ -106,8 +106,7 @@ module _ (old new : Slab OpenPacket) (keys : List (Option ℕ)) (seen : List (Op
         search (arith, rules, inside, shown_elsewhere, kept_present, not_elsewhere, left, get_or-set_same)
 
     pub closed_seen : map (packet_under new) (set keys place None) ≡ set seen place None
-    closed_seen = seen_at_one (packet_under old) (packet_under new) keys place None None None refl
-        (λ q l ne. seen_elsewhere q ne) ∙ ap (λ s. set s place None) view
+    closed_seen = search (arith, rules, seen_at_one (packet_under old) (packet_under new), view, seen_elsewhere)
 
   -- a packet comes under a key that had none
   module _ (is : read ≡ None) (vacant : get old key ≡ None) (now : Open)
@@ -129,19 +128,17 @@ module _ (old new : Slab OpenPacket) (keys : List (Option ℕ)) (seen : List (Op
 
     -- what was in the slab stands where it stood, and the new packet at this place
     pub started_table : IsTable new (set keys place (Some key))
-    started_table = record {
-      present = λ p k e. let stood = stands p k e in
-          grind (arith, common_steps, present_now, kept_present, table.present);
-      apart = λ p q k e f.
-          let a = stands p k e in let b = stands q k f in grind (arith, common_steps, table.apart p q k);
-      placed = λ k h. ⊎_elim
-          (λ same. (place, cc (get_or-set_same keys place (Some key) None inside)))
-          (λ ne.
-          let was = table.placed k (was_present k ne h) in
-          let away : was.0 ≢ place = λ same. cc (rw same at was.1, none) in
-          (was.0, cc (get_or-set_other keys place was.0 (Some key) None away)))
-          (cases_eq k key);
-    }
+    started_table =
+        record {
+          present = search (arith, rules, stands, present_now, kept_present, table.present);
+          apart = search (arith, rules, stands, table.apart);
+          placed = λ k h. ⊎_elim
+              (λ same. (place, (search (arith, rules, get_or-set_same, inside))))
+              (λ ne.
+              let was = table.placed k (was_present k ne h) in
+              (was.0, (search (arith, rules, get_or-set_other, none))))
+              (cases_eq k key);
+        }
 
     pub started_seen : map (packet_under new) (set keys place (Some key)) ≡ set seen place (Some now)
     started_seen = seen_at_one (packet_under old) (packet_under new) keys place (Some key) None (Some now) stored
