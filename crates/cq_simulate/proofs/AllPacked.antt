@@ -1,13 +1,12 @@
 -- Packets that are put together at all outputs in one pass. While some departures are left, each output stands where a
 -- walk over its own departures would stand (`SoFar`), with the packets of that walk in its bytes (`Walked`). One
 -- departure more goes on with the walk at its output, and passes by those at all others.
-use Rattle.cq_simulate.proofs.Terms.{cons_option, Has, append_assoc, all_from_has, rules, ◌≡◌, ◌≢◌, ℕ, ◌+◌, ◌<◌, ◌≤◌, All, List, [], ◌∷◌, ◌++◌, length, map, drop, get_or, set, Option, Some, None, refl, arith, suc, true, false, take, zero, cond, common_steps, IfSome, cases_eq, cond-true, cond-false, eq-eqb, ne_eqb, and_from, and_left, and_right, append-nil, get_or-set_other, get_or-set_same, length-set, unpacked, Departure, Captured, longest_body, rows_from, ports_of, Tables, ArePacked, HaveLeftOf, packets_out, CanBeJoined, IsEmptied, Took, left_with, records_of, Fits, piece_at, filter, All-push, leaves_in_flow, left_in_flow, JoinerView, open_after, open_at, packet_at, PackedDeparture, written_with, OutPacket, PacketRow, ◌-◌, ◌*◌, flat_map, min, ◌==◌, range_with_len, Cell, cells, cell_of, arrivals, came_in_flow, AreTables, of_packet, Open, filter_none, JoinsOn, cells_above, AllFit, AllByRecursion}
-use Rattle.cq_base.proofs.Library.{take-add, take_min, length-drop, div_ceil_times, take_all}
+use Rattle.cq_simulate.proofs.Terms.{cons_option, Has, append_assoc, all_from_has, rules, ◌≡◌, ◌≢◌, ℕ, ◌+◌, ◌<◌, ◌≤◌, All, List, [], ◌∷◌, ◌++◌, length, map, drop, get_or, set, Option, Some, None, refl, arith, suc, true, take, zero, cond, common_steps, IfSome, cases_eq, cond-true, cond-false, eq-eqb, ne_eqb, and_from, and_left, and_right, append-nil, get_or-set_other, get_or-set_same, length-set, unpacked, Departure, Captured, longest_body, rows_from, ports_of, Tables, ArePacked, HaveLeftOf, packets_out, CanBeJoined, IsEmptied, Took, left_with, records_of, Fits, piece_at, All-push, leaves_in_flow, left_in_flow, JoinerView, open_after, open_at, packet_at, PackedDeparture, written_with, OutPacket, PacketRow, ◌-◌, ◌*◌, flat_map, min, ◌==◌, range_with_len, Cell, cells, cell_of, arrivals, came_in_flow, AreTables, of_packet, Open, filter_none, JoinsOn, cells_above, AllFit, AllByRecursion, take-add, take_min, length-drop, div_ceil_times, take_all}
 unfoldable use Rattle.cq_base.specs.Pieces.{cells_of}
 use Rattle.cq_pcap.specs.Written.{written}
 use Rattle.cq_simulate.specs.declared.packing.Packing.{Packing}
 use Rattle.cq_simulate.proofs.Departed.{departed_captured, departed_class, departed_output}
-use Rattle.cq_simulate.proofs.OfPackets.{flow_is, packet_cells, packets_in, parts_of}
+use Rattle.cq_simulate.proofs.OfPackets.{flow_is, packet_cells, parts_of}
 
 -- The pieces of an output's cells, joined packet by packet. Of each input and class the cells for an output are
 -- those of one packet after another, each whole and in order; those that leave are all cells of some of these
@@ -77,10 +76,7 @@ module _ (t : Tables) (captures : List (List Captured)) (input : ℕ) (some : 0 
   -- and some of a flow
   pub flow_fits : AreTables t → length captures ≡ ports_of t.setup → (c j : ℕ) (ks : List ℕ) →
       AllFit captures None (flat_map (of_packet (came_in_flow input c j (arrivals t captures))) ks)
-  flow_fits are many c j ks =
-      let gs = packets_in t captures input c j in
-      rw (flow_is t captures input are many c j, parts_of t captures input gs ks)
-      (all_fit (flat_map (λ k. filter (λ g. g == k) gs) ks))
+  flow_fits are many c j ks = search (arith, rules, flow_is, parts_of, all_fit)
 
 -- The walk over the departures. Of each input and class the cells that are left fit what is open, and the packets that
 -- are made and those that are left to make are those that leave.
@@ -100,15 +96,6 @@ all_pushed : (packets : List OutPacket) (o : Option OutPacket) → All (λ p. le
 all_pushed packets None all small = rw (append-nil packets) all
 all_pushed packets (Some p) all small = All-push (λ (x : OutPacket). length x.body ≤ longest_body) packets p all small
 
--- the cells of a flow among a departure and others
-of_flow : (i c j : ℕ) (d : Departure) (ds : List Departure) → leaves_in_flow i c j d ≡ true →
-    left_in_flow i c j (d ∷ ds) ≡ d.queued.cell ∷ left_in_flow i c j ds
-of_flow i c j d ds e = grind (arith, common_steps)
-
-not_of_flow : (i c j : ℕ) (d : Departure) (ds : List Departure) → leaves_in_flow i c j d ≡ false →
-    left_in_flow i c j (d ∷ ds) ≡ left_in_flow i c j ds
-not_of_flow i c j d ds e = grind (arith, common_steps)
-
 -- what is known while these departures are left of those that were sent
 pub record SoFar (t : Tables) (captures : List (List Captured)) (output : ℕ) (sent left : List Departure)
     (joiner : JoinerView) (packets : List OutPacket) : Type 0 where
@@ -127,9 +114,7 @@ module _ {t : Tables} {captures : List (List Captured)} {output : ℕ} {sent res
 
   pub at_other : d.output ≢ output → SoFar t captures output sent rest joiner packets
   unfolding packets_out
-  at_other ne =
-      let was = at in
-      let off = ne_eqb d.output output ne in search (arith, rules, cond-false, not_of_flow)
+  at_other ne = search (arith, rules, at, ne_eqb, cond-false)
 
   module _ (here : d.output ≡ output) where
     own_cell : leaves_in_flow d.queued.cell.id.input d.queued.cell.class output d ≡ true
@@ -140,30 +125,27 @@ module _ {t : Tables} {captures : List (List Captured)} {output : ℕ} {sent res
     can_join of_run has =
         let captured = departed_captured of_run d has in
         let class = departed_class of_run d has in
-        let fit = rw (of_flow _ _ output d rest own_cell) at (at.fit d.queued.cell.id.input d.queued.cell.class class) in
-        search (arith, rules)
+        search (arith, rules, at.fit, cond-true, own_cell)
 
     module _ {joiner_new : JoinerView} (joined : JoinsOn captures d joiner joiner_new) where
       fit_next : (i c : ℕ) → c < length t.setup.classes →
           AllFit captures (open_at joiner_new i c) (left_in_flow i c output rest)
       fit_next i c few =
-          let was = at.fit i c few in
-          search (arith, rules, and_right, ne_eqb, cases_eq, and_left, own_cell, of_flow, not_of_flow)
+          search (arith, rules, at.fit i c few, and_right, ne_eqb, cases_eq, and_left, own_cell, cond-true, cond-false)
 
       pub went_on : (o : Option OutPacket) {more : List OutPacket} → o ≡ left_with t captures d →
           more ≡ packets ++ cons_option o [] → IfSome o (λ p. length p.body ≤ longest_body) →
           SoFar t captures output sent rest joiner_new more
       unfolding packets_out
-      went_on o is pushed small =
-          let was = at in search (arith, rules, fit_next, all_pushed, eq-eqb, append_assoc, append-nil)
+      went_on o is pushed small = search (arith, rules, at, fit_next, all_pushed, eq-eqb, append_assoc, append-nil)
 
 pub at_first : {t : Tables} {captures : List (List Captured)} {sent : List Departure} {stamp : ℕ} (output : ℕ)
     (joiner : JoinerView) (packets : List OutPacket) → HaveLeftOf t captures sent stamp →
     joiner.inputs ≡ length captures → joiner.classes ≡ length t.setup.classes →
     ((i c : ℕ) → open_at joiner i c ≡ None) → packets ≡ [] → SoFar t captures output sent sent joiner packets
-at_first {t} {captures} {sent} output joiner packets of_run inputs classes none nothing =
+at_first {t} {captures} {sent} output joiner packets run inputs classes none nothing =
     let fit : (i c : ℕ) → AllFit captures None (left_in_flow i c output sent) = λ i c.
-    rw ((of_run.whole i).left c output) (flow_fits t captures i (omega arith) of_run.tables of_run.captures c output _) in
+    rw ((run.whole i).left c output) (flow_fits t captures i (omega arith) run.tables run.captures c output _) in
     search (arith, rules)
 
 -- where none is left all packets are made
@@ -236,15 +218,13 @@ module _ {t : Tables} {captures : List (List Captured)} {sent : List Departure} 
 
         gone_on : Walked t captures d.output sent (map unpacked rest) new
         gone_on =
-            let o = left_with t captures d in
-            let on = went_on next own.so_far refl took.joined o refl refl took.small in
-            let bytes = written_on o in search (arith, rules, on, own.bytes, took.bytes)
+            let on = went_on next own.so_far refl took.joined (left_with t captures d) refl refl took.small in
+            let bytes = written_on (left_with t captures d) in search (arith, rules, on, own.bytes, took.bytes)
 
         at_another : (j : ℕ) (p : Packing) → j < length places → j ≢ d.output →
             Walked t captures j sent (map unpacked rest) (get_or (set places d.output new) j p)
         at_another j p in_places ne =
-            let was = so_far.each j p in_places in
-            let passed = at_other next was.so_far in search (arith, rules, get_or-set_other, passed)
+            let was = so_far.each j p in_places in search (arith, rules, get_or-set_other, at_other next was.so_far)
 
         pub one_more : AllSoFar t captures sent (map unpacked rest) (set places d.output new)
         one_more = search (arith, rules, length-set, at_another, cases_eq, get_or-set_same, at_port, gone_on, within)

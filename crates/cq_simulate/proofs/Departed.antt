@@ -18,10 +18,9 @@ pub left_in_order : (t : Tables) (captures : List (List Captured)) (sent : List 
     LeaveInOrder (arrivals t captures) sent
 unfolding ideal_departures ran_ideal
 left_in_order t captures sent are many h i =
-    let came = arrivals t captures in
-    let can = runnable t.setup came are.setup (traffic_is t captures are many) in
-    ran_ok (LeftInOrder came i) _ sent (search (arith, rules, limited_same_sent))
-    (λ ran is. search (arith, rules, flows_leave_in_packets t.limits _ _ _ came ran can is i, packets_come))
+    let can = runnable t.setup (arrivals t captures) are.setup (traffic_is t captures are many) in
+    ran_ok (LeftInOrder (arrivals t captures) i) _ sent (search (arith, rules, limited_same_sent))
+    (λ ran is. search (arith, rules, flows_leave_in_packets t.limits _ _ _ _ ran can is i, packets_come))
 
 -- and so in whole packets
 pub left_in_packets : (t : Tables) (captures : List (List Captured)) (sent : List Departure) → AreTables t →

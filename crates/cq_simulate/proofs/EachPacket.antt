@@ -71,30 +71,22 @@ module _ (t : Tables) (captures : List (List Captured)) (sent : List Departure) 
     in_line : filter own (came_at input (arrivals t captures)) ≡ its
     unfolding arrivals_at cell_of
     in_line =
-        let ks = range_with_len 0 (length (packets_of captures input)) in
-        let one = one_is k 0 (length (packets_of captures input)) (omega arith) (omega arith) in
-        let here = by_packet t captures input own (λ n. n == k) (λ n m. refl) ks in
-        grind (arith, common_steps, append-nil, line_cells, at_input)
+        let here = by_packet t captures input own (λ n. n == k) (λ n m. refl) in
+        search (arith, rules, append-nil, line_cells, at_input, here, one_is k 0)
 
     in_its_flow : filter own (came_in_flow input class j (arrivals t captures)) ≡ filter in_flow its
-    in_its_flow =
-        let line = came_at input (arrivals t captures) in
-        let both = filter_both in_flow own line in
-        cc (flow_in_line t captures input class j (arrivals t captures), tests_turned own in_flow line, in_line)
+    in_its_flow = search (arith, rules, flow_in_line, tests_turned own in_flow, filter_both in_flow own, in_line)
 
     -- of its cells for an output the one at this place: there is one, if the packet goes there
     one_cell : (p : Cell → Bool) (place : ℕ) → place < cells t captures input k →
         ((i : ℕ) → p (cell_of t captures input k i) ≡ (goes && i == place)) → tally p its ≡ bit goes
-    one_cell p place within same =
-        let row = range_with_len 0 (cells t captures input k) in
-        let images = filter_images p (cell_of t captures input k) row in
-        search (arith, rules, images, length-map, one_where goes, filter_agree p, same)
+    one_cell p place within same = rw (filter_images, length-map, filter_agree _ _ same) (one_where goes _ place within)
 
     last_one : tally (λ cell. in_flow cell && cell.last) its ≡ bit goes
     unfolding cell_of cells
     last_one =
         let some = cells_above (length (packet_at captures input k).body) t.cell_bytes in
-        one_cell _ (cells t captures input k - 1) (omega arith) (λ i. grind (arith, common_steps, cases_eq, eq-eqb, ne_eqb))
+        one_cell _ (cells t captures input k - 1) (omega arith) (search (arith, rules, cases_eq, eq-eqb, ne_eqb))
 
     first_one : tally begins its ≡ bit goes
     unfolding cell_of cells
@@ -110,26 +102,21 @@ module _ (t : Tables) (captures : List (List Captured)) (sent : List Departure) 
     leaves =
         let p = parted input in_captures in
         let gone = left_in_flow input class j sent in
-        let ends : Cell → Bool = λ cell. own cell && cell.last in
-        let its_own = of_kind (λ (cell : Cell). cell.id.packet) k taken
-        (came_in_flow input class j (arrivals t captures)) in
+        let line = came_in_flow input class j (arrivals t captures) in
+        let its_own = of_kind (λ (cell : Cell). cell.id.packet) k taken line in
         let own_gone : filter own gone ≡ cond (taken k) (filter in_flow its) [] = cc (p.left class j, in_its_flow) in
-        let images = filter_images ends (λ (d : Departure). d.queued.cell) (filter (leaves_in_flow input class j) sent) in
-        let both = filter_both (λ (d : Departure). ends d.queued.cell) (leaves_in_flow input class j) sent in
         let same = filter_same _ _ sent (all_weaker _ _ flow_test sent left) in
-        let last = filter_both (λ (cell : Cell). cell.last) own gone in
-        let last_its = filter_both (λ (cell : Cell). cell.last) in_flow its in
-        grind (arith, common_steps, length-map, last_one)
+        let counted : tally (λ cell. own cell && cell.last) gone ≡ times_left input k j sent =
+        simp (filter_images, filter_both, length-map) (ap length (sym same)) in
+        grind (arith, common_steps, last_one, filter_both (λ (cell : Cell). cell.last))
 
     is_refused : times_refused input k j refused ≡ cond (not (taken k)) (bit goes) 0
     is_refused =
         let p = parted input in_captures in
-        let its_own = of_kind (λ (cell : Cell). cell.id.packet) k (λ n. not (taken n))
-        (came_at input (arrivals t captures)) in
-        let own_lost : filter own (filter of_input refused) ≡ cond (not (taken k)) its [] = cc (p.others, in_line) in
+        let line = came_at input (arrivals t captures) in
+        let its_own = of_kind (λ (cell : Cell). cell.id.packet) k (λ n. not (taken n)) line in
         let turned = tally_turned begins (λ (cell : Cell). of_input cell && own cell) refused in
-        let both = filter_both own of_input refused in
-        grind (arith, common_steps, first_one)
+        grind (arith, common_steps, p.others, in_line, first_one, filter_both own)
 
     pub each_once : times_left input k j sent + times_refused input k j refused ≡ bit goes
     each_once = search (arith, rules, leaves, is_refused, bit)
@@ -148,11 +135,11 @@ module _ (t : Tables) (captures : List (List Captured)) (sent : List Departure) 
     from_input input inside =
         let many = length (packets_of captures input) in
         let goes : ℕ → Bool = λ k. output_of t captures input k == j in
-        kinds_summed (λ (cell : Cell). cell.id.packet) (λ k. bit (goes k)) 0 many
-        (filter (λ cell. cell.id.input == input) ends_or_begins) (search (arith, rules, kept_has, all_of, all_of_has, eqb-true))
-        (λ k _ below. rw filter_both (simp (filter-append, filter_images, filter_both, length-append, length-map)
-        (each_once input k j inside (omega arith))))
-        ∙ sym (length-filter goes (range_with_len 0 many))
+        let own = filter (λ (cell : Cell). cell.id.input == input) ends_or_begins in
+        kinds_summed (λ (cell : Cell). cell.id.packet) (λ k. bit (goes k)) 0 many own
+        (search (arith, rules, kept_has, all_of, all_of_has, eqb-true)) (λ k _ below. rw filter_both
+        (simp (filter-append, filter_images, filter_both, length-append, length-map)
+        (each_once input k j inside (omega arith)))) ∙ sym (length-filter goes (range_with_len 0 many))
 
     pub all_once : length (packets_out t captures sent j) + packets_refused j refused ≡ number_for t captures j
     unfolding packets_out packets_refused

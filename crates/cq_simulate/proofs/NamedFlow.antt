@@ -3,7 +3,7 @@
 -- have the same cells: of a flow there arrives one cell in a slot at most.
 -- What waits for an output in a sound state stands there as in a run: in the order of the keys, each cell with the
 -- level of its class and a rank below the floor, and each arrived in an earlier slot.
-use Rattle.cq_simulate.proofs.Terms.{common_steps, rules, map-append, ◌≡◌, ℕ, ◌<◌, Bool, true, false, List, [], ◌∷◌, ◌++◌, length, map, filter, Option, Some, refl, sym, ap, ◌∙◌, ⊎_elim, arith, ◌⊎◌, ◌+◌, ◌≤◌, not, cond, fold, ◌&&◌, ◌==◌, All, slice_index_or, nat_lt, if◌then◌else◌, AllByRecursion, AllPairs, and_from, and_parts, cases_lt, eq-eqb, eqb-true, lt-ltb, ltb-true, cases_eq, cond-false, cond-true, le-ltb, ne_eqb, Arrival, IsBefore, Departure, Queued, IsLater, IsTraffic, comes_in_flow, leaves_in_flow, left_in_flow, is_kind, shown, HasWaited, Stands, line_at, rest_of, Agrees, Fabric, ideal_of, list_of, departure_of, sent_told, firsts_at, is_refused, latest, IsSound, OfOneFlow, IsBelowFloor, AllNamed, AreWholePackets, NoneNamed, HasShape, Switch, HasLimit, arriving_cell, class_of, fabric_told, is_ahead, is_named, key_of, named_in, output_of, queued_in, queued_of, packet_before, EachPair, each_pair, buffer_is, comes, found_at, in_buffer, in_list, in_order, is_cell_of, its_output, its_slot, list_is, of_traffic, ports_are, queued_differ, queued_named, some_cell, Has, all_from_has, all_of_has, has_cases, has_image, has_kept, has_left, has_right, image_has, kept_has, pair_of_has, IsInRange, Sent, State, NoLater, all_weaker, Machine, machine_at, AreOfPackets, key_laws, HasFor, all_has, looked_up, pairs_kept, pairs_kept_with, pairs_looked_up, pairs_with, Named, any_has, has_any, any_alike, pairs_mapped, pairs_joined, has_looked_up, same_pairs, filter_none, filter_all}
+use Rattle.cq_simulate.proofs.Terms.{common_steps, rules, map-append, ◌≡◌, ℕ, ◌<◌, Bool, true, false, List, [], ◌∷◌, ◌++◌, length, map, filter, Option, Some, refl, sym, ap, ◌∙◌, arith, ◌⊎◌, ◌+◌, ◌≤◌, not, cond, fold, ◌&&◌, ◌==◌, All, slice_index_or, nat_lt, if◌then◌else◌, AllByRecursion, AllPairs, and_from, and_parts, cases_lt, eq-eqb, eqb-true, lt-ltb, ltb-true, cases_eq, cond-false, cond-true, le-ltb, ne_eqb, Arrival, IsBefore, Departure, Queued, IsLater, IsTraffic, comes_in_flow, leaves_in_flow, left_in_flow, is_kind, shown, HasWaited, Stands, line_at, rest_of, Agrees, Fabric, ideal_of, list_of, departure_of, sent_told, firsts_at, is_refused, latest, IsSound, OfOneFlow, IsBelowFloor, AllNamed, AreWholePackets, NoneNamed, HasShape, Switch, HasLimit, arriving_cell, class_of, fabric_told, is_ahead, is_named, key_of, named_in, output_of, queued_in, queued_of, packet_before, EachPair, each_pair, buffer_is, comes, found_at, in_buffer, in_list, in_order, is_cell_of, its_output, its_slot, list_is, of_traffic, ports_are, queued_differ, queued_named, some_cell, Has, all_from_has, all_of_has, has_cases, has_image, has_kept, has_left, has_right, image_has, kept_has, pair_of_has, IsInRange, Sent, State, NoLater, all_weaker, Machine, machine_at, AreOfPackets, key_laws, HasFor, all_has, looked_up, pairs_kept, pairs_kept_with, pairs_looked_up, pairs_with, Named, any_has, has_any, any_alike, pairs_mapped, pairs_joined, has_looked_up, same_pairs, filter_none, filter_all}
 use Rattle.std.proofs.lemmas.Simd.{map-map}
 use Rattle.cq_ideal.proofs.RestAtInput.{cells_of}
 
@@ -168,13 +168,12 @@ module _ (w : Switch) (s : State) (i : ℕ) (whole : AreWholePackets w s)
   one_answer f has begins =
       let first = of_line f has in
       let all = packet_before w.came s.head.next f in
-      let own : Has all f = in_packet f f first first refl in
       let said = all_has (λ (a : Arrival). a.cell.id.index ≡ 0 → a.slot < s.head.next
       → AllNamed s (packet_before w.came s.head.next a)
       ⊎ (NoneNamed s (packet_before w.came s.head.next a) × HasLimit w.limits a.cell.output)) w.came f whole first.came
       begins first.early in
       let is = λ (yes_ : Bool). all_has (λ (b : Arrival). is_told b ≡ yes_) all in
-      grind (arith, common_steps, is true, is false)
+      grind (arith, common_steps, is true, is false, in_packet f f first first)
 
   pub alike : (a b : Arrival) → Has before a → Has before b → packet a ≡ packet b → is_told a ≡ is_told b
   alike a b first second same =
@@ -198,8 +197,7 @@ module _ (w : Switch) (s : State) (i : ℕ) (whole : AreWholePackets w s)
       let found = latest_is (firsts_at w.came s i) f there in
       let g = found.0 in
       let first = of_first g found.2.has in
-      let most = within 0 0 before (omega arith) packets_parted.0 in
-      let high = all_of_has _ before g most.1 first.0 in
+      let high = all_of_has _ before g (within 0 0 before (omega arith) packets_parted.0).1 first.0 in
       let low : packet f ≤ packet g = search (arith, rules, packet, pair_of_has, rise, found.2.after f there) in
       search (arith, rules, any_alike is_told (is_told g), of_line, in_packet, one_answer g, alike g a)
 
@@ -368,9 +366,8 @@ module _ (w : Switch) (s : State) (in_range : IsInRange s) (shape : HasShape w s
     sent_earlier : (q r : Queued) → Has gone q → Has waiting r → Earlier q r
     sent_earlier q r first second =
         let a = was_sent q first in
-        let b = waits r second in
         let all = all_has (λ (d : Sent). All (After d.cell) (queued_in s)) s.sent a.0 sound.flows.after a.1 in
-        search (arith, rules, one_flow, slot_is, all_has (After a.0.cell) (queued_in s) b.0)
+        search (arith, rules, one_flow, slot_is, all_has (After a.0.cell) (queued_in s), waits r)
 
     told_rise : EachPair IsEarlier (map as_arrival (gone ++ waiting))
     told_rise = search (rules, pairs_mapped, IsEarlier, pairs_joined, gone_rise, waiting_rise, sent_earlier)
@@ -417,8 +414,7 @@ module _ (w : Switch) (s : State) (in_range : IsInRange s) (shape : HasShape w s
     -- an arrival is the only one of its slot and input
     one_arrival : (a x : Arrival) → Has w.came a → Has w.came x → a.slot ≡ x.slot → a.cell.id.input ≡ x.cell.id.input →
         a ≡ x
-    one_arrival a x first second slots inputs = ⊎_elim (λ ways. search (arith, rules)) (λ same. same)
-        (pair_of_has IsLater w.came a x (each_pair IsLater w.came traffic.one_by_one) first second)
+    one_arrival a x first second slots inputs = grind (arith, common_steps, pair_of_has IsLater w.came a x, each_pair)
 
     -- where the cell of a name stands
     among_gone : (n : Named) (q : Queued) → InFlow n q → Has (map (λ (d : Sent). d.cell) s.sent) n → Has gone q
@@ -473,10 +469,9 @@ module _ (w : Switch) (s : State) (in_range : IsInRange s) (shape : HasShape w s
     has_waited q has =
         let it = waits_there q has in
         let n = it.name in
-        let own = is_cell_of w.came n q it.is in
         let floor = all_has (IsBelowFloor w s) (queued_in s) n sound.floors it.has in
         let early = comes w s in_range shape sound traffic n (queued_named w s in_range shape sound traffic n it.has) in
-        let of = of_traffic w s in_range shape sound traffic n q it.is in search (arith, rules)
+        search (arith, rules, of_traffic w s in_range shape sound traffic n q, is_cell_of w.came n q it.is)
 
     pub stands_there : Stands m (slice_index_or (ideal_of f).ranks j []) s.head.next 0 there
     unfolding fabric_told

@@ -133,9 +133,7 @@ module _ (t : Tables) (captures : List (List Captured)) (input : ℕ) where
       packets = λ c j. filter some.is_taken (packets_in c j);
       left = λ c j.
           let n = length (packets_of captures input) in
-          let ks = packets_in c j in
-          let taken : Cell → Bool = λ cell. some.is_taken cell.id.packet in
-          let kept = by_packet t captures input taken some.is_taken (λ k m. refl) ks in
+          let kept = by_packet t captures input (λ cell. some.is_taken cell.id.packet) some.is_taken (λ k m. refl) in
           let each = each_alone (goes_in c j) some.is_taken 0 n 0 n (omega arith) (omega arith) in
-          cc (some.left c j, flow_is c j, parts_of ks (filter some.is_taken ks));
+          search (arith, rules, some.left c j, flow_is c j, parts_of, kept, each);
     }

@@ -32,11 +32,7 @@ module _ (came : List Arrival) where
   few_from j (d ∷ xs) pairs slot from = search (rules, fields, cond_both, eqb-true, all_weaker, few_from j xs pairs.1)
 
   few : (j : ℕ) (xs : List Sent) → AllPairs (IsSentBefore came) xs → length (sent_by (told xs) j) ≤ slots_of (told xs)
-  few j xs pairs = omega (
-    arith,
-    few_from j xs (each_pair (IsSentBefore came) xs pairs) 0
-        (all_from_has (From j 0) xs (λ d _ x e at. omega arith)),
-  )
+  few j xs pairs = omega (arith, few_from j xs (each_pair _ xs pairs) 0 (all_from_has _ xs (λ d _ x e at. omega arith)))
 
   -- so it is with the figures that a state tells
   pub counted : (s : State) → AllPairs (IsSentBefore came) s.sent → AllByRecursion (λ d. d.slot < s.head.next) s.sent →

@@ -4,7 +4,7 @@
 -- that the state names is named with all its cells, and goes on as it began.
 use Rattle.cq_simulate.proofs.Terms.{rules, ◌≡◌, ℕ, ◌+◌, ◌<◌, ◌≤◌, Bool, not, List, [], ◌∷◌, ◌++◌, length, filter, Option, refl, ap, ◌∙◌, ⊎_elim, arith, common_steps, All, AllByRecursion, cases_lt, append_assoc, map-append, take_all, filter-append, get_or-map-range_with_len, Arrival, Cell, traffic_is, arrivals, schedule_of, IsTraffic, come_in_order, comes_at_input, AreOfClasses, present, flow_came, no_port, is_of_flow, of_flow, shown, is_run_of, comes_from, line_at, rest_of, Marked, arriving_from, IsRunnable, came_in_flow, comes_in_flow, left_in_flow, departures_of, IdealState, LimitedRan, AreOfPackets, cells_at, agrees_of, empty_together, Agrees, Fabric, ideal_of, LimitedRunsAlike, LimitedFabricRun, LimitedRecord, admissions_in, slots_in, gone_in, Captured, list_of, IsInputBest, machine_at, firsts_at, frozen_told, is_refused, latest, marks_told, sent_told, taken_of, IsResumed, Kept, RunsOn, IsSound, HasShape, Switch, switch_of, fabric_told, is_named, named_in, Taken, EachPair, GoesOn, goes_on, AreTables, classes_of, ports_of, Tables, openings_of, LeaveInOrder, LeaveWhole, LeftInOrder, CanBeTakenUp, IsInRange, State, slots_fit, all_filter, all_in_range, class_in_slot, none_came, flow_on, whole_on, StandAt, stand_in, best_act_alike, most_ports, filter_both, filter_agree, of_images}
 use Rattle.cq_ideal.proofs.RestAtInput.{cells_of}
-use Rattle.cq_simulate.proofs.NamedFlow.{line_rises, told_flow, stands_there, IsEarlier, early_of, is_taken, packets_behind, parted_at, taken_before, taken_behind, next_after, packet}
+use Rattle.cq_simulate.proofs.NamedFlow.{line_rises, told_flow, stands_there, IsEarlier, early_of, is_taken, packets_behind, parted_at, taken_before, taken_behind, next_after}
 use Rattle.cq_simulate.proofs.OfPackets.{as_packets, none_at, none_from, packets_come}
 use Rattle.cq_simulate.proofs.Runnable.{right_classes, runnable}
 use Rattle.cq_simulate.proofs.TakenUp.{machines_many}
@@ -92,8 +92,7 @@ module _ (t : Tables) (captures : List (List Captured)) (are : AreTables t) (man
   ran = record { admissions = admissions_in rs; gone = gone_in (slots_in rs); after = alike.after }
 
   over : All (λ cells. cells ≡ []) alike.after.state.lists
-  over =
-      (empty_together (next + length slots) resumed.end.state alike.after.state alike.agrees.states).0 runs_on.empty
+  over = (empty_together (next + length slots) _ _ alike.agrees.states).0 runs_on.empty
 
   stand : AllByRecursion (StandAt 0) slots
   unfolding arriving_from
@@ -177,9 +176,8 @@ module _ (t : Tables) (captures : List (List Captured)) (are : AreTables t) (man
 
       early_taken : filter takes_cell (cells_of (filter flow early)) ≡ cells_of told
       early_taken =
-          let test = filter_same (λ (a : Arrival). takes (packet a)) named (filter flow early) in
-          let own = filter_images takes_cell (λ (a : Arrival). a.cell) (filter flow early) in
-          search (arith, rules, own, test, all_filter, taken_before w s i sound.packets rises line_is.0 taken goes_as_marked)
+          let told = taken_before w s i sound.packets rises line_is.0 taken goes_as_marked in
+          search (rules, filter_images, filter_same, all_filter, told)
 
       late_taken : filter takes_cell later ≡ filter taken_cell later
       late_taken =
@@ -223,11 +221,9 @@ module _ (t : Tables) (captures : List (List Captured)) (are : AreTables t) (man
           let lists = agrees.ports in
           let all = many_are in
           let none = none_came w.machines ports i c j came runs.for_switch past in
-          let none_told = no_first (cells_of told) (filter taken_cell later) in
-          let none_first = no_first first_left waits in
           let ideal_runs = is_run_of w.limits w.machines next slots beside ran alike.ran in
           let none_left = no_port w.machines i c j _ next (ideal_of f) _ ideal_runs (omega arith) in
-          grind (arith, common_steps, left_is, takes_parts, told_first)
+          grind (arith, common_steps, left_is, takes_parts, told_first, no_first)
 
     pub in_order : LeftInOrder came i kept.sent
     in_order = record { is_taken = takes; left = λ c j. search (arith, rules, at_port, elsewhere, cases_lt) }

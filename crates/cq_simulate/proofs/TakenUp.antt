@@ -64,10 +64,9 @@ goes_from {t} {s} e sent note fit has machines classes from to running few sent_
     let every = all_parts e.next s.came in
     let before = came_before e.next s.came in
     let ports = length e.fabric.inputs in
-    let held = kinds_few (λ a. a.cell.output) (λ j. held_for j e.fabric) 0 ports before (λ j _. has.buffers j) in
-    let listed = kinds_few (λ a. a.cell.id.input) (λ i. length (input e.fabric i)) 0 ports
-    before (λ i _. has.lists i) in
-    search (arith, rules, both_parts, room_at, has.lost)
+    let held = kinds_few (λ a. a.cell.output) (λ j. held_for j e.fabric) 0 ports before in
+    let listed = kinds_few (λ a. a.cell.id.input) (λ i. length (input e.fabric i)) 0 ports before in
+    search (arith, rules, both_parts, room_at, has.lost, held, listed, has.buffers, has.lists)
 
 -- ## A fresh one
 
@@ -103,6 +102,5 @@ module _ {t : Tables} {s : Scheduled} {taken : Taken} (sound : CanBeTakenUp (swi
       let goes = goes_of t s taken sound fit.traffic in
       let from = by_port is_from t s.came in
       let stands = thawed_engine engine.fixed t.limits from (by_port is_to t s.came) taken.frozen in
-      rw is.stands (goes_from stands sent note fit
-      (search (arith, rules, machines_many, machine_count, All-from_recursion)) is.machines is.classes refl refl refl
-      (omega arith) (omega arith) (omega arith))
+      let holds : HoldsSome s.came stands = search (arith, rules, machines_many, machine_count, All-from_recursion) in
+      search (arith, rules, goes_from stands sent note fit holds)
