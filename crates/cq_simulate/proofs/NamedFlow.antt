@@ -48,16 +48,10 @@ both_rise n [] rising are = tt
 both_rise n (x ∷ xs) rising are =
     grind (arith, common_steps, within (packet x + 1), all_from_has, all_of_has, both_rise (packet x + 1) xs rising.1)
 
--- the first cell of a packet
-pub record Begins (xs : List Arrival) (a : Arrival) : Type 0 where
-  pub first : Arrival
-  pub has : Has xs first
-  pub begins : first.cell.id.index ≡ 0
-  pub own : packet first ≡ packet a
-
--- each of another packet than the one that goes on is of one that begins
+-- each of another packet than the one that goes on is of one that begins: its first cell is there
 pub begun : (n : ℕ) (xs : List Arrival) → AreOfPackets n (cells_of xs) → (a : Arrival) → Has xs a →
-    (packet a + 1 ≡ n → ⊥) → Begins xs a
+    (packet a + 1 ≡ n → ⊥) →
+    (f : Arrival) × Has xs f × (f.cell.id.index ≡ 0) × (packet f ≡ packet a)
 begun n [] are a has other = absurd has
 begun n (x ∷ xs) are a has other = search (arith, rules, eqb-true, cases_eq, begun (packet x + 1) xs are.1 a)
 
@@ -178,7 +172,7 @@ module _ (w : Switch) (s : State) (i : ℕ) (whole : AreWholePackets w s)
   pub alike : (a b : Arrival) → Has before a → Has before b → packet a ≡ packet b → is_told a ≡ is_told b
   alike a b first second same =
       let it = begun 0 before packets_parted.0 a first (λ none. omega arith) in
-      search (arith, rules, one_answer it.first, of_line, in_packet)
+      search (arith, rules, one_answer it.0, of_line, in_packet)
 
   rise : EachPair Rises before
   rise = both_rise 0 before (pairs_kept IsEarlier (is_early s.head.next) line rising) packets_parted.0
@@ -191,8 +185,8 @@ module _ (w : Switch) (s : State) (i : ℕ) (whole : AreWholePackets w s)
       not (is_refused w.came s (latest (firsts_at w.came s i))) ≡ is_told a
   mark_says a has last =
       let it = begun 0 before packets_parted.0 a has (λ none. omega arith) in
-      let f = it.first in
-      let head = of_line f it.has in
+      let f = it.0 in
+      let head = of_line f it.1 in
       let there : Has (firsts_at w.came s i) f = search (arith, rules, has_kept, and_from, eq-eqb, lt-ltb) in
       let found = latest_is (firsts_at w.came s i) f there in
       let g = found.0 in
@@ -249,13 +243,8 @@ module _ (w : Switch) (s : State) (in_range : IsInRange s) (shape : HasShape w s
   there = list_of (ideal_of f).lists j
 
   -- a cell that waits for an output is named, and its name tells it
-  pub record WaitsThere (q : Queued) : Type 0 where
-    pub name : Named
-    pub has : Has (queued_in s) name
-    pub is : queued_of w.came name ≡ Some q
-    pub output : q.cell.output ≡ j
-
-  pub waits_there : (q : Queued) → Has there q → WaitsThere q
+  pub waits_there : (q : Queued) → Has there q →
+      (n : Named) × Has (queued_in s) n × (t n ≡ Some q) × (q.cell.output ≡ j)
   waits_there q has =
       let buffered = in_buffer w s in_range shape sound traffic in
       search (arith, rules, buffered, has_left, has_right, agrees.same, in_list w s in_range shape sound traffic)
@@ -443,9 +432,8 @@ module _ (w : Switch) (s : State) (in_range : IsInRange s) (shape : HasShape w s
     is_there : (x : Arrival) → Has told x → Has (map as_arrival (gone ++ waiting)) x
     is_there x has =
         let one = from_told x has in
-        let name = has_any (is_name_of x) names one.own in
-        let n = name.0 in
-        let some = some_cell (arriving_cell w.came n) (comes w s in_range shape sound traffic n name.1).1 in
+        let (n, has_name, same_name) = has_any (is_name_of x) names one.own in
+        let some = some_cell (arriving_cell w.came n) (comes w s in_range shape sound traffic n has_name).1 in
         let same = one_arrival (found_at w.came n.slot n.input some.0 some.1).arrival x in
         let q : Queued = record { cell = x.cell; key = key_of n } in
         let of : InFlow n q = search (arith, rules, and_parts, eqb-true, is_kind, same) in
@@ -468,10 +456,10 @@ module _ (w : Switch) (s : State) (in_range : IsInRange s) (shape : HasShape w s
     has_waited : (q : Queued) → Has there q → HasWaited m (slice_index_or s.ranks j []) s.head.next 0 q
     has_waited q has =
         let it = waits_there q has in
-        let n = it.name in
-        let floor = all_has (IsBelowFloor w s) (queued_in s) n sound.floors it.has in
-        let early = comes w s in_range shape sound traffic n (queued_named w s in_range shape sound traffic n it.has) in
-        search (arith, rules, of_traffic w s in_range shape sound traffic n q, is_cell_of w.came n q it.is)
+        let n = it.0 in
+        let floor = all_has (IsBelowFloor w s) (queued_in s) n sound.floors it.1 in
+        let early = comes w s in_range shape sound traffic n (queued_named w s in_range shape sound traffic n it.1) in
+        search (arith, rules, of_traffic w s in_range shape sound traffic n q, is_cell_of w.came n q it.2)
 
     pub stands_there : Stands m (slice_index_or (ideal_of f).ranks j []) s.head.next 0 there
     unfolding fabric_told

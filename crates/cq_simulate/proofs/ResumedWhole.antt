@@ -191,8 +191,7 @@ module _ (t : Tables) (captures : List (List Captured)) (are : AreTables t) (man
 
       flow_late : flow_came i c j slots ≡ later
       unfolding of_flow
-      flow_late = comes_at_input i c j slots stand ∙ ap (filter (is_of_flow i c j)) line_is.1
-          ∙ filter_images (is_of_flow i c j) (λ (a : Arrival). a.cell) late
+      flow_late = rw (comes_at_input i c j slots stand, line_is.1) (filter_images (is_of_flow i c j) _ late)
 
       -- ## What left
 
