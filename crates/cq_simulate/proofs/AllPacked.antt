@@ -91,11 +91,6 @@ original_at place (p ∷ ps) (suc k) d e inside = original_at (place + 16 + leng
 
 -- ## One after another
 
-all_pushed : (packets : List OutPacket) (o : Option OutPacket) → All (λ p. length p.body ≤ longest_body) packets →
-    IfSome o (λ p. length p.body ≤ longest_body) → All (λ p. length p.body ≤ longest_body) (packets ++ cons_option o [])
-all_pushed packets None all small = rw (append-nil packets) all
-all_pushed packets (Some p) all small = All-push (λ (x : OutPacket). length x.body ≤ longest_body) packets p all small
-
 -- what is known while these departures are left of those that were sent
 pub record SoFar (t : Tables) (captures : List (List Captured)) (output : ℕ) (sent left : List Departure)
     (joiner : JoinerView) (packets : List OutPacket) : Type 0 where
@@ -123,9 +118,7 @@ module _ {t : Tables} {captures : List (List Captured)} {output : ℕ} {sent res
     -- its cell is the next
     pub can_join : {stamp : ℕ} → HaveLeftOf t captures sent stamp → Has sent d → CanBeJoined captures joiner d
     can_join of_run has =
-        let captured = departed_captured of_run d has in
-        let class = departed_class of_run d has in
-        search (arith, rules, at.fit, cond-true, own_cell)
+        search (arith, rules, departed_captured of_run d has, departed_class of_run d has, at.fit, cond-true, own_cell)
 
     module _ {joiner_new : JoinerView} (joined : JoinsOn captures d joiner joiner_new) where
       fit_next : (i c : ℕ) → c < length t.setup.classes →
@@ -137,7 +130,8 @@ module _ {t : Tables} {captures : List (List Captured)} {output : ℕ} {sent res
           more ≡ packets ++ cons_option o [] → IfSome o (λ p. length p.body ≤ longest_body) →
           SoFar t captures output sent rest joiner_new more
       unfolding packets_out
-      went_on o is pushed small = search (arith, rules, at, fit_next, all_pushed, eq-eqb, append_assoc, append-nil)
+      went_on o is pushed small =
+          grind (arith, common_steps, at, fit_next, All-push, eq-eqb, append_assoc, append-nil)
 
 pub at_first : {t : Tables} {captures : List (List Captured)} {sent : List Departure} {stamp : ℕ} (output : ℕ)
     (joiner : JoinerView) (packets : List OutPacket) → HaveLeftOf t captures sent stamp →

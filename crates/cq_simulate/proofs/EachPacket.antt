@@ -7,7 +7,7 @@ use Rattle.cq_simulate.proofs.FabricLaws.{slot_by_slot}
 use Rattle.cq_simulate.proofs.OfPackets.{by_packet, flow_in_line, line_cells, packet_cells, packets_come}
 use Rattle.cq_simulate.proofs.Runnable.{runnable}
 use Rattle.cq_simulate.specs.EachPacket.{EachPacketOnce, number_for, number_from, output_of, times_left, times_refused}
-use Rattle.cq_simulate.proofs.Tallies.{filter_images, filter_same, kinds_summed, of_kind, one_is, one_where, tally, tally_turned, tests_turned}
+use Rattle.cq_simulate.proofs.Tallies.{filter_images, filter_same, kinds_summed, of_kind, one_is, one_where, tally, tests_turned}
 
 -- Each packet leaves its output or is refused there, once, and so are all of them together. Where a packet is one of
 -- those that are taken in at its input its last cell leaves in its flow, and where it is not its first cell is one of
@@ -115,7 +115,7 @@ module _ (t : Tables) (captures : List (List Captured)) (sent : List Departure) 
         let p = parted input in_captures in
         let line = came_at input (arrivals t captures) in
         let its_own = of_kind (λ (cell : Cell). cell.id.packet) k (λ n. not (taken n)) line in
-        let turned = tally_turned begins (λ (cell : Cell). of_input cell && own cell) refused in
+        let turned = tests_turned begins (λ (cell : Cell). of_input cell && own cell) refused in
         grind (arith, common_steps, p.others, in_line, first_one, filter_both own)
 
     pub each_once : times_left input k j sent + times_refused input k j refused ≡ bit goes
