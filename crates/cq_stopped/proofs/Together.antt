@@ -4,8 +4,9 @@
 -- since the walk over the arrivals of each input ends with its mark, and those that are not named are, counted by any
 -- test, those that were refused. The text of that state is read as what was left, so what goes on from there is the
 -- run.
-use Rattle.cq_stopped.proofs.Terms.{come_count-first, IsCount, IsInputBest, recorded, slots_of_figures, rules, ◌≡◌, ℕ, zero, suc, ◌+◌, ◌-◌, ◌<◌, ◌≤◌, ◌^◌, List, [], ◌∷◌, length, map, fold, max, sym, ap, ◌∙◌, arith, common_steps, length-map, length-map-range_with_len, AllByRecursion, enumerate_from, flat_map, slice_index_or, Queued, Scheduled, arriving_from, departures_of, Fabric, cushion_of, input, SlotRecord, fabric_in, marked_in, LimitedRecord, slots_in, figures_of, input_figures, slacks, gone_in, list_of, each_pair, all_both, Differ, Has, all_from_has, all_of_has, has_image, has_left, has_right, image_has, figures_told, frozen_told, taken_of, opening, IsWhole, IsParted, seen_as, sent_as, state_of, IsRead, Kept, Runs, Switch, switch_of, named_in, queued_in, Taken, Tables, openings_of, AreRankNumbers, IsInRange, IsNamed, IsSeen, IsSent, state_text, Named, Sent, State, told_state, CanBeTakenUp, StoppedRunsAreSound, few_kept, of_images, all_weaker, written_in_run, arriving_length, counts_more, figures_fold, stable_limited_too, empty_list, limited_numbered, IsFabricRun, all_made, all_give, length-replicate, ◌&&◌, ◌==◌, Bool, Some, false, filter, refl, get_or-map, get_or-replicate, range_with_len, Cell, all_in_row, sum_by_same, tally, tally_by_parts, tally_turned, mark_at, refused_counts, refused_in, with_refused, fabric_judged, admissions_in, coming, has_name, unnamed, AreWholePackets, Name, refused_here, Refused, whole, all_stand, tallies_up, packets_alike, tally_is, IsTally, cells_in, all_arriving, all_in_range, all_judged, sum, proposals_in, ◌*◌}
+use Rattle.cq_stopped.proofs.Terms.{come_count-first, IsCount, IsInputBest, recorded, slots_of_figures, rules, ◌≡◌, ℕ, zero, suc, ◌+◌, ◌-◌, ◌<◌, ◌≤◌, ◌^◌, List, [], ◌∷◌, length, map, fold, max, sym, ap, ◌∙◌, arith, common_steps, length-map, length-map-range_with_len, AllByRecursion, enumerate_from, flat_map, slice_index_or, Queued, Scheduled, arriving_from, departures_of, Fabric, cushion_of, input, SlotRecord, fabric_in, marked_in, LimitedRecord, slots_in, figures_of, input_figures, slacks, gone_in, list_of, each_pair, all_both, Differ, Has, all_from_has, all_of_has, has_image, has_left, has_right, image_has, figures_told, frozen_told, taken_of, opening, IsWhole, IsParted, seen_as, sent_as, state_of, IsRead, Kept, Runs, Switch, switch_of, named_in, queued_in, Taken, Tables, openings_of, AreRankNumbers, IsInRange, IsNamed, IsSeen, IsSent, state_text, Named, Sent, State, told_state, CanBeTakenUp, StoppedRunsAreSound, few_kept, of_images, all_weaker, written_in_run, arriving_length, counts_more, figures_fold, stable_limited_too, empty_list, limited_numbered, IsFabricRun, all_made, all_give, length-replicate, ◌==◌, Bool, Some, false, filter, refl, get_or-map, get_or-replicate, range_with_len, Cell, mark_at, refused_counts, refused_in, with_refused, fabric_judged, admissions_in, coming, has_name, unnamed, AreWholePackets, Name, refused_here, Refused, whole, all_stand, tallies_up, packets_alike, tally_is, IsTally, cells_in, all_arriving, all_in_range, all_judged, sum, proposals_in, ◌*◌, kinds_summed, tests_turned, kept_has}
 use Rattle.cq_audit.proofs.Following.{run_within as of_its_slots}
+use Rattle.cq_resume.proofs.Cut.{filter_both}
 use Rattle.cq_resume.proofs.Joining.{parts_join as join}
 use Rattle.cq_resume.proofs.OneAnswer.{read_exact}
 use Rattle.cq_stopped.proofs.Configured.{least_of, AreLow, IsConfigured, configured}
@@ -165,11 +166,10 @@ module _ (w : Switch) (ranks : List (List ℕ)) (configured : IsConfigured w ran
       (admissions_in rs) (search (rules, fabric_judged, runs))
       (search (rules, all_in_range, all_arriving, configured.packets.inputs)) in
       let here : ℕ → ℕ = λ i. length (filter p (cells_in (unnamed names (coming i 0 next w.came)))) in
-      let parts = tally_by_parts p (λ c. 0) (λ (c : Cell). c.id.input) 1 (λ _. ports) lost
-      (search (arith, rules, all_weaker)) in
-      let same = sum_by_same (λ i. tally (λ (c : Cell). p c && c.id.input == i) lost) here (range_with_len 0 ports)
-      (all_in_row _ 0 ports (λ i lt. tally_turned p (λ c. c.id.input == i) lost
-      ∙ ap (λ (l : List Cell). length (filter p l)) (lost_here i (omega arith)))) in
+      let parts = kinds_summed (λ (c : Cell). c.id.input) here 0 ports (filter p lost)
+      (search (arith, rules, kept_has, all_of_has)) (λ i _ below. ap length
+      (filter_both (λ c. c.id.input == i) p lost ∙ tests_turned p (λ c. c.id.input == i) lost)
+      ∙ ap (λ (l : List Cell). length (filter p l)) (lost_here i (omega arith))) in
       omega (arith, counted_flat p (λ i. unnamed names (coming i 0 next w.came)) (range_with_len 0 ports))
 
   abbrev counts : List Refused
