@@ -1,6 +1,0 @@
-use Rattle.std.proofs.Common.{ap, get_or}
-use Rattle.cq_rank.specs.Machine.{Ranker}
-use Rattle.cq_rank.proofs.first_come.FirstComeRank.number.Goals as goal
-
-pub returns : goal.returns
-returns c = ap (λ (r : Ranker). get_or r.state c.args._at 0) c.self.view_is
