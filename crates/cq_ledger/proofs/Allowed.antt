@@ -1,11 +1,84 @@
+-- Each kind of step keeps the rule. A proposal is the event of the hand's input on the state that words and views show,
+-- and every other kind of step leaves that state as it is: the list of events behind the rule is the same, or longer by
+-- that input.
 -- The rule allows each kind of step, and what each tells its seat is so.
-use Rattle.cq_ledger.proofs.Terms.{rules, ℕ, suc, ◌≡◌, ◌≢◌, ◌*◌, ◌<◌, ◌≤◌, ◌^◌, min, List, get_or, set, Some, None, arith, bit_or, common_steps, none, cases_eq, get_or-le-sum_by, set_here, set_else, set_again, Orders, ports, position_of, IsOffered, state_after, events_at_most, output_in_range, sound-after, next_output-offered, View, Seated, Ruled, IsWord, proposal, IsClaim, claim, look, IsLedger, output_at, words_proposed, proposed, words_claimed, claim_taken, claim_refused, blank, joined, spent, Sits, bit, claim_word}
+-- A seat keeps the numbers of its view through each kind of step, and a call on a ledger finds there what it was
+-- promised of the seat.
+use Rattle.cq_ledger.proofs.Terms.{rules, ℕ, suc, ◌≡◌, ◌≢◌, ◌*◌, ◌<◌, ◌≤◌, ◌^◌, min, List, get_or, set, Some, None, arith, bit_or, common_steps, none, cases_eq, get_or-le-sum_by, set_here, set_else, set_again, Orders, ports, position_of, IsOffered, state_after, events_at_most, output_in_range, sound-after, next_output-offered, View, Seated, Ruled, IsWord, proposal, IsClaim, claim, look, IsLedger, output_at, words_proposed, proposed, words_claimed, claim_taken, claim_refused, blank, joined, spent, Sits, bit, claim_word, ◌++◌, [], ◌∷◌, refl, sym, ◌∙◌, ap, set-get_or, AreOffers, State, next_place, start, core_state, first_words, IsClaimed, IsUnclaimed, most_ports, ◌+◌, Option, Outcome, IsProposal, hand_at, hand_after, answer_of, HasClaimed}
 use Rattle.atomic_table.specs.Table.{step, Allows, Splits, Joins}
-use Rattle.cq_ledger.proofs.Claiming.{claim-keeps}
-use Rattle.cq_ledger.proofs.Events.{refused-keeps}
-use Rattle.cq_ledger.proofs.Proposing.{propose-keeps}
-use Rattle.cq_ledger.proofs.Seats.{split-keeps, join-keeps}
-use Rattle.cq_ledger.proofs.Views.{at_known, bit-lt, one_power}
+use Rattle.cq_ledger.proofs.Proposing.{propose-keeps, claim-keeps, refuse-keeps}
+use Rattle.cq_ledger.proofs.Seats.{split-keeps, join-keeps, start-keeps, longer-keeps, half_of}
+use Rattle.cq_ledger.proofs.Views.{at_known, bit-lt, one_power, or_set, dealt}
+use Rattle.cq_ledger.specs.Moments.{IsEvent}
+use Rattle.cq_ledger.proofs.CoreState.{core_state-is}
+use Rattle.atomic_table.specs.Seated.{TableId}
+use Rattle.cq_ledger.specs.SeatFields.{IsSeat}
+use Rattle.cq_ledger.specs.Seats.{LedgerState, SeatState, IsSeatOf, HasClaimedAll}
+use Rattle.cq_ledger.proofs.Hands.{hand_at-placed, hand_after-placed}
+
+pub start-shows : (o : Orders) → AreOffers o → ports o ≤ most_ports →
+    core_state o (first_words o) (blank o ∷ []) ≡ start o
+unfolding start-keeps
+start-shows o v few = core_state-is o (first_words o) (blank o ∷ []) (start-keeps o v few)
+
+module _ (o : Orders) (words : List ℕ) (views : List View) (k : IsLedger o words views) (id : ℕ) (v : View)
+    (at : Sits views id v) where
+  abbrev s : State
+  s = state_after o k.events
+
+  is : core_state o words views ≡ s
+  is = core_state-is o words views k
+
+  -- the state shown is the one after the same events
+  as_before : (words' : List ℕ) (views' : List View) (k' : IsLedger o words' views') → state_after o k'.events ≡ s →
+      core_state o words' views' ≡ core_state o words views
+  as_before words' views' k' same = core_state-is o words' views' k' ∙ same ∙ sym is
+
+  pub proposal-event : (i p : ℕ) → v.hand ≡ Some (i, p) → v.offers ≡ o → IsEvent o words views id i p v
+  unfolding propose-keeps
+  proposal-event i p hand same_offers =
+      let here : next_place s i ≡ p = k.hands.place id i p v at hand in
+      let f = k.hands.free id i p v at hand in
+      let k' = propose-keeps o words views k id i v at same_offers (rw here hand) in
+      search (arith, rules, is, here, core_state-is o _ _ k', output_in_range, next_output-offered)
+
+  module _ (i : ℕ) where
+    pub taken-shows : i < ports o → IsUnclaimed words i → v.hand ≡ None → v.offers ≡ o →
+        core_state o (words_claimed words i) (set views id (claim_taken v i)) ≡ core_state o words views
+    unfolding claim-keeps
+    taken-shows r clear empty same_offers = as_before (words_claimed words i) (set views id (claim_taken v i))
+        (claim-keeps o words views k id i v at same_offers r clear empty) refl
+
+    -- a claim that finds the input claimed leaves the words as they are
+    words-same : IsClaimed words i → words_claimed words i ≡ words
+    words-same claimed = ap (λ m. set words 0 m) (or_set (get_or words 0 0) i claimed) ∙ set-get_or words 0 0
+
+    pub refused-keeps : IsClaimed words i → v.offers ≡ o →
+        IsLedger o (words_claimed words i) (set views id (claim_refused v i))
+    refused-keeps claimed same_offers =
+        rw (words-same claimed) (refuse-keeps o words views k id i v at same_offers claimed)
+
+    pub refused-shows : IsClaimed words i → v.offers ≡ o →
+        core_state o (words_claimed words i) (set views id (claim_refused v i)) ≡ core_state o words views
+    unfolding refuse-keeps dealt
+    refused-shows claimed same_offers =
+        rw (words-same claimed) (as_before words (set views id (claim_refused v i))
+        (refuse-keeps o words views k id i v at same_offers claimed) refl)
+
+  pub split-shows : core_state o words (set views id v ++ blank v.offers ∷ []) ≡ core_state o words views
+  unfolding longer-keeps dealt
+  split-shows = ap (λ l. core_state o words (l ++ blank v.offers ∷ [])) (set_again views id v at)
+      ∙ as_before words (views ++ blank v.offers ∷ [])
+      (longer-keeps o words views k v.offers (half_of o v (k.same id v at))) refl
+
+  pub join-shows : (other : ℕ) (u : View) → other ≢ id → Sits views other u → v.hand ≡ None → u.hand ≡ None →
+      v.offers ≡ o → core_state o words (set (set views id (joined v u)) other spent) ≡ core_state o words views
+  unfolding join-keeps dealt
+  join-shows other u apart at_other empty empty_other same_offers =
+      as_before words (set (set views id (joined v u)) other spent)
+      (join-keeps o words views k id v at other u apart at_other empty empty_other same_offers) refl
+
+-- ## What the rule allows
 
 -- what one seat made is at most the square of the ports
 pub made-most : (o : Orders) (words : List ℕ) (views : List View) (k : IsLedger o words views) (id : ℕ) (v : View) →
@@ -18,7 +91,7 @@ pub proposal-keeps : (o : Orders) (words : List ℕ) (views : List View) (k : Is
     IsLedger o (words_proposed o words i p) (set views id (proposed v i p (get_or words (suc (output_at o i p)) 0)))
 proposal-keeps o words views k id i p v at h e =
     let here = k.hands.place id i p v at h in
-    rw (← here) (propose-keeps o words views k id i v at (rw here h) e)
+    rw (← here) (propose-keeps o words views k id i v at e (rw here h))
 
 -- at an output, a position and a word that were computed
 pub proposal-allowed : (key o : Orders) → key ≡ o → (slots id i p : ℕ) (me : Seated) → me.0.hand ≡ Some (i, p) →
@@ -37,9 +110,8 @@ proposal-allowed key o same slots id i p me h e n q j is_output is_position is_w
     let shown = k.positions (output_at o i p) r in
     let few = made-most o _ _ k' id (proposed me.0 i p found)
     (set_here s.views id _ (at_known s.views id me.0 me.0 at).0) in
-    let word : IsWord o (output_at o i p) found = rw shown (w.held_in (output_at o i p) r) in
-    let apart : found ≢ position_of o (output_at o i p) i = search (rules, free.unheld, k.offers.shown) in
-    search (arith, rules))
+    let held = w.held_in (output_at o i p) r in
+    search (arith, rules, free.unheld, k.offers.shown))
 
 module _ (o : Orders) (slots id i : ℕ) (me : Seated) (r : i < ports o) (empty : me.0.hand ≡ None)
     (same_offers : me.0.offers ≡ o)
@@ -80,3 +152,39 @@ pub look-allowed : (key offers : Orders) → key ≡ offers → (slots id : ℕ)
     Allows (Ruled key) slots id me 0 (λ n. n) (look (step slots 0 0 0 none) me)
 look-allowed key offers same slots id me e s k size at bound = grind
     (arith, common_steps, made-most key s.words s.views k id me.0 at, set_again s.views id me.0 at)
+
+-- ## The fields of a seat
+
+-- what a call knows of the fields of a ledger and of a seat of it
+pub record AreMatched (l : LedgerState) (s : SeatState) (table : TableId) (offers : Orders) (mine : TableId)
+    (view : View) : Type 0 where
+  pub table_is : mine ≡ table
+  pub offers_are : view.offers ≡ offers
+  pub offers_seen : offers ≡ l.offers
+  pub table_seen : table ≡ l.table
+  pub view_seen : view ≡ s.view
+
+pub matched : (l : LedgerState) (s : SeatState) (table : TableId) (offers : Orders) (mine : TableId) (view : View) →
+    record { table = table; offers = offers } ≡ l → record { table = mine; view = view } ≡ s → IsSeatOf l s →
+    AreMatched l s table offers mine view
+matched l s table offers mine view is_l is_s of = grind (arith, common_steps)
+
+module _ (me : Seated) (claims : ℕ) (hand : Option (ℕ × ℕ)) (made : ℕ) (s : IsSeat me claims hand made) (me' : Seated)
+  where
+    pub taken-seat : (i bit : ℕ) (hand' : Option (ℕ × ℕ)) → me' ≡ (claim_taken me.0 i, me.1) → bit ≡ 2 ^ i →
+        hand' ≡ hand_at me.0.offers i 0 → IsSeat me' (bit_or claims bit) hand' made
+    taken-seat i bit hand' is bit_is hand_is = rw (is, hand_is, bit_is) (search (arith, rules, hand_at-placed))
+
+    pub proposed-seat : (i p found : ℕ) (answer : Outcome) (hand' : Option (ℕ × ℕ)) → IsProposal me i p found me' →
+        answer ≡ answer_of me.0.offers i p found → hand' ≡ hand_after me.0.offers i p answer →
+        IsSeat me' claims hand' (made + 1)
+    proposed-seat i p found answer hand' is answer_is hand_is =
+        let hand_found = ap (λ v. v.hand) is.view ∙ ap (hand_after me.0.offers i p) (sym answer_is) in
+        let placed = λ (q r : ℕ). hand_after-placed me.0.offers i p answer (q, r) in
+        search (arith, rules, placed)
+
+-- a seat that has claimed every port has claimed those of the ledger's offers
+pub all_claimed : (l : LedgerState) (s : SeatState) (table : TableId) (offers : Orders) (mine : TableId) (view : View)
+    → AreMatched l s table offers mine view → HasClaimedAll s →
+    (i : ℕ) → i < ports offers → HasClaimed view i
+all_claimed l s table offers mine view m all i h = grind (arith, common_steps)

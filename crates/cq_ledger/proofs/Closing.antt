@@ -2,8 +2,7 @@
 -- none has made a proposal or has an input in its hand. Nobody is dropped, so nobody is free.
 use Rattle.cq_ledger.proofs.Terms.{rules, ℕ, ◌≡◌, ◌≢◌, ◌<◌, List, [], ◌∷◌, None, refl, arith, sum_by, cases_eq, sum_by-cons, Orders, ports, Partners, IsInputBest, proposals, next_output-offered, sound-after, State, IsQuiescent, state_after, matching_of, IsSound, IsLedger, Sits, bit, input_in_range, Shows, events-quiet, View, common_steps, spent, at_set, suc}
 use Rattle.cq_prefs.proofs.Quiet.{input_best-quiet}
-use Rattle.cq_ledger.proofs.Dealt.{made_with}
-use Rattle.cq_ledger.proofs.Views.{same_at, no_bits}
+use Rattle.cq_ledger.proofs.Views.{same_at, no_bits, made_with}
 
 none_made : (views : List View) → ((a : ℕ) (u : View) → Sits views a u → u.made ≡ 0) →
     sum_by (λ (y : View). y.made) views ≡ 0
@@ -26,8 +25,7 @@ module _ (o : Orders) (words : List ℕ) (views : List View) (k : IsLedger o wor
   pub closing-quiet : IsQuiescent o (state_after o k.events)
   closing-quiet i f =
       let r = input_in_range o i _ (next_output-offered o k.offers (state_after o k.events) i f.left) in
-      let c = k.claims.claimed id i v at_id (all i r) in
-      search (arith, rules, k.hands.undropped i f, cases_eq, others_idle, same_at)
+      search (arith, rules, k.claims.claimed, k.hands.undropped i f, cases_eq, others_idle, same_at)
 
   -- what the words show is the one matching that is best for the inputs, and the seat made its proposals
   pub closing-best : IsInputBest o (matching_of o (state_after o k.events))

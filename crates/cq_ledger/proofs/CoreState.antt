@@ -1,7 +1,10 @@
 -- The place that is found for an input in the hands is that of a hand that has it, and where none is found no hand
 -- does.
 -- The state of the proposal core that words and views show is the one that the proposals of the rule reach.
-use Rattle.cq_ledger.proofs.Terms.{rules, ℕ, ◌≡◌, List, [], length, drop, Option, Some, None, refl, sym, ◌∙◌, ap, arith, map, range_with_len, ext_get_or, length-drop, length-map-range_with_len, get_or-map-range_with_len, Orders, ports, outputs_of, State, next_place, IsSound, keeper, state_after, keeper-holds, keeper-from, sound-after, View, IsLedger, place_in_hands, output_of, next_shown, core_state, IsClaimed, claim_word, common_steps, zero, suc, ◌∷◌, some-injective, some-ne-none, cond_both, eqb-true, eq-eqb, true≢false, place_in_hand, first_place, Sits, IsInAHand}
+use Rattle.cq_ledger.proofs.Terms.{rules, ℕ, ◌≡◌, List, [], length, drop, Option, Some, None, refl, sym, ◌∙◌, ap, arith, map, range_with_len, ext_get_or, length-drop, length-map-range_with_len, get_or-map-range_with_len, Orders, ports, outputs_of, State, next_place, IsSound, keeper, state_after, keeper-holds, keeper-from, sound-after, View, IsLedger, place_in_hands, output_of, next_shown, core_state, IsClaimed, claim_word, common_steps, zero, suc, ◌∷◌, some-injective, some-ne-none, cond_both, eqb-true, eq-eqb, true≢false, place_in_hand, first_place, Sits, IsInAHand, sum-places, held_once, output_in_range, sum}
+use Rattle.cq_prefs.proofs.LeastFirst.{input_best-best}
+use Rattle.cq_prefs.proofs.Quiet.{none_passed-after}
+use Rattle.cq_ledger.specs.Moments.{ShowsProposals}
 use Rattle.cq_ledger.proofs.Views.{bit-lt}
 
 -- ## One hand
@@ -58,10 +61,7 @@ module _ (o : Orders) (words : List ℕ) (views : List View) (k : IsLedger o wor
   next-is : (i : ℕ) → next_shown o words views i ≡ next_place s i
   unfolding next_shown
   next-is i =
-      let hand = in_hands-some views i in
-      let held = keeper-holds o s i in
-      let bits = bit-lt (claim_word words) i in
-      search (arith, rules, output-is i, hand, k.hands.place, held, w.last, through i, k.unclaimed i, bits)
+      search (arith, rules, output-is, in_hands-some, k.hands.place, keeper-holds, w.last, through, k.unclaimed, bit-lt)
 
   places-are : map (next_shown o words views) (range_with_len 0 (ports o)) ≡ s.places
   places-are = ext_get_or 0 (map (next_shown o words views) (range_with_len 0 (ports o))) s.places
@@ -71,3 +71,16 @@ module _ (o : Orders) (words : List ℕ) (views : List View) (k : IsLedger o wor
   pub core_state-is : core_state o words views ≡ s
   unfolding core_state
   core_state-is = λ n. record { positions = positions-are n; places = places-are n }
+
+  -- so all that is known of a state that proposals reach holds of it
+  pub shows_proposals : ShowsProposals o words views
+  shows_proposals =
+      record {
+        reached = record { events = k.events; are_events = k.are_events; state = core_state-is; count = k.made };
+        made = k.made ∙ sym (sum-places o k.offers k.events k.are_events) ∙ ap (λ t. sum t.places) (sym core_state-is);
+        word = λ j r. rw (k.positions j r) (w.held_in j r);
+        one_place = rw core_state-is (λ i. search (rules, held_once, w));
+        hand = rw core_state-is (λ a i p v at h. search (rules));
+        asked = rw core_state-is (λ i j r l. omega (arith, w.asked_before i j l, k.positions j r));
+        not_passed = λ i j e. search (arith, rules, input_best-best o k.offers, output_in_range, none_passed-after);
+      }

@@ -1,106 +1,207 @@
+-- A claim that finds the input unclaimed keeps the rule, and is no event. The input has not proposed and nobody holds
+-- it, so it is free where its order is not empty, and the hand takes it at its first place.
+-- A claim that finds the input claimed keeps the rule: it changes only what its seat has seen.
 -- A proposal keeps the rule, and is one event. The word of the output that is asked becomes the position that it
 -- holds after the event. The new hand has the input that was displaced or rejected, if that is free: no other seat
 -- has it, since it was held, or in this hand.
-use Rattle.cq_ledger.proofs.Terms.{rules, ℕ, suc, ◌≡◌, ◌≢◌, inl, ⊎_elim, ◌<◌, min, List, ◌∷◌, get_or, set, Some, sym, ◌∙◌, ap, arith, common_steps, cases_eq, get_or-set_same, get_or-set_other, length-set, at_set, Orders, ports, position_of, IsStep, step, sound-after, State, position_held, next_place, IsFree, next_output, propose, state_after, IsSound, IsLedger, proposed, Waits, Sits, bit, claim_word, output_in_range, View}
-use Rattle.cq_ledger.proofs.Hands.{hand_found, still_free, hand-shows, free-before}
-use Rattle.cq_ledger.proofs.Dealt.{sits_now, in_hand_still, claims_stay as same_claims, made_with, hands_with, offers_with, MayHold}
-use Rattle.cq_ledger.proofs.Views.{bit-lt}
+use Rattle.cq_ledger.proofs.Terms.{rules, ℕ, suc, ◌≡◌, ◌≢◌, inl, ⊎_elim, ◌<◌, min, List, ◌∷◌, get_or, set, Some, sym, ◌∙◌, ap, arith, common_steps, cases_eq, get_or-set_same, get_or-set_other, length-set, at_set, Orders, ports, position_of, IsStep, step, sound-after, State, position_held, next_place, IsFree, next_output, propose, state_after, IsSound, IsLedger, proposed, Waits, Sits, bit, claim_word, output_in_range, View, ◌⊎◌, ◌^◌, length, None, bit_or, outputs_of, hand_at, claim_taken, IsClaimedByOne, refl, claim_refused}
+use Rattle.cq_ledger.proofs.Hands.{hand_found, still_free, hand-shows, free-before, hand_at-left, hand_at-shows}
+use Rattle.cq_ledger.proofs.Views.{bit-lt, sits_now, in_hand_still, claims_stay as same_claims, made_with, hands_with, offers_with, MayHold, bit-or_same, bit-or_other, bit-zero, by_one_still, stood, hands_from, dealt}
 
 module _ (o : Orders) (words : List ℕ) (views : List View) (k : IsLedger o words views) (id i : ℕ) (v : View)
-    (at_id : Sits views id v)
-    (in_hand : v.hand ≡ Some (i, next_place (state_after o k.events) i)) (same_offers : v.offers ≡ o) where
+    (at_id : Sits views id v) (same_offers : v.offers ≡ o) where
   abbrev s : State
   s = state_after o k.events
-
-  abbrev t : State
-  t = propose o s i
-
-  abbrev j : ℕ
-  j = next_output o s i
-
-  pub f : IsFree o s i
-  f = k.hands.free id i (next_place s i) v at_id in_hand
 
   pub w : IsSound o s
   w = sound-after o k.offers k.events k.are_events
 
-  pub st : IsStep o s i t
-  st = step o k.offers s w i f
+  -- ## A claim that finds the input unclaimed
 
-  pub j_in_range : j < ports o
-  j_in_range = output_in_range o k.offers i j st.offered
+  module _ (r : i < ports o) (clear : bit (claim_word words) i ≡ 0) (empty : v.hand ≡ None) where
+    abbrev taken : View
+    taken = claim_taken v i
 
-  pub found_is : get_or words (suc j) 0 ≡ position_held s j
-  found_is = k.positions j j_in_range
+    abbrev claimed_words : List ℕ
+    claimed_words = set words 0 (bit_or (claim_word words) (2 ^ i))
 
-  abbrev view_now : View
-  view_now = proposed v i (next_place s i) (get_or words (suc j) 0)
+    abbrev claimed_views : List View
+    claimed_views = set views id taken
 
-  abbrev words_now : List ℕ
-  words_now = set words (suc j) (min (get_or words (suc j) 0) (position_of o j i))
+    pub here : Sits claimed_views id taken
+    here = sits_now views id v taken at_id
 
-  abbrev views_now : List View
-  views_now = set views id view_now
+    pub word_now : claim_word claimed_words ≡ bit_or (claim_word words) (2 ^ i)
+    word_now = get_or-set_same words 0 _ 0 (omega arith)
 
-  pub hand_is : view_now.hand ≡ hand_found o i (next_place s i) (position_held s j)
-  hand_is = grind (arith, common_steps, hand_found, found_is)
+    pub now_set : bit (claim_word claimed_words) i ≡ 1
+    now_set = ap (λ n. bit n i) word_now ∙ bit-or_same (claim_word words) i
 
-  pub claims_stay : claim_word words_now ≡ claim_word words
-  claims_stay = let n : 0 ≢ suc j = omega arith in get_or-set_other words (suc j) 0 _ 0 n
+    pub bits : (q : ℕ) → q ≢ i → bit (claim_word claimed_words) q ≡ bit (claim_word words) q
+    bits q n = ap (λ m. bit m q) word_now ∙ bit-or_other (claim_word words) i q n
 
-  pub still_set : (q : ℕ) → bit (claim_word words) q ≡ 1 → bit (claim_word words_now) q ≡ 1
-  still_set q h = ap (λ n. bit n q) claims_stay ∙ h
+    pub not_i : (q : ℕ) → bit (claim_word words) q ≡ 1 → q ≢ i
+    not_i q h e = grind (arith, common_steps)
 
-  pub was_set : (q : ℕ) (n : ℕ) → bit (claim_word words_now) q ≡ n → bit (claim_word words) q ≡ n
-  was_set q n h = sym (ap (λ n. bit n q) claims_stay) ∙ h
+    pub stays_set : (q : ℕ) → bit (claim_word words) q ≡ 1 → bit (claim_word claimed_words) q ≡ 1
+    stays_set q h = bits q (not_i q h) ∙ h
 
-  pub shown_now : (q : ℕ) → q < ports o → get_or words_now (suc q) 0 ≡ position_held t q
-  shown_now q r =
-      let same = get_or-set_same words (suc j) in
-      let other = get_or-set_other words (suc j) (suc q) in
-      grind (arith, cases_eq q j, same, other, k.positions q, st.held_other q, found_is, st.held_asked, j_in_range)
+    pub hand_now : taken.hand ≡ hand_at o i 0
+    hand_now = ap (λ x. hand_at x i 0) same_offers
 
-  -- another view's hand has another input
-  pub other_hand : (b q p : ℕ) (u : View) → b ≢ id → Sits views b u → u.hand ≡ Some (q, p) → q ≢ i
-  other_hand b q p u n a h e = search (rules)
+    pub fresh_i : next_place s i ≡ 0
+    fresh_i = k.unclaimed i clear
 
-  -- my hand has no input of another hand
-  pub mine : (q p : ℕ) → view_now.hand ≡ Some (q, p) → MayHold o t words_now q p × ((b r : ℕ) (x : View) →
-      Sits views b x → b ≢ id → x.hand ≡ Some (q, r) → ⊥)
-  mine q p h =
-      let m = hand-shows o k.offers s w i f q p (sym hand_is ∙ h) in
-      let own = k.hands.claimed id i (next_place s i) v at_id in_hand in
-      let claimed : bit (claim_word words) q ≡ 1 =
-      grind (arith, m.who, own, w.last q j, k.unclaimed q, bit-lt (claim_word words) q) in (
-        (m.free, m.place_is, still_set q claimed),
-        λ b r x a n g. ⊎_elim (other_hand b q r x n a g) ((k.hands.free b q r x a g).unheld j) m.who,
-      )
+    pub free_i : 0 < length (outputs_of o i) → IsFree o s i
+    free_i h = grind (arith, common_steps, fresh_i, w.last)
 
-  pub others : (b q p : ℕ) (u : View) → Sits views b u → b ≢ id → u.hand ≡ Some (q, p) → MayHold o t words_now q p
-  others b q p u a n h =
-      let other = other_hand b q p u n a h in
-      let free = still_free o k.offers s w i f in
-      search (rules, free, st.others_stay, still_set, k.hands.free, k.hands.place, k.hands.claimed)
+    -- who has claimed an input now is this view, or had claimed it
+    pub claims_of : (b q : ℕ) (u : View) → Sits claimed_views b u → bit u.claims q ≡ 1 →
+        ((b ≡ id) × (q ≡ i)) ⊎ ((x : View) × Sits views b x × (bit x.claims q ≡ 1))
+    claims_of b q u a h = search (rules, at_set views id b taken u a, cases_eq q i, bit-or_other v.claims i q)
 
-  pub undropped_now : (q : ℕ) → IsFree o t q → Waits words_now views_now q
-  undropped_now q g =
-      let before = free-before o k.offers s w i f q g in
-      let here = sits_now views id v view_now at_id in
-      search (arith, rules, in_hand_still views id v view_now at_id q, here, hand_is, claims_stay)
+    pub by_one_now : (q : ℕ) → bit (claim_word claimed_words) q ≡ 1 → IsClaimedByOne claimed_views q
+    by_one_now q h =
+        let still = by_one_still views id v taken at_id q in
+        search (rules, cases_eq q i, here, bit-or_same, still, bit-or_other, bits q, k.claims.by_one q)
 
-  unfoldable pub propose-keeps : IsLedger o words_now views_now
-  propose-keeps =
-      record {
-        offers = k.offers;
-        few = k.few;
-        events = i ∷ k.events;
-        are_events = (k.are_events, f);
-        size = length-set words (suc j) _ ∙ k.size;
-        same = offers_with o views id view_now k.same (inl same_offers);
-        positions = shown_now;
-        claims = search (rules, same_claims views id v view_now at_id, claims_stay, k.claims.seen);
-        hands = hands_with views id v view_now at_id o s t words words_now k.hands mine others undropped_now;
-        unclaimed = λ q h. search (arith, rules, cases_eq, k.hands.claimed, was_set, st.others_stay, k.unclaimed);
-        made = let a = made_with views id v view_now at_id in let b = k.made in omega arith;
-        idle = search (rules, k.idle, at_set);
-      }
+    pub undropped_claimed : (q : ℕ) → IsFree o s q → Waits claimed_words claimed_views q
+    undropped_claimed q g =
+        let still = in_hand_still views id v taken at_id in
+        search (arith, rules, k.hands.undropped q g, cases_eq q i, bits q, here, hand_now, hand_at-left, fresh_i, still)
+
+    unfoldable pub claim-keeps : IsLedger o claimed_words claimed_views
+    claim-keeps =
+        record {
+          offers = k.offers;
+          few = k.few;
+          events = k.events;
+          are_events = k.are_events;
+          size = length-set words 0 _ ∙ k.size;
+          same = offers_with o views id taken k.same (inl same_offers);
+          positions = λ j l. get_or-set_other words 0 (suc j) _ 0 (omega arith) ∙ k.positions j l;
+          claims = search (rules, claims_of, now_set, stays_set, by_one_now, not_i, k.claims.in_range, bits, at_set);
+          hands = hands_with views id v taken at_id o s s words claimed_words k.hands
+              (search (arith, rules, hand_at-shows, hand_now, free_i, fresh_i, now_set, not_i))
+              (search (arith, rules, stays_set)) undropped_claimed;
+          unclaimed = search (arith, rules, cases_eq, fresh_i, k.unclaimed, bits);
+          made = let a = made_with views id v taken at_id in let b = k.made in omega arith;
+          idle = λ b u a. grind (arith, common_steps, at_set views id b taken u a, bit-or_same, bit-zero i, k.idle b);
+        }
+
+  -- ## A claim that finds the input claimed
+
+  module _ (found : bit (claim_word words) i ≡ 1) where
+    abbrev refused_now : View
+    refused_now = claim_refused v i
+
+    abbrev refused_views : List View
+    refused_views = set views id refused_now
+
+    -- the view that stood there before
+    pub had : (b : ℕ) (u : View) → Sits refused_views b u →
+        (x : View) × Sits views b x × ((x.claims ≡ u.claims) × (x.hand ≡ u.hand) × (x.made ≡ u.made))
+    had = stood views id v refused_now at_id (λ x u. (x.claims ≡ u.claims) × (x.hand ≡ u.hand) × (x.made ≡ u.made))
+        (refl, refl, refl) (λ u. (refl, refl, refl))
+
+    unfoldable pub refuse-keeps : IsLedger o words refused_views
+    refuse-keeps =
+        let claims = same_claims views id v refused_now at_id o words words refl refl in
+        let still = in_hand_still views id v refused_now at_id in
+        let made = made_with views id v refused_now at_id in
+        dealt o words views refused_views k (offers_with o views id refused_now k.same (inl same_offers))
+        (claims (search (arith, rules, k.claims.seen, bit-or_other, cases_eq)) k.claims)
+        (hands_from k.hands (search (rules, had)) (search (rules, still))) (omega arith) (search (rules, had, k.idle))
+
+  -- ## A proposal
+
+  module _ (in_hand : v.hand ≡ Some (i, next_place s i)) where
+    abbrev t : State
+    t = propose o s i
+
+    abbrev j : ℕ
+    j = next_output o s i
+
+    pub f : IsFree o s i
+    f = k.hands.free id i (next_place s i) v at_id in_hand
+
+    pub st : IsStep o s i t
+    st = step o k.offers s w i f
+
+    pub j_in_range : j < ports o
+    j_in_range = output_in_range o k.offers i j st.offered
+
+    pub found_is : get_or words (suc j) 0 ≡ position_held s j
+    found_is = k.positions j j_in_range
+
+    abbrev view_now : View
+    view_now = proposed v i (next_place s i) (get_or words (suc j) 0)
+
+    abbrev words_now : List ℕ
+    words_now = set words (suc j) (min (get_or words (suc j) 0) (position_of o j i))
+
+    abbrev views_now : List View
+    views_now = set views id view_now
+
+    pub hand_is : view_now.hand ≡ hand_found o i (next_place s i) (position_held s j)
+    hand_is = grind (arith, common_steps, hand_found, found_is)
+
+    pub claims_stay : claim_word words_now ≡ claim_word words
+    claims_stay = let n : 0 ≢ suc j = omega arith in get_or-set_other words (suc j) 0 _ 0 n
+
+    pub still_set : (q : ℕ) → bit (claim_word words) q ≡ 1 → bit (claim_word words_now) q ≡ 1
+    still_set q h = ap (λ n. bit n q) claims_stay ∙ h
+
+    pub was_set : (q : ℕ) (n : ℕ) → bit (claim_word words_now) q ≡ n → bit (claim_word words) q ≡ n
+    was_set q n h = sym (ap (λ n. bit n q) claims_stay) ∙ h
+
+    pub shown_now : (q : ℕ) → q < ports o → get_or words_now (suc q) 0 ≡ position_held t q
+    shown_now q r =
+        let same = get_or-set_same words (suc j) in
+        let other = get_or-set_other words (suc j) (suc q) in
+        grind (arith, cases_eq q j, same, other, k.positions q, st.held_other q, found_is, st.held_asked, j_in_range)
+
+    -- another view's hand has another input
+    pub other_hand : (b q p : ℕ) (u : View) → b ≢ id → Sits views b u → u.hand ≡ Some (q, p) → q ≢ i
+    other_hand b q p u n a h e = search (rules)
+
+    -- my hand has no input of another hand
+    pub mine : (q p : ℕ) → view_now.hand ≡ Some (q, p) → MayHold o t words_now q p × ((b r : ℕ) (x : View) →
+        Sits views b x → b ≢ id → x.hand ≡ Some (q, r) → ⊥)
+    mine q p h =
+        let m = hand-shows o k.offers s w i f q p (sym hand_is ∙ h) in
+        let own = k.hands.claimed id i (next_place s i) v at_id in_hand in
+        let claimed : bit (claim_word words) q ≡ 1 =
+        grind (arith, m.who, own, w.last q j, k.unclaimed q, bit-lt (claim_word words) q) in (
+          (m.free, m.place_is, still_set q claimed),
+          λ b r x a n g. ⊎_elim (other_hand b q r x n a g) ((k.hands.free b q r x a g).unheld j) m.who,
+        )
+
+    pub others : (b q p : ℕ) (u : View) → Sits views b u → b ≢ id → u.hand ≡ Some (q, p) → MayHold o t words_now q p
+    others b q p u a n h =
+        let other = other_hand b q p u n a h in
+        let free = still_free o k.offers s w i f in
+        search (rules, free, st.others_stay, still_set, k.hands.free, k.hands.place, k.hands.claimed)
+
+    pub undropped_now : (q : ℕ) → IsFree o t q → Waits words_now views_now q
+    undropped_now q g =
+        let before = free-before o k.offers s w i f q g in
+        let here = sits_now views id v view_now at_id in
+        search (arith, rules, in_hand_still views id v view_now at_id q, here, hand_is, claims_stay)
+
+    unfoldable pub propose-keeps : IsLedger o words_now views_now
+    propose-keeps =
+        record {
+          offers = k.offers;
+          few = k.few;
+          events = i ∷ k.events;
+          are_events = (k.are_events, f);
+          size = length-set words (suc j) _ ∙ k.size;
+          same = offers_with o views id view_now k.same (inl same_offers);
+          positions = shown_now;
+          claims = search (rules, same_claims views id v view_now at_id, claims_stay, k.claims.seen);
+          hands = hands_with views id v view_now at_id o s t words words_now k.hands mine others undropped_now;
+          unclaimed = λ q h. search (arith, rules, cases_eq, k.hands.claimed, was_set, st.others_stay, k.unclaimed);
+          made = let a = made_with views id v view_now at_id in let b = k.made in omega arith;
+          idle = search (rules, k.idle, at_set);
+        }

@@ -144,8 +144,7 @@ module _ {o : Orders} {c : Progress} {i j h : ℕ} {ahead : Option ℕ} (a : IsA
     pub rejected : ahead ≡ None → Proposed o c d i Rejected
     unfolding answer_of
     rejected none =
-        let l = not_less none in
-        search (rules, sound, inputs_at_most, asked_offered, state-refused, reached-step, matching-refused)
+        search (rules, sound, inputs_at_most, asked_offered, state-refused, reached-step, matching-refused, not_less)
 
     -- the output takes the input
     taken : {p : ℕ} → ahead ≡ Some p → {e f : Progress} → e.state ≡ d.state → Takes o e f i j p →
@@ -161,8 +160,7 @@ module _ {o : Orders} {c : Progress} {i j h : ℕ} {ahead : Option ℕ} (a : IsA
     pub holding : {p : ℕ} → ahead ≡ Some p → h ≡ ports o → {e : Progress} → Takes o d e i j p →
         Proposed o c e i Held
     unfolding answer_of
-    holding some nobody t =
-        let event = taken some refl t in search (arith, rules, less, sound, eq-eqb, matching-empty, reached-step)
+    holding some nobody t = search (arith, rules, taken, less, sound, eq-eqb, matching-empty, reached-step)
 
     -- ## It held another input
 
@@ -192,10 +190,8 @@ module _ {o : Orders} {c : Progress} {i j h : ℕ} {ahead : Option ℕ} (a : IsA
         pub displaced : {p : ℕ} → ahead ≡ Some p → {f : Progress} → Takes o e f i j p → Proposed o c f i (Displaced k)
         unfolding answer_of
         displaced some t =
-            let event = taken some s.state t in
             let l = less some in
-            search (arith, rules, sound, other_held, ne_eqb, lt-ltb, parted, matching-displaced, reached-step)
+            search (arith, rules, taken, sound, other_held, ne_eqb, lt-ltb, parted, matching-displaced, reached-step)
 
   pub held_inside : h ≢ ports o → h < length (inputs_of o j)
-  held_inside n =
-      search (arith, rules, holder-holds, sound, next_known)
+  held_inside n = search (arith, rules, holder-holds, sound, next_known)

@@ -3,10 +3,9 @@
 -- for the inputs.
 use Rattle.cq_prefs.proofs.Terms.{common_steps, rules, ℕ, zero, suc, ◌≡◌, ◌⊎◌, inl, ◌*◌, Bool, true, List, [], ◌∷◌, length, Option, Some, None, refl, arith, find, range_with_len, cond_both, true≢false, Orders, AreOffers, ports, IsInputBest, State, IsFree, IsQuiescent, is_free, next_output, state_after, AreEvents, Has, has_number}
 use Rattle.cq_prefs.specs.LeastFirst.{least_free, propose_if, state_at, best}
-use Rattle.cq_prefs.proofs.Counts.{events_at_most}
 use Rattle.cq_prefs.proofs.Holding.{found_passes, free_if, free_only_if}
 use Rattle.cq_prefs.proofs.Places.{input_in_range}
-use Rattle.cq_prefs.proofs.Quiet.{input_best-quiet}
+use Rattle.cq_prefs.proofs.Quiet.{input_best-quiet, events_at_most}
 use Rattle.cq_prefs.proofs.Steps.{sound-after, next_output-offered}
 
 -- where nothing is found, nothing passes the test
@@ -37,8 +36,7 @@ one_turn : (o : Orders) → AreOffers o → (n : ℕ) (s : State) → IsTurns o 
 one_turn o v n s t None e = grind (arith, common_steps, quiet_if_none)
 one_turn o v n s t (Some i) e =
     let free = free_if_found o v t.events t.are_events i (rw t.is at e) in
-    let ends = t.ended in
-    record { events = i ∷ t.events; are_events = (t.are_events, free); is = cc; ended = search (arith, rules, ends) }
+    record { events = i ∷ t.events; are_events = (t.are_events, free); is = cc; ended = search (arith, rules) }
 
 turns : (o : Orders) → AreOffers o → (n : ℕ) → IsTurns o n (state_at o n)
 turns o v zero = record { events = []; are_events = tt; is = refl; ended = inl refl }

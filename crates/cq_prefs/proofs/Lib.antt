@@ -6,8 +6,6 @@ pub mod OutputOrder
 pub mod InputOrder
 pub mod OneOrder
 pub mod ByKey
-pub mod Halving
-pub mod PutBack
 pub mod Renewing
 pub mod BehindFirst
 pub mod Changes
@@ -15,8 +13,6 @@ pub mod Pairs
 pub mod Best
 pub mod Steps
 pub mod Holding
-pub mod Passing
 pub mod Quiet
-pub mod Counts
 pub mod LeastFirst
 pub mod Offering

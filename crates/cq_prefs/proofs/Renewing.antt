@@ -18,7 +18,7 @@ use Rattle.cq_prefs.proofs.OutputOrder.{is_output_order, has_output}
 use Rattle.cq_prefs.proofs.Places.{output_in_range, outputs_at_most, inputs_at_most}
 use Rattle.cq_prefs.proofs.Pairs.{nobody, no_pairs, joined_pairs}
 use Rattle.cq_prefs.proofs.ByKey.{outputs_below}
-use Rattle.cq_prefs.proofs.PutBack.{IsPut}
+use Rattle.cq_prefs.proofs.Changes.{IsPut}
 
 -- ## The lists
 
@@ -99,9 +99,8 @@ one_more m n j o t row column pairs v r e inside offered is_row is_column =
 -- all are renewed
 pub all_renewed : (m : Partners) (n : ℕ) (o t : Orders) → Renewing m n o t → length m ≤ n → o ≡ t
 all_renewed m n o t r end =
-    let nobody : (i : ℕ) → n ≤ i → partner_of m i ≡ None = λ i l. get_or_past m i None (omega arith) in
-    same_orders o t (ext_get_or [] o.outputs t.outputs r.ports.0 (λ i _. r.outputs_done i (nobody i)))
-    (ext_get_or [] o.inputs t.inputs r.ports.1 (search (rules, r.inputs_done, nobody)))
+    let rows = ext_get_or [] o.outputs in let columns = ext_get_or [] o.inputs in
+    search (arith, rules, same_orders, rows, columns, r.outputs_done, r.inputs_done, get_or_past)
 
 -- where no input of a range has a partner, the range is renewed as it stands
 pub none_between : (m : Partners) (a b : ℕ) (o t : Orders) → Renewing m a o t → a ≤ b →

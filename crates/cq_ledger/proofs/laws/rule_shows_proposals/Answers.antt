@@ -1,4 +1,4 @@
-use Rattle.cq_ledger.proofs.Shows.{shows_proposals}
+use Rattle.cq_ledger.proofs.CoreState.{shows_proposals}
 use Rattle.cq_ledger.proofs.laws.rule_shows_proposals.Goals as goal
 
 pub returns : goal.returns

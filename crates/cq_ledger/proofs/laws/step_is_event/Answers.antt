@@ -1,5 +1,5 @@
 use Rattle.cq_ledger.proofs.Terms.{rules}
-use Rattle.cq_ledger.proofs.Events.{start-shows, proposal-event, taken-shows, refused-shows, split-shows, join-shows}
+use Rattle.cq_ledger.proofs.Allowed.{start-shows, proposal-event, taken-shows, refused-shows, split-shows, join-shows}
 use Rattle.cq_ledger.proofs.laws.step_is_event.Goals as goal
 
 pub returns : goal.returns

@@ -1,8 +1,7 @@
 use Rattle.cq_ledger.proofs.Terms.{rules}
-use Rattle.cq_ledger.proofs.Allowed.{proposal-keeps}
-use Rattle.cq_ledger.proofs.Claiming.{claim-keeps}
-use Rattle.cq_ledger.proofs.Events.{refused-keeps}
+use Rattle.cq_ledger.proofs.Allowed.{proposal-keeps, refused-keeps}
 use Rattle.cq_ledger.proofs.Seats.{start-keeps, split-keeps, join-keeps}
+use Rattle.cq_ledger.proofs.Proposing.{claim-keeps}
 use Rattle.cq_ledger.proofs.laws.steps_keep_the_rule.Goals as goal
 
 pub returns : goal.returns

@@ -1,4 +1,4 @@
-use Rattle.cq_prefs.proofs.Passing.{none_goes_past, none_passed-after}
+use Rattle.cq_prefs.proofs.Quiet.{none_goes_past, none_passed-after}
 use Rattle.cq_prefs.proofs.proposal_laws.no_input_passes.Goals as goal
 
 pub returns : goal.returns

@@ -1,5 +1,4 @@
-use Rattle.cq_prefs.proofs.Quiet.{input_best-quiet}
-use Rattle.cq_prefs.proofs.Counts.{events-quiet}
+use Rattle.cq_prefs.proofs.Quiet.{input_best-quiet, events-quiet}
 use Rattle.cq_prefs.proofs.proposal_laws.quiescent_is_input_best.Goals as goal
 
 pub returns : goal.returns

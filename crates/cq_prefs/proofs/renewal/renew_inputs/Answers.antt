@@ -1,7 +1,7 @@
 use Rattle.cq_prefs.proofs.Terms.{arith, rules, ◌∙◌}
-use Rattle.cq_prefs.proofs.Halving.{left_parts}
+use Rattle.cq_prefs.proofs.ByKey.{left_parts}
 use Rattle.cq_prefs.proofs.InputOrder.{key_of_member, member_of_key}
-use Rattle.cq_prefs.proofs.PutBack.{none_back, put_back, room_back}
+use Rattle.cq_prefs.proofs.Changes.{none_back, put_back, room_back}
 use Rattle.cq_prefs.proofs.Renewing.{input_put}
 use Rattle.cq_prefs.proofs.renewal.renew_inputs.Goals as goal
 

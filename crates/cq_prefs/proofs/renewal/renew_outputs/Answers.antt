@@ -1,8 +1,7 @@
 use Rattle.cq_prefs.proofs.Terms.{arith, rules, ◌∙◌, sym, ap, position_or_len, taken_none}
-use Rattle.cq_prefs.proofs.Halving.{output_parts}
-use Rattle.cq_prefs.proofs.PutBack.{none_back, put_back, room_back}
+use Rattle.cq_prefs.proofs.Changes.{none_back, put_back, room_back}
 use Rattle.cq_prefs.proofs.Renewing.{output_gone, output_put, output_there}
-use Rattle.cq_prefs.proofs.ByKey.{found_place}
+use Rattle.cq_prefs.proofs.ByKey.{found_place, output_parts}
 use Rattle.cq_prefs.proofs.renewal.renew_outputs.Goals as goal
 
 pub place_by_place-at-requires : goal.place_by_place-at-requires

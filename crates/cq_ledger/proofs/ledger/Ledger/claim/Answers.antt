@@ -1,6 +1,5 @@
 use Rattle.cq_ledger.proofs.Terms.{rules, ◌≡◌, ◌∙◌, ap, arith, sym, ports, claim_taken, hand_at}
-use Rattle.cq_ledger.proofs.Allowed.{claim-allowed-at}
-use Rattle.cq_ledger.proofs.SeatFields.{matched, taken-seat}
+use Rattle.cq_ledger.proofs.Allowed.{claim-allowed-at, matched, taken-seat}
 use Rattle.cq_ledger.proofs.Views.{bit-lt}
 use Rattle.cq_ledger.proofs.ledger.Ledger.claim.Goals as goal
 use Rattle.cq_ledger.proofs.ledger.Ledger.claim.Goals.{Else-has_bit}

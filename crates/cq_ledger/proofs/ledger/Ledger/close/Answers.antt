@@ -1,6 +1,6 @@
 use Rattle.cq_ledger.proofs.Terms.{arith, rules, ◌≡◌, ◌∙◌, ap, slots_items, IsInputBest, proposals}
 use Rattle.cq_ledger.proofs.Closing.{closing-shown, closing-phase}
-use Rattle.cq_ledger.proofs.SeatFields.{matched, all_claimed}
+use Rattle.cq_ledger.proofs.Allowed.{matched, all_claimed}
 use Rattle.cq_ledger.proofs.ledger.Ledger.close.Goals as goal
 use Rattle.cq_ledger.proofs.ledger.Ledger.close.Goals.{After-read_matching-matching}
 

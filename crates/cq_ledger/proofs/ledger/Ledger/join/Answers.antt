@@ -1,6 +1,5 @@
 use Rattle.cq_ledger.proofs.Terms.{rules, ◌∙◌, ap, arith, Seated}
-use Rattle.cq_ledger.proofs.Allowed.{join-allowed, look-allowed}
-use Rattle.cq_ledger.proofs.SeatFields.{matched}
+use Rattle.cq_ledger.proofs.Allowed.{join-allowed, look-allowed, matched}
 use Rattle.cq_ledger.proofs.ledger.Ledger.join.Goals as goal
 
 pub join_seat-requires : goal.join_seat-requires

@@ -1,6 +1,5 @@
 use Rattle.cq_ledger.proofs.Terms.{◌+◌, ◌∙◌, arith, add-one, ap, sym, output_in_range, answer_of, hand_after}
-use Rattle.cq_ledger.proofs.Allowed.{proposal-allowed}
-use Rattle.cq_ledger.proofs.SeatFields.{matched, proposed-seat}
+use Rattle.cq_ledger.proofs.Allowed.{proposal-allowed, matched, proposed-seat}
 use Rattle.cq_ledger.proofs.ledger.Ledger.propose.Goals as goal
 
 pub asked-asked-requires : goal.asked-asked-requires

@@ -1,6 +1,5 @@
 use Rattle.cq_ledger.proofs.Terms.{rules, arith}
-use Rattle.cq_ledger.proofs.Allowed.{split-allowed}
-use Rattle.cq_ledger.proofs.SeatFields.{matched}
+use Rattle.cq_ledger.proofs.Allowed.{split-allowed, matched}
 use Rattle.cq_ledger.proofs.ledger.Ledger.split.Goals as goal
 
 pub split_seat-requires : goal.split_seat-requires

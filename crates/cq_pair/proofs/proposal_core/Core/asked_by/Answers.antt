@@ -8,9 +8,6 @@ at-place-requires c = search (arith, rules, free_known, places_known)
 pub outputs_of-requires : goal.outputs_of-requires
 outputs_of-requires c = search (arith, rules, free_known)
 
-pub bounds-outputs_of-place : goal.bounds-outputs_of-place
-bounds-outputs_of-place c = search (arith, rules)
-
 pub at-held-requires : goal.at-held-requires
 at-held-requires c = search (arith, rules, asked_known, sound-reached)
 
@@ -19,6 +16,3 @@ inputs_of-requires c = search (arith, rules, asked_known)
 
 pub position_ahead-ahead-requires : goal.position_ahead-ahead-requires
 position_ahead-ahead-requires c = search (arith, rules, inputs_at_most, asked_offered)
-
-pub returns-clause-ask : goal.returns-clause-ask
-returns-clause-ask c = search (arith, rules)

@@ -1,9 +1,6 @@
 use Rattle.cq_pair.proofs.Terms.{rules, arith}
-use Rattle.cq_pair.proofs.Showing.{free_differ, moves_out, moves_still}
+use Rattle.cq_pair.proofs.Waiting.{free_differ, moves_out, moves_still}
 use Rattle.cq_pair.proofs.proposal_core.Core.move_on.Goals as goal
-
-pub overflow_add-next : goal.overflow_add-next
-overflow_add-next c = search (arith, rules)
 
 pub returns-then-next-outputs_of : goal.returns-then-next-outputs_of
 returns-then-next-outputs_of c = search (arith, rules, moves_out)

@@ -1,5 +1,5 @@
 use Rattle.cq_pair.proofs.Terms.{rules, arith}
-use Rattle.cq_pair.proofs.Showing.{free_rise, parts_room, parts_back, parts_out}
+use Rattle.cq_pair.proofs.Waiting.{free_rise, parts_room, parts_back, parts_out}
 use Rattle.cq_pair.proofs.proposal_core.Core.part.Goals as goal
 
 pub insert-requires-clause-room : goal.insert-requires-clause-room

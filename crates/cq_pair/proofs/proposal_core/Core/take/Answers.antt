@@ -1,5 +1,5 @@
 use Rattle.cq_pair.proofs.Terms.{rules, arith}
-use Rattle.cq_pair.proofs.Showing.{free_differ, takes_out, takes_still}
+use Rattle.cq_pair.proofs.Waiting.{free_differ, takes_out, takes_still}
 use Rattle.cq_pair.proofs.proposal_core.Core.take.Goals as goal
 
 pub returns-then-next-outputs_of : goal.returns-then-next-outputs_of
