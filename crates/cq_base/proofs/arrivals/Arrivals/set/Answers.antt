@@ -4,6 +4,3 @@ use Rattle.cq_base.proofs.arrivals.Arrivals.set.Goals as goal
 
 pub invariant_of-self : goal.invariant_of-self
 invariant_of-self c = search (arith, rules, put_are)
-
-pub returns : goal.returns
-returns c = search rules

@@ -5,9 +5,6 @@ use Rattle.cq_base.proofs.departures.Departures.into_room.Goals as goal
 pub departures-init : goal.departures-init
 departures-init c = search (arith, rules, length-map)
 
-pub push-requires : goal.push-requires
-push-requires c = search (arith, rules)
-
 pub departures-smaller : goal.departures-smaller
 departures-smaller c = let shorter = ap length c.in-Some.ensures in omega arith
 

@@ -1,5 +1,0 @@
-use Rattle.cq_base.proofs.Terms.{rules}
-use Rattle.cq_base.proofs.key.KeyOrd.cmp.Goals as goal
-
-pub returns : goal.returns
-returns c = search rules
