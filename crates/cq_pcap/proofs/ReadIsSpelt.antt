@@ -3,9 +3,7 @@
 -- no byte is left, or to a record with a fault, which is the file's then. And what is spelt or faulty is read as
 -- that.
 use Rattle.cq_pcap.proofs.Terms.{rules, ◌≡◌, ◌⊎◌, ℕ, zero, suc, ◌+◌, ◌<◌, ◌≤◌, List, [], ◌∷◌, ◌++◌, length, take, drop, inl, inr, refl, ap, ◌∙◌, arith, append_assoc, length-append, common_steps, drop-drop, length-drop, length-take-le, take-append-drop, take-append-le, take_at, Result, Ok, Err, Form, number_at, Captured, PcapRefusal, IsFaulty, IsSpeltUpTo, packets_of, HasLinkType, HasMagic, HasVersion, IsHeader, Record, spelling, Fits, Spells, captured_of, subst, ⊎_elim, cases_lt, take_all, SpellsIn, append-nil, flat_map-append, map-append, all_both}
-use Rattle.cq_pcap.proofs.Numbers.{AreBytes, AreBytes-drop, number_at-append, number_at-drop, number_at-lt, number_at-spelt}
-use Rattle.cq_pcap.proofs.Headers.{header_says, Says as HeaderSays}
-use Rattle.cq_pcap.proofs.Firsts.{IsWhole, Says, first_says, front_packet, stated}
+use Rattle.cq_pcap.proofs.Headers.{header_says, Tells, AreBytes, AreBytes-drop, number_at-append, number_at-drop, number_at-lt, number_at-spelt, IsWhole, Says, first_says, front_packet, stated}
 use Rattle.cq_pcap.proofs.SpeltIsRead.{fault_is_read, spelt_is_read}
 
 -- the record at the front
@@ -50,11 +48,9 @@ module _ (form : Form) (bytes : List ℕ) (at : ℕ) (packets : List Captured) (
 
   front_is : take (at + (16 + stated form xs)) bytes ≡ take at bytes ++ spelling form.big next
   front_is =
-      let rest = drop (16 + stated form xs) xs in
-      let front = take at bytes ++ spelling form.big next in
-      let whole : bytes ≡ front ++ rest = rw append_assoc (cc (take-append-drop at bytes, spelt_next)) in
-      let len = length-append (take at bytes) (spelling form.big next) in
-      search (arith, rules, take_at front rest, length-take-le, spelt_next, length-append, stated, length-drop)
+      let front = take at bytes ++ spelling form.big next in let all = take-append-drop at bytes in
+      let cut = take_at front (drop (16 + stated form xs) xs) in
+      search (arith, rules, cut, length-take-le, spelt_next, length-append, append_assoc, all, stated, length-drop)
 
   pub spelt_more : SpellsIn form (take (at + (16 + stated form xs)) bytes) (packets ++ front_packet form xs ∷ [])
   spelt_more = record {
@@ -114,7 +110,7 @@ walk form bytes (suc n) at packets fits within few s = ⊎_elim
     (spelt_more form bytes at packets fits within s w)))
     (at_end form bytes at packets s) (cases_lt at (length bytes))
 
-by_header : (bytes : List ℕ) (header : Result Form PcapRefusal) → AreBytes bytes → HeaderSays bytes header → Known bytes
+by_header : (bytes : List ℕ) (header : Result Form PcapRefusal) → AreBytes bytes → Tells bytes header → Known bytes
 by_header bytes (Ok form) fits h = grind (arith, common_steps, walk form bytes (length bytes) 24 [], spelt_none)
 by_header bytes (Err fault) fits h = inr (fault, h)
 

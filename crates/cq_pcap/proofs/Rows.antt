@@ -5,9 +5,7 @@
 use Rattle.std.proofs.Common.{rules}
 use Rattle.cq_pcap.proofs.Terms.{◌≡◌, ℕ, ◌+◌, ◌-◌, ◌<◌, ◌≤◌, ◌^◌, List, [], ◌∷◌, ◌++◌, length, take, drop, ap, sym, arith, add-zero, common_steps, map-append, length-drop, length-take-le, drop-drop, take_all, take_rest, All-push, sum_by-cons, sum_by_push, Ok, Err, Some, None, sum_by, Form, PcapRefusal, Captured, rows_from, file_length, first_packet, header_form, AreRowsOf, AreRowsTo, AreSpelt, IsFaultAt, IsRowOf, packet_at, packets_at, all_both}
 use Rattle.cq_pcap.specs.declared.capture.PacketRow.{PacketRow}
-use Rattle.cq_pcap.proofs.Firsts.{first_says}
-use Rattle.cq_pcap.proofs.Headers.{header_is, header_place}
-use Rattle.cq_pcap.proofs.Numbers.{AreBytes, AreBytes-drop}
+use Rattle.cq_pcap.proofs.Headers.{header_is, header_place, AreBytes, AreBytes-drop, first_says}
 use Rattle.cq_pcap.proofs.ReadIsSpelt.{body_length, faulty_at, spelt_more, spelt_none}
 
 -- the bytes of these records
@@ -58,17 +56,15 @@ rows_more form bytes rows at row fits small is_row so_far =
     let r : IsRowOf form (drop at bytes) at row = rw take_rest at is_row in
     let says = first_says form at (drop at bytes) (Ok (packet_at bytes row)) (packet_is form bytes at row r) in
     let more = places_more form bytes rows at row small so_far.ends so_far.stand r in
-    let body = body_length form (drop at bytes) (AreBytes-drop bytes at fits) says.0 in
     let spelt = spelt_more form bytes at (packets_at bytes rows) fits so_far.within so_far.spelt says.0 in
-    search (arith, rules, inside_is, more, body, length_is form bytes at row r, map-append, spelt)
+    search (arith, rules, inside_is, more, body_length, AreBytes-drop, length_is, map-append, spelt)
 
 -- a fault at the place is the file's, whatever refusal names it
 pub rows_fault : (form : Form) (bytes : List ℕ) (rows : List PacketRow) (at : ℕ) (refusal : PcapRefusal)
     → at < length bytes → first_packet form at (take (length bytes - at) (drop at bytes)) ≡ Err refusal
     → AreRowsTo form bytes at rows → IsFaultAt bytes (Some at) refusal
 rows_fault form bytes rows at refusal left e so_far =
-    let says = first_says form at (drop at bytes) (Err refusal) (rw take_rest at e) in
-    search (arith, rules, faulty_at)
+    search (arith, rules, faulty_at, first_says form at (drop at bytes) (Err refusal) (rw take_rest at e))
 
 -- and so is a fault of the header
 pub header_fault : (bytes : List ℕ) (refusal : PcapRefusal) → header_form bytes ≡ Err refusal

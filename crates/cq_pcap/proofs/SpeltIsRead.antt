@@ -1,9 +1,7 @@
 -- What is spelt is read: each number reads back from its four bytes, so the record at the front is the one that was
 -- put there, and the bytes after it are the rest.
 use Rattle.cq_pcap.proofs.Terms.{rules, ◌≡◌, ℕ, ◌+◌, List, [], ◌∷◌, ◌++◌, length, map, take, drop, refl, arith, append_assoc, length-append, Bool, ◌<◌, common_steps, append-nil, drop-drop, drop_at, length-drop, length-take-le, take-append-drop, take_at, Result, Ok, Err, flat_map, AllByRecursion, Form, number_at, Captured, PcapRefusal, CutHeader, LongRecord, CutBody, IsFaulty, IsSpeltUpTo, ◌>>=◌, first_packet, header_form, packets_from, packets_of, Record, spelling, Fits, Spells, SpellsIn, captured_of, zero, suc, ◌≤◌, packets_in}
-use Rattle.cq_pcap.proofs.Numbers.{number_at-drop, number_in-reads_back}
-use Rattle.cq_pcap.proofs.Headers.{header_read, header_faulty}
-use Rattle.cq_pcap.proofs.Firsts.{first_said, Says}
+use Rattle.cq_pcap.proofs.Headers.{header_read, header_faulty, number_at-drop, number_in-reads_back, first_said, Says}
 
 -- what stands in the bytes of a record, whatever follows it
 record Stands (big : Bool) (r : Record) (xs rest : List ℕ) : Type 0 where
@@ -21,9 +19,8 @@ stands big r rest fit = search (arith, rules, number_in-reads_back, length-appen
 module _ (form : Form) (r : Record) (rest : List ℕ) (fit : Fits r) where
   first_is : (place : ℕ) → first_packet form place (spelling form.big r ++ rest) ≡ Ok (captured_of form r)
   first_is place =
-      let body = take_at r.body rest (length r.body) refl in
       let said = first_said form place (spelling form.big r ++ rest) (Ok (captured_of form r)) in
-      grind (arith, common_steps, stands form.big r rest fit, body, said)
+      grind (arith, common_steps, stands form.big r rest fit, said, take_at r.body rest (length r.body) refl)
 
   after_is : drop (16 + length r.body) (spelling form.big r ++ rest) ≡ rest
   after_is = grind (arith, common_steps, stands, drop-drop, drop_at)
@@ -71,11 +68,10 @@ spelt_is_read bytes packets s =
 record_fault_read : (form : Form) (bytes : List ℕ) (offset : ℕ) (fault : PcapRefusal) → IsSpeltUpTo form bytes offset →
     Says form offset (drop offset bytes) (Err fault) → packets_of bytes ≡ Err fault
 record_fault_read form bytes offset fault u says =
-    let left = u.left in
     let first = fault_first form offset (drop offset bytes) fault in
     let said = first_said form offset (drop offset bytes) (Err fault) says in
     let read = capture_read form (take offset bytes) (drop offset bytes) u.packets (Err fault) offset in
-    search (arith, rules, read, length-take-le, first, length-drop, take-append-drop offset bytes)
+    search (arith, rules, read, length-take-le, first, length-drop, take-append-drop offset bytes, u.left)
 
 header_fault_read : (bytes : List ℕ) (fault : PcapRefusal) → header_form bytes ≡ Err fault →
     packets_of bytes ≡ Err fault

@@ -1,5 +1,5 @@
 use Rattle.cq_pcap.proofs.Terms.{arith, rules, IfErr-weaker}
-use Rattle.cq_pcap.proofs.Numbers.{AreBytes}
+use Rattle.cq_pcap.proofs.Headers.{AreBytes}
 use Rattle.cq_pcap.proofs.Rows.{rows_fault, rows_more}
 use Rattle.cq_pcap.proofs.read.row_at.Goals as goal
 
