@@ -28,8 +28,7 @@ module _ (t : Tables) (captures : List (List Captured)) where
   line_later : (input : ℕ) → EachPair IsLater (arrivals_at t captures input)
   unfolding arrivals_at
   line_later input = pairs_flat IsLater (arrivals_of t captures input) 0 (length (packets_of captures input))
-      (λ k. pairs_made IsLater (piece (start t captures input k) (cell_of t captures input k)) 0
-      (cells t captures input k) (λ i j less same. omega arith))
+      (search (arith, rules, pairs_made IsLater))
       (λ j k x y less one two same.
       let before = all_of_has _ (arrivals_of t captures input j) x (packet_slots input j) one in
       let after = all_of_has _ (arrivals_of t captures input k) y (packet_slots input k) two in

@@ -1,6 +1,5 @@
 use Rattle.cq_cells.proofs.Terms.{rules, ◌≡◌, [], arith, get_or_read, arriving_at, all_of}
-use Rattle.cq_cells.proofs.Filling.{filling_next, all_filled, still_stand}
-use Rattle.cq_cells.proofs.Owned.{arriving_at_line, arrives_own}
+use Rattle.cq_cells.proofs.Owned.{arriving_at_line, arrives_own, filling_next, all_filled, still_stand}
 use Rattle.cq_cells.proofs.coming.come.Goals as goal
 use Rattle.cq_cells.proofs.coming.come.Goals.{After-cell_near-cell}
 

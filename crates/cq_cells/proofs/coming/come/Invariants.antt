@@ -1,5 +1,5 @@
 use Rattle.cq_cells.proofs.Terms.{all_of}
-use Rattle.cq_cells.proofs.Filling.{Filling}
+use Rattle.cq_cells.proofs.Owned.{Filling}
 use Rattle.cq_cells.proofs.coming.come.Given as goal
 
 -- the places of the inputs before this one are filled

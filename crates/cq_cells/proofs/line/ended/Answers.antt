@@ -1,9 +1,5 @@
-use Rattle.cq_cells.proofs.Terms.{rules, arith}
 use Rattle.cq_cells.proofs.Looked.{starts_rise}
 use Rattle.cq_cells.proofs.line.ended.Goals as goal
 
 pub begun_near-begun-requires : goal.begun_near-begun-requires
 begun_near-begun-requires c = starts_rise c.args._cell_bytes c.args.rows.now c.requires
-
-pub bounds-rows-last : goal.bounds-rows-last
-bounds-rows-last c = search (arith, rules)

@@ -1,7 +1,7 @@
 use Rattle.cq_cells.proofs.Terms.{◌≡◌, ℕ, ◌<◌, ◌-◌, List, length, map, ap, ◌∙◌, arith, range_with_len, AllZip-map, Captured, PacketRow, packet_in, route}
 use Rattle.rayon.specs.Numbers.{nat_range}
 use Rattle.rayon.proofs.ToStd.{nat_range-All}
-use Rattle.cq_cells.proofs.Laid.{map-packet_in}
+use Rattle.cq_cells.proofs.Packets.{map-packet_in}
 use Rattle.cq_cells.proofs.Stamps.{length-rows_from}
 use Rattle.cq_cells.proofs.routes.routes_of.Goals as goal
 

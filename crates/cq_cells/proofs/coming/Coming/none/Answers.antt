@@ -1,5 +1,5 @@
 use Rattle.cq_cells.proofs.Terms.{sym, subst, StandBelow}
-use Rattle.cq_cells.proofs.Filling.{none_stand}
+use Rattle.cq_cells.proofs.Owned.{none_stand}
 use Rattle.cq_cells.proofs.coming.Coming.none.Goals as goal
 
 pub invariant_of-result : goal.invariant_of-result

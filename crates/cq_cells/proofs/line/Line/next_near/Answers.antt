@@ -1,6 +1,5 @@
 use Rattle.cq_cells.proofs.Terms.{rules, arith, get_or_read}
-use Rattle.cq_cells.proofs.Looked.{no_row}
-use Rattle.cq_cells.proofs.Upcoming.{line_done, line_next}
+use Rattle.cq_cells.proofs.Looked.{no_row, line_done, line_next}
 use Rattle.cq_cells.proofs.line.Line.next_near.Goals as goal
 
 pub returns-in_err-row : goal.returns-in_err-row

@@ -1,6 +1,5 @@
 use Rattle.cq_cells.proofs.Terms.{rules, slice_index_or, arith, ◌+◌, ◌<◌, length, get_or_read}
-use Rattle.cq_cells.proofs.Laid.{many_ways, AreRead, IsMade, IsWhole, at_end, next_row}
-use Rattle.cq_cells.proofs.Packets.{so_far_more}
+use Rattle.cq_cells.proofs.Packets.{so_far_more, many_ways, AreRead, IsMade, IsWhole, at_end, next_row}
 use Rattle.cq_cells.proofs.Stamps.{length-rows_from}
 use Rattle.cq_cells.proofs.line.Line.of.Goals as goal
 use Rattle.cq_cells.proofs.line.Line.of.Goals.{After-packets, After-row_of-row, After-rows-packets}
@@ -61,9 +60,6 @@ overflow_add-to_output c =
     let each = (made (goal.at.overflow_add-to_output c).After-row_of-row).each in
     let inside = counted (goal.at.overflow_add-to_output c).After-row_of-row in
     search (arith, rules, c.requires.room)
-
-pub push_reserved-requires : goal.push_reserved-requires
-push_reserved-requires c = search (arith, rules)
 
 pub packets-preserved : goal.packets-preserved
 packets-preserved c =
