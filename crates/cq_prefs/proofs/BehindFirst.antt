@@ -20,10 +20,9 @@ first_ahead : (c f : Queued) (xs : List Queued) → first_for c.cell.output xs �
     place_for c.cell.output xs < place_of_later c xs
 first_ahead c f xs h before =
     let later : Queued → Bool = λ y. is_for c.cell.output y && is_before c.key y.key in
-    let passes = passes_at_first later xs f in
     let there = slice_get-get_or xs (place_of_later c xs) f in
     let none = first_le (is_for c.cell.output) xs (place_of_later c xs) in
-    grind (arith, common_steps, find_at, slice_get_within, passes, there, none, and_parts, key_laws.one_way)
+    grind (arith, common_steps, find_at, slice_get_within, there, none, and_parts, key_laws.one_way, passes_at_first)
 
 -- so the newcomer goes in behind it
 goes_behind : (cushion : ℕ) (c f : Queued) (xs : List Queued) → first_for c.cell.output xs ≡ Some f → IsBefore f c →
@@ -72,6 +71,5 @@ map_alike f old new long each = search (arith, rules, ext_get_or (f []), length-
 pub same_offers : (old new : List (List Queued)) → length new ≡ length old →
     ((i : ℕ) → OfferAlike (list_of old i) (list_of new i)) → orders_of new ≡ orders_of old
 same_offers old new long each =
-    let rows = map_alike output_order old new long in
     let keys = λ (k : ℕ). map_alike (first_key k) old new long in
-    search (rules, same_orders, rows, keys)
+    search (rules, same_orders, keys, map_alike output_order old new long)

@@ -45,10 +45,9 @@ module _ (b : ℕ → ℕ → Bool) (one_way : (x y : ℕ) → b x y ≡ true �
   goes_back : (x : ℕ) (ys : List ℕ) → Apart ys → Rises b ys → Has ys x → put_by b x (without x ys) ≡ ys
   goes_back x [] a r m = absurd m
   goes_back x (y ∷ ys) a r m =
-      let here = without_here x y ys in
       let there = without_there x y ys in
       let rest = goes_back x ys a.1 r.1 in
-      search (arith, rules, all_of_has, without_none, goes_first, cases_eq, cases_Bool, cond-false)
+      search (arith, rules, all_of_has, without_none, goes_first, cases_eq, cases_Bool, cond-false, without_here x y ys)
 
 -- no number is twice, each comes before all that stand behind it, and no two come before each other
 pub record IsPut (b : ℕ → ℕ → Bool) (ys : List ℕ) : Type 0 where

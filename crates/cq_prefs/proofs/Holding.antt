@@ -38,9 +38,8 @@ pub keeper-from : (o : Orders) → AreOffers o → (s : State) → IsSound o s �
     keeper o s i ≡ Some j
 unfolding keeper
 keeper-from o v s w i j h =
-    let known = output_in_range o v i j (v.shown_back i j h.1) in
     let only = found_only (holds o s i) (range_with_len 0 (ports o)) j in
-    search (arith, rules, only, has_number, and_from, eq-eqb, lt-ltb, held_once, holds-yes)
+    search (arith, rules, only, has_number, and_from, eq-eqb, lt-ltb, held_once, holds-yes, output_in_range)
 
 pub none_unless : {X : Type 0} (p : Option X) → ((x : X) → p ≡ Some x → ⊥) → p ≡ None
 none_unless p h = grind (arith, common_steps, h)

@@ -11,7 +11,7 @@
 -- How many proposals there are. Each event moves one input on by one place, so the events are the sum of the places. No
 -- order is longer than there are ports. Where nobody is free each input stands behind its partner, or at the end of its
 -- order, and that is what it spent.
-use Rattle.cq_prefs.proofs.Terms.{ℕ, ◌≡◌, ◌≢◌, ◌⊎◌, ◌+◌, ◌≤◌, List, length, Option, Some, None, arith, rules, cases_lt, Orders, AreOffers, outputs_of, place_of, IsOffered, Partners, partner_of, depth, IsMatching, IsStable, IsInputBest, HasBetterOutput, HasBetterInput, State, position_held, next_place, IsQuiescent, IsSound, matching_of, state_after, AreEvents, ◌<◌, [], ◌∷◌, ap, cases_eq, position_of, start, IsFree, propose, common_steps, ◌*◌, get_or, suc, refl, range_with_len, sum, map, sum_by-set, sum_by-le, get_or_default, ext_get_or, length-map-range_with_len, get_or-map-range_with_len, ports, spent, proposals, next_output}
+use Rattle.cq_prefs.proofs.Terms.{ℕ, ◌≡◌, ◌≢◌, ◌⊎◌, ◌+◌, ◌≤◌, List, length, Option, Some, None, arith, rules, cases_lt, Orders, AreOffers, outputs_of, place_of, IsOffered, Partners, partner_of, depth, IsMatching, IsStable, IsInputBest, HasBetterOutput, HasBetterInput, State, position_held, next_place, IsQuiescent, IsSound, matching_of, state_after, AreEvents, ◌<◌, [], ◌∷◌, cases_eq, position_of, start, IsFree, propose, common_steps, ◌*◌, get_or, suc, refl, range_with_len, sum, map, sum_by-set, sum_by-le, get_or_default, ext_get_or, length-map-range_with_len, get_or-map-range_with_len, ports, spent, proposals, next_output}
 use Rattle.cq_prefs.proofs.Places.{position_of-at, place_in-le-length, output_in_range, inputs_at_most, input_in_range, outputs_at_most}
 use Rattle.cq_prefs.proofs.Steps.{sound-after, step, held-start, next_place-start}
 use Rattle.cq_prefs.proofs.Holding.{matching-of, partner-holds, partner-from}
@@ -51,6 +51,8 @@ pub none_goes_past : (o : Orders) → AreOffers o → (events : List ℕ) → Ar
 none_goes_past o v events es m stable i j e =
     search (arith, rules, sound-after, none_passed-after, v.shown, stable.matching.offered, cases_lt)
 
+-- ## Nobody is free
+
 -- an input stands behind the output that holds it, or at the end of its order
 pub record IsKept (o : Orders) (s : State) (i : ℕ) : Type 0 where
   pub matched : (j : ℕ) → partner_of (matching_of o s) i ≡ Some j → next_place s i ≡ place_of o i j + 1
@@ -76,9 +78,8 @@ module _ (o : Orders) (v : AreOffers o) (s : State) (w : IsSound o s) (q : IsQui
   no_better : (n : Partners) → IsMatching o n → NonePassed o s n → (i : ℕ) (p r : Option ℕ) →
       partner_of (matching_of o s) i ≡ p → partner_of n i ≡ r → depth (outputs_of o i) p ≤ depth (outputs_of o i) r
   no_better n matching none i p r e f =
-      let is = kept i in
       let asked = w.asked_before i in
-      search (arith, rules, matching.offered, v.shown, place_in-le-length, partner-from, cases_lt)
+      search (arith, rules, matching.offered, v.shown, place_in-le-length, partner-from, cases_lt, kept i)
 
 pub input_best-quiet : (o : Orders) → AreOffers o → (events : List ℕ) → AreEvents o events →
     IsQuiescent o (state_after o events) → IsInputBest o (matching_of o (state_after o events))
@@ -88,6 +89,8 @@ input_best-quiet o v events es q =
       stable = stable-quiet o v (state_after o events) w q;
       best = search (arith, rules, no_better, none_passed-after);
     }
+
+-- ## How many proposals there are
 
 sum-zeros : (xs : List ℕ) → ((i : ℕ) → get_or xs i 0 ≡ 0) → sum xs ≡ 0
 sum-zeros [] h = refl
@@ -121,8 +124,7 @@ places-quiet : (o : Orders) → AreOffers o → (s : State) → IsSound o s → 
     s.places ≡ map (λ i. spent (outputs_of o i) (partner_of (matching_of o s) i)) (range_with_len 0 (ports o))
 places-quiet o v s w q =
     let f : ℕ → ℕ = λ i. spent (outputs_of o i) (partner_of (matching_of o s) i) in
-    let at = get_or-map-range_with_len f in
-    search (arith, rules, ext_get_or 0 s.places, length-map-range_with_len f, spent-is, kept, at)
+    search (arith, rules, ext_get_or 0 s.places, length-map-range_with_len f, spent-is, kept, get_or-map-range_with_len)
 
 pub events-quiet : (o : Orders) → AreOffers o → (events : List ℕ) → AreEvents o events →
     IsQuiescent o (state_after o events) → length events ≡ proposals o (matching_of o (state_after o events))

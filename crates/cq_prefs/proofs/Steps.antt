@@ -35,8 +35,7 @@ held-falls o s i t st j = let other = st.held_other j in grind (arith, cases_eq)
 asked_before-step : (o : Orders) → AreOffers o → (s : State) → IsSound o s → (i : ℕ) (t : State) → IsStep o s i t →
     (k j : ℕ) → place_of o k j < next_place t k → position_held t j ≤ position_of o j k
 asked_before-step o v s w i t st k j h =
-    let falls = held-falls o s i t st j in
-    search (arith, rules, st.others_stay, w.asked_before, same_at_place, cases_eq, cases_lt)
+    search (arith, rules, st.others_stay, w.asked_before, same_at_place, cases_eq, cases_lt, held-falls o s i t st j)
 
 -- what the asked output holds after the proposal
 last-step : (o : Orders) → AreOffers o → (s : State) → IsSound o s → (i : ℕ) → IsFree o s i → (t : State) →
@@ -71,8 +70,7 @@ held-start o j h = get_or-replicate (ports o) j (ports o) 0 h
 pub sound-start : (o : Orders) → AreOffers o → IsSound o (start o)
 unfolding start
 sound-start o v =
-    let few = inputs_at_most o v in
-    search (arith, rules, length-replicate, next_place-start, held-start, few, output_in_range, v.shown_back)
+    search (arith, rules, length-replicate, next_place-start, held-start, output_in_range, v.shown_back, inputs_at_most)
 
 pub sound-after : (o : Orders) → AreOffers o → (events : List ℕ) → AreEvents o events → IsSound o (state_after o events)
 sound-after o v [] es = sound-start o v
