@@ -1,5 +1,4 @@
 mod Terms
-pub mod Counted
 pub mod Drawn
 pub mod InRange
 pub mod Put

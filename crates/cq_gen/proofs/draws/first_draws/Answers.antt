@@ -11,6 +11,3 @@ draws-preserved c = search (arith, rules, draws_more)
 
 pub returns-clause-words : goal.returns-clause-words
 returns-clause-words c = search (arith, rules, draws_all)
-
-pub returns-clause-count : goal.returns-clause-count
-returns-clause-count c = search (arith, rules)

@@ -1,6 +1,5 @@
 use Rattle.cq_gen.proofs.Terms.{soak_captures, rules, arith, mul-le, most_ports, most_soak_slots, ◌≡◌, List, length, length-map-range_with_len, Captured}
-use Rattle.cq_gen.proofs.Counted.{all_counted}
-use Rattle.cq_gen.proofs.InRange.{tables_in_range, tables_ports}
+use Rattle.cq_gen.proofs.InRange.{tables_in_range, tables_ports, all_counted}
 use Rattle.cq_gen.proofs.Small.{length-packets_to}
 use Rattle.cq_gen.proofs.soak.make.Goals as goal
 
