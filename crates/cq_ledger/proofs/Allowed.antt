@@ -4,7 +4,7 @@
 -- The rule allows each kind of step, and what each tells its seat is so.
 -- A seat keeps the numbers of its view through each kind of step, and a call on a ledger finds there what it was
 -- promised of the seat.
-use Rattle.cq_ledger.proofs.Terms.{rules, ℕ, suc, ◌≡◌, ◌≢◌, ◌*◌, ◌<◌, ◌≤◌, ◌^◌, min, List, get_or, set, Some, None, arith, bit_or, common_steps, none, cases_eq, get_or-le-sum_by, set_here, set_else, set_again, Orders, ports, position_of, IsOffered, state_after, events_at_most, output_in_range, sound-after, next_output-offered, View, Seated, Ruled, IsWord, proposal, IsClaim, claim, look, IsLedger, output_at, words_proposed, proposed, words_claimed, claim_taken, claim_refused, blank, joined, spent, Sits, bit, claim_word, ◌++◌, [], ◌∷◌, refl, sym, ◌∙◌, ap, set-get_or, AreOffers, State, next_place, start, core_state, first_words, IsClaimed, IsUnclaimed, most_ports, ◌+◌, Option, Outcome, IsProposal, hand_at, hand_after, answer_of, HasClaimed}
+use Rattle.cq_ledger.proofs.Terms.{rules, ℕ, suc, ◌≡◌, ◌≢◌, ◌*◌, ◌<◌, ◌≤◌, ◌^◌, min, List, get_or, set, Some, None, arith, bit_or, common_steps, none, cases_eq, get_or-le-sum_by, set_here, set_else, set_again, Orders, ports, position_of, IsOffered, state_after, events_at_most, output_in_range, sound-after, next_output-offered, View, Seated, Ruled, proposal, IsClaim, claim, look, IsLedger, output_at, words_proposed, proposed, words_claimed, claim_taken, claim_refused, blank, joined, spent, Sits, bit, claim_word, ◌++◌, [], ◌∷◌, refl, sym, ◌∙◌, ap, set-get_or, AreOffers, State, next_place, start, core_state, first_words, IsClaimed, IsUnclaimed, most_ports, ◌+◌, Option, Outcome, IsProposal, hand_at, hand_after, answer_of, HasClaimed}
 use Rattle.atomic_table.specs.Table.{step, Allows, Splits, Joins}
 use Rattle.cq_ledger.proofs.Proposing.{propose-keeps, claim-keeps, refuse-keeps}
 use Rattle.cq_ledger.proofs.Seats.{split-keeps, join-keeps, start-keeps, longer-keeps, half_of}
@@ -38,9 +38,8 @@ module _ (o : Orders) (words : List ℕ) (views : List View) (k : IsLedger o wor
   unfolding propose-keeps
   proposal-event i p hand same_offers =
       let here : next_place s i ≡ p = k.hands.place id i p v at hand in
-      let f = k.hands.free id i p v at hand in
       let k' = propose-keeps o words views k id i v at same_offers (rw here hand) in
-      search (arith, rules, is, here, core_state-is o _ _ k', output_in_range, next_output-offered)
+      search (arith, rules, is, here, core_state-is o _ _ k', output_in_range, next_output-offered, k.hands.free)
 
   module _ (i : ℕ) where
     pub taken-shows : i < ports o → IsUnclaimed words i → v.hand ≡ None → v.offers ≡ o →

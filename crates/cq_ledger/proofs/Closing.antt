@@ -12,8 +12,7 @@ none_made (x ∷ xs) h = grind (arith, common_steps, sum_by-cons, none_made xs (
 -- where no other seat made any, the sum is what the one made
 one_made : (views : List View) (id : ℕ) (v : View) → Sits views id v →
     ((a : ℕ) (u : View) → a ≢ id → Sits views a u → u.made ≡ 0) → sum_by (λ (y : View). y.made) views ≡ v.made
-one_made views id v e h =
-    let sum = made_with views id v spent e in search (arith, rules, none_made, at_set, h)
+one_made views id v e h = search (arith, rules, none_made, at_set, h, made_with views id v spent e)
 
 module _ (o : Orders) (words : List ℕ) (views : List View) (k : IsLedger o words views) (id : ℕ) (v : View)
     (at_id : Sits views id v)

@@ -77,8 +77,7 @@ module _ (o : Orders) (v : AreOffers o) (s : State) (w : IsSound o s) (i : ℕ) 
   pub hand-shows : (k q : ℕ) → hand_found o i (next_place s i) (position_held s j) ≡ Some (k, q) → IsHand k q
   hand-shows k q h =
       let hold = holder-holds o v s w j (output_in_range o v i j st.offered) in
-      let of_holder = displaced_free (holder o s j) in
-      search (arith, rules, hands, hold, of_holder, taken_if, refused_free, cases_eq, cases_lt)
+      search (arith, rules, hands, hold, taken_if, refused_free, cases_eq, cases_lt, displaced_free (holder o s j))
 
   -- who is free now is in the new hand, or was free before
   pub free-before : (k : ℕ) → IsFree o t k →

@@ -179,9 +179,8 @@ module _ (o : Orders) (words : List ℕ) (views : List View) (k : IsLedger o wor
 
     pub others : (b q p : ℕ) (u : View) → Sits views b u → b ≢ id → u.hand ≡ Some (q, p) → MayHold o t words_now q p
     others b q p u a n h =
-        let other = other_hand b q p u n a h in
         let free = still_free o k.offers s w i f in
-        search (rules, free, st.others_stay, still_set, k.hands.free, k.hands.place, k.hands.claimed)
+        search (rules, free, st.others_stay, still_set, k.hands.free, k.hands.place, k.hands.claimed, other_hand)
 
     pub undropped_now : (q : ℕ) → IsFree o t q → Waits words_now views_now q
     undropped_now q g =

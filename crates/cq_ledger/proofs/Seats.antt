@@ -94,8 +94,7 @@ module _ (o : Orders) (words : List ℕ) (views : List View) (k : IsLedger o wor
   claimed_by b q u m h = search (arith, rules, bit-zero, bit-either)
 
   pub idle_now : (b : ℕ) (u : View) → Kind b u → u.claims ≡ 0 → (u.hand ≡ None) × (u.made ≡ 0)
-  idle_now b u m h =
-      let mine = k.idle id v at_id in search (arith, rules, neither)
+  idle_now b u m h = search (arith, rules, neither, k.idle id v at_id)
 
   pub still_there : (a : ℕ) (u : View) → a ≢ id → a ≢ gone → Sits views a u → Sits whole a u
   still_there a u n m at = set_else half gone a spent m ∙ set_else views id a (joined v w) n ∙ at
