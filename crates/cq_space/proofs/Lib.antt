@@ -1,4 +1,3 @@
 mod Terms
-pub mod Columns
 pub mod InMemory
 pub mod Replaced

@@ -1,7 +1,7 @@
 -- A name that is written, or read, piece after piece: what was put so far, and what was taken and what is left.
 use Rattle.cq_space.proofs.Terms.{◌∙◌, rules, common_steps, arith, ◌≡◌, ℕ, ◌+◌, ◌-◌, ◌≤◌, List, length, take, drop, ap, append_assoc, ◌++◌, take-add, take_rest, length-drop, append_known, Option, Some, IfSome, nat_list_cmp_total, get, get-insert, Contents, Mode, Closed, Reading, Writing, IsReading, replaced, appended, written_name}
 use Rattle.std.specs.FinMap.{insert}
-use Rattle.cq_space.proofs.Columns.{same_self, same_answers}
+use Rattle.cq_space.proofs.InMemory.{same_self, same_answers}
 
 -- the first n of the rest, as the code takes them, is what follows
 take_of_rest : (bs : List ℕ) (done n : ℕ) → take n (take (length bs - done) (drop done bs)) ≡ take n (drop done bs)

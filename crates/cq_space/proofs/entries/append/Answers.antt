@@ -1,5 +1,5 @@
 use Rattle.cq_space.proofs.Terms.{arith, rules, err_from_is_err_and}
-use Rattle.cq_space.proofs.Columns.{lengthened, unlengthened}
+use Rattle.cq_space.proofs.InMemory.{lengthened, unlengthened}
 use Rattle.cq_space.proofs.entries.append.Goals as goal
 
 pub returns-in_err-extend_from_slice-in-Some-clause-err :

@@ -1,5 +1,5 @@
 use Rattle.cq_space.proofs.Terms.{refl, arith}
-use Rattle.cq_space.proofs.Columns.{finds, finds_none, says_pushed, pushed_first}
+use Rattle.cq_space.proofs.InMemory.{finds, finds_none, says_pushed, pushed_first}
 use Rattle.cq_space.proofs.entries.place_of.Goals as goal
 
 pub returns-in-Some-clause-ok : goal.returns-in-Some-clause-ok

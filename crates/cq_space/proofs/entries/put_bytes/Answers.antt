@@ -1,4 +1,4 @@
-use Rattle.cq_space.proofs.Columns.{given_bytes}
+use Rattle.cq_space.proofs.InMemory.{given_bytes}
 use Rattle.cq_space.proofs.entries.put_bytes.Goals as goal
 
 pub returns : goal.returns

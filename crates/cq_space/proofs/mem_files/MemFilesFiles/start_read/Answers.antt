@@ -1,6 +1,5 @@
 use Rattle.cq_space.proofs.Terms.{arith, ap, ◌∙◌, MemSpace}
-use Rattle.cq_space.proofs.Columns.{finds}
-use Rattle.cq_space.proofs.InMemory.{begins, told_nothing, told_none}
+use Rattle.cq_space.proofs.InMemory.{begins, told_nothing, told_none, finds}
 use Rattle.cq_space.proofs.mem_files.MemFilesFiles.start_read.Goals as goal
 
 pub invariant_of-self-then-is_some : goal.invariant_of-self-then-is_some
