@@ -139,8 +139,7 @@ module _ {ports : ℕ} {vs : List Value} {i : ℕ} {known : List (List ℕ)} {ro
     walked = walked_more w.walked v small is (sym (same_at ports i vs (view v) known rows w) ∙ held) reads below
         refl;
     knows = λ q. added q ∙ (ap (λ (b : Bool). bytes_eq q row.mac || b) (w.knows q) ∙ sym (has_last rows row q));
-    differ = all_pairs_push (λ (a b : AddressRow). a.mac ≢ b.mac) rows row w.differ
-        (others rows row.mac (sym (w.knows row.mac) ∙ not-true (has known row.mac) fresh));
+    differ = search (arith, rules, all_pairs_push (λ (a b : AddressRow). a.mac ≢ b.mac), others, w.knows, not-true);
   })
 
   pub apart_stop : {B : Type 0} (r : Result B TableRefusal) (v : Value) → i < length vs → v ≡ get_or vs i v
