@@ -51,6 +51,7 @@ impl Arrivals {
 
     /// A cell comes to its input or none does, in place of what was there before. The other inputs keep theirs. So the
     /// places are filled anew slot after slot, and no other arrivals are made.
+    #[tactic(auto, using(crate::proofs::Places::put_are))]
     pub fn put(&mut self, input: Port, cell: Option<Cell>)
         requires place { input < most_ports }
         requires own { IfSome cell (λ cell. cell.id.input ≡ input) }
