@@ -1,4 +1,4 @@
-use Rattle.cq_fabric.proofs.Terms.{rules, refl, subst, arith, FnReturnsAt, length-map, take_all}
+use Rattle.cq_fabric.proofs.Terms.{refl, subst, FnReturnsAt}
 use Rattle.cq_fabric.proofs.Filling.{one_told}
 use Rattle.cq_fabric.proofs.standing.all_told.Goals as goal
 
@@ -9,6 +9,3 @@ items-preserved g c cells_at tells =
     (c.items.invariant cells_at tells) c.in_ok-push.ensures.items c.items-test.true c.index-items-at.is
     (tells x c.in_ok-cells.cells (subst (FnReturnsAt g.F.Fn c.args.tell x) c.in_ok-cells.was
     (record { shown = _; shows = refl; says = record { met = c.tell.ensures } })))
-
-pub returns : goal.returns
-returns g c cells_at tells = search (arith, rules, length-map, c.items.invariant, take_all)
