@@ -67,6 +67,7 @@ impl FreeInputs {
     }
 
     /// Puts an input in, before those of greater numbers.
+    #[tactic(auto, using(cq_prefs::proofs::ByKey::put_is))]
     pub fn insert(&mut self, input: Port)
         requires room { length self.old < most_ports }
         requires rising { IsNonDecreasing self.old }
