@@ -49,6 +49,7 @@ fn none_seen(alloc: Global, flows: usize) -> Result<Vec<Option<Name>>, NoMemory>
 }
 
 // So again, in the same places.
+#[tactic(auto, using(std::proofs::lemmas::List::ext_get_or))]
 fn forget(last: &mut [Option<Name>])
     ensures { last.new ≡ replicate (length last.old) None }
 {

@@ -48,6 +48,7 @@ fn none_seen() -> [Option<Queued>; MOST_PORTS]
 }
 
 // So again, in the same places.
+#[tactic(auto, using(std::proofs::lemmas::List::ext_get_or))]
 fn forget(last: &mut [Option<Queued>; MOST_PORTS])
     ensures { last.new ≡ replicate most_ports None }
 {

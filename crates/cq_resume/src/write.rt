@@ -51,6 +51,7 @@ fn all_seen(alloc: Global, inputs: &[InputFigures]) -> Result<Vec<Seen>, AllocEr
 }
 
 // The numbers of each rank state.
+#[tactic(auto, using(std::proofs::lemmas::List::take_more, std::proofs::lemmas::List::take_all))]
 fn all_numbers(
     alloc: Global,
     ranks: &[Sequence<u128>],

@@ -22,7 +22,3 @@ returns-then-not-may_leave c =
     c.requires.names) c.index.result.now (λ _. c.index.ensures) c.may_leave.result c.may_leave.ensures
     c.if-not-may_leave.true in
     search (arith, rules, flows_as_lanes c.args.ports c.args.names.now c.requires.names)
-
-pub returns : goal.returns
-returns c =
-    search (arith, rules, c.places.invariant.pairs, flows_as_lanes c.args.ports c.args.names.now c.requires.names)

@@ -1,4 +1,4 @@
-use Rattle.cq_resume.proofs.Terms.{rules, ℕ, get_or_default, arith, IsBefore, Queued, most_ports, All-from_recursion}
+use Rattle.cq_resume.proofs.Terms.{rules, ℕ, get_or_default, arith, IsBefore, Queued, most_ports}
 use Rattle.cq_resume.proofs.Lanes.{At, lanes_first, lanes_next, lanes_stop, none_seen, urgent_on}
 use Rattle.cq_resume.proofs.order.keys_in_order.Goals.{After-may_follow}
 use Rattle.cq_resume.proofs.order.keys_in_order.Goals as goal
@@ -26,9 +26,3 @@ returns-then-not-may_follow c = lanes_stop of_input of_output IsBefore _
     c.places.invariant (here (goal.at.returns-then-not-may_follow c).After-may_follow) c.requires.outputs _
     (get_or_default _ _ _ _) c.may_follow.result
     c.may_follow.ensures c.if-not-may_follow.true
-
-pub bounds-last-output : goal.bounds-last-output
-bounds-last-output c = search (arith, rules, All-from_recursion)
-
-pub returns : goal.returns
-returns c = search (arith, rules, c.places.invariant.pairs)

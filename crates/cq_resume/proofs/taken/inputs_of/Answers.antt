@@ -1,4 +1,4 @@
-use Rattle.cq_resume.proofs.Terms.{rules, take_all, arith, None, figures_at_input, Seen}
+use Rattle.cq_resume.proofs.Terms.{rules, arith, None, figures_at_input, Seen}
 use Rattle.cq_resume.proofs.Cut.{placed_more}
 use Rattle.cq_resume.proofs.taken.inputs_of.Goals as goal
 
@@ -8,6 +8,3 @@ inputs-preserved c =
     placed_more (figures_at_input c.args.names.now) c.args.seen.now c.inputs.input none _ c.inputs.inputs.items
     c.push.new.self.items c.inputs-test.true c.inputs.invariant (search (arith, rules, c.names_at.ensures))
     c.in_ok-push.ensures.items
-
-pub returns : goal.returns
-returns c = search (arith, rules, take_all)
