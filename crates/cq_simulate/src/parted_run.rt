@@ -147,6 +147,7 @@ fn room_with(held: usize, spare: u64) -> Result<u64, NoMemory>
 }
 
 // These items, with room for so many more. The error is want of memory.
+#[tactic(auto, using(std::proofs::lemmas::List::take_more, std::proofs::lemmas::List::take_all))]
 fn holding<T: Copy>(alloc: Global, items: &[T], spare: u64) -> Result<Room<T>, NoMemory>
     ensures items { IfOk result (λ room. room.items ≡ items.now) }
     ensures spare { IfOk result (λ room. room.spare ≡ spare) }

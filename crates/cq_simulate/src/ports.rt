@@ -30,6 +30,7 @@ pub fn port_count(tables: &Tables) -> u64
 }
 
 /// The ports of the tables' switch, for the cells of a schedule of as many ports. The error is want of memory.
+#[tactic(auto, using(crate::proofs::TakenUp::machine_count))]
 pub fn ports_for(alloc: Global, tables: &Tables, schedule: &Schedule) -> Result<Ports, NoMemory>
     requires tables { AreTables tables.now }
     requires ports { schedule.now.ports ≡ ports_of tables.now.setup }

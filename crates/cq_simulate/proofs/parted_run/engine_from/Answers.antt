@@ -1,4 +1,4 @@
-use Rattle.cq_simulate.proofs.Terms.{◌∙◌, arith, rules, IfOk-weaker, length-map-range_with_len}
+use Rattle.cq_simulate.proofs.Terms.{◌∙◌, arith, rules, length-map-range_with_len}
 use Rattle.cq_simulate.proofs.TakenUp.{can_go_on}
 use Rattle.cq_simulate.proofs.parted_run.engine_from.Goals as goal
 
@@ -8,6 +8,3 @@ thaw-requires c =
     let goes_on = can_go_on c.requires.sound c.requires.fit are.classes c.as_slice-limits.ensures
     (c.as_slice-from.ensures.value ∙ are.from_inputs) (c.as_slice-to.ensures.value ∙ are.to_outputs) in
     search (arith, rules, length-map-range_with_len)
-
-pub returns : goal.returns
-returns c = search (arith, rules, IfOk-weaker)
