@@ -11,7 +11,7 @@ pub use Rattle.cq_prefs.specs.Pairing.{IsInputBest, Partners, partner_of, propos
 pub use Rattle.cq_prefs.specs.Proposals.{Holds, IsFree, IsQuiescent, IsSound, State, holder, matching_of, next_output, next_place, output_at, position_held, propose, start, state_after}
 unfoldable pub use Rattle.cq_prefs.specs.Proposals.{answer_of, keeper}
 pub use Rattle.cq_prefs.specs.declared.outcome.Outcome.{Outcome}
-pub use Rattle.cq_ledger.specs.Plays.{IsClaim, IsProposal, IsWord, Ruled, Seated, claim, look, proposal}
+pub use Rattle.cq_ledger.specs.Plays.{IsClaim, IsProposal, Ruled, Seated, claim, look, proposal}
 pub use Rattle.cq_ledger.specs.{Reading.Shows, declared.view.View.View}
 pub use Rattle.cq_ledger.specs.Rule.{AreClaims, AreHands, IsLedger, IsViewOf}
 pub use Rattle.cq_ledger.specs.Shown.{first_place, output_of, place_in_hand, place_in_hands}

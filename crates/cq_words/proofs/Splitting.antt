@@ -175,8 +175,8 @@ command_split (word ∷ v ∷ u ∷ t ∷ []) h =
     as_form (codes "soak") soak_rules vs w.0 (refl, refl, (refl, refl, (refl, refl, tt)))
     (λ _ get. numbers_in (get (codes "SEED")) (get (codes "PORTS")) (get (codes "SLOTS"))) refl refl refl refl word _ _
     w.1 (λ h. as_form (codes "part") part_rules vs w.0 (refl, refl, (refl, refl, (refl, refl, tt)))
-    (λ _ get. slots_in (get (codes "CONFIG")) (get (codes "SLOTS")) (get (codes "STATE"))) refl refl refl refl word _ _ h
-    (λ bad. cc))
+    (λ _ get. slots_in (get (codes "CONFIG")) (get (codes "SLOTS")) (get (codes "STATE"))) refl refl refl refl word _
+    _ h (λ bad. cc))
 command_split (word ∷ a ∷ b ∷ c ∷ d ∷ rest) h = search (arith, rules)
 
 -- ## The line is made form by form
