@@ -1,8 +1,8 @@
 -- A walk along the blocks from the first of a run on, and over the sums of runs from both ends. What stands ahead of
 -- the block behind a block is what stands ahead of it, and its own: what is counted grows by a block's numbers, or a
 -- sum's.
-use Rattle.cq_list.specs.Sums.{AreSums, SumView, own_in, run_blocks}
-use Rattle.cq_list.proofs.Terms.{take-append-add, rules, ◌≡◌, ℕ, ◌+◌, ◌-◌, ◌*◌, ◌<◌, ◌≤◌, Bool, List, [], ◌++◌, length, get_or, take, drop, arith, length-append, take-append-drop, common_steps, filter, concat, take-append-le, drop_more, append-nil, filter-append, concat-append, place_of_nth, is_output, count_of, most_ports, IsSpot, IsAhead}
+use Rattle.cq_list.specs.Sums.{AreSums, SumView, begin_of, own_in}
+use Rattle.cq_list.proofs.Terms.{take-append-add, rules, ◌≡◌, ℕ, ◌+◌, ◌-◌, ◌<◌, ◌≤◌, Bool, List, [], ◌++◌, length, get_or, take, drop, arith, length-append, take-append-drop, common_steps, filter, concat, take-append-le, drop_more, append-nil, filter-append, concat-append, place_of_nth, is_output, count_of, most_ports, IsSpot, IsAhead}
 use Rattle.cq_list.proofs.Nth.{nth_inside, nth_in_front, nth_behind}
 use Rattle.cq_list.proofs.Sums.{ahead_next, all_ahead, count_added, length_added}
 use Rattle.cq_list.proofs.Runs.{read_sum}
@@ -49,9 +49,10 @@ module _ (blocks : List (List ℕ)) (i : ℕ) {block : List ℕ} (inside : i < l
 
 -- ## Run by run
 
-module _ (blocks : List (List ℕ)) (sums : List SumView) (had : AreSums blocks sums) (run : ℕ) {sum : SumView}
-    (inside : run < length sums) (read : sum ≡ get_or sums run sum) {j : ℕ} (known : j < most_ports) where
+module _ {blocks : List (List ℕ)} (offset : ℕ) {sums : List SumView} (had : AreSums blocks offset sums) (run : ℕ)
+    {sum : SumView} (inside : run < length sums) (read : sum ≡ get_or sums run sum) {j : ℕ}
+    (known : j < most_ports) where
   -- what stands ahead of the run behind it
-  pub run_on : {places own : ℕ} → IsAhead blocks j (run_blocks * run) places own →
-      IsAhead blocks j (run_blocks * (run + 1)) (places + sum.places) (own + own_in sum j)
+  pub run_on : {places own : ℕ} → IsAhead blocks j (begin_of offset run) places own →
+      IsAhead blocks j (begin_of offset (run + 1)) (places + sum.places) (own + own_in sum j)
   run_on ahead = let own = read_sum had inside read in let count = own.counts j known in search (arith, rules, own)

@@ -1,8 +1,9 @@
 -- The sums of runs of blocks. A sum is known by what stands ahead of the two blocks between which its blocks stand, so
 -- that what is said of places and of an output's places is shown once, of anything that is added up along places.
--- Where blocks change in one run, its sum is exchanged, and the others stay. Then a block goes over at each border of
--- two runs behind it: this border moves by one block, and the others stay.
-use Rattle.cq_list.specs.Sums.{AreRuns, ArePassing, AreOpen, AreSums, AreSummed, AreTaking, BlocksView, HasLess, HasMore, HasRoom, HasThese, IsBetween, IsExchanged, SumView, early_from, late_from, own_in, run_blocks}
+-- Where blocks change in one run, its sum is exchanged, and the others stay. Where the first block goes or comes, all
+-- is done: the first run is short of one more or less. Else a block goes over at each border of two runs behind it:
+-- this border moves by one block, and the others stay.
+use Rattle.cq_list.specs.Sums.{AreRuns, ArePassing, AreOpen, AreSums, AreSummed, AreTaking, BlocksView, HasLess, HasMore, HasRoom, HasThese, IsBetween, IsExchanged, SumView, begin_of, own_in, run_blocks}
 use Rattle.cq_list.proofs.Sums.{IsAdded, IsChanged, ahead, ahead_next, all_ahead, block_came, block_set, block_went, count_added, length_added, one_between}
 use Rattle.cq_list.proofs.Terms.{get_or_read, get_or-set_other, get_or-set_same, length-set, length-insert, length-remove, take_all, cases_eq, cases_lt, common_steps, rules, ◌≡◌, ◌≢◌, ℕ, ◌+◌, ◌-◌, ◌*◌, ◌/◌, ◌^◌, ◌⊎◌, ◌<◌, ◌≤◌, List, [], ◌++◌, length, get_or, set, take, drop, insert, remove, concat, refl, ap, ◌∙◌, arith, count_of, ⊎_elim}
 
@@ -82,27 +83,24 @@ module _ {blocks : List (List ℕ)} {sums : List SumView} {begins : ℕ → ℕ}
 
 -- ## Blocks that change in one run
 
--- p is a place in run `p / 32`: the borders of runs ahead of it stay, and those behind it move on by what came
-module _ {old now : List (List ℕ)} {p lost come : ℕ} {gone new : List ℕ} (begins : ℕ → ℕ)
-    (change : IsChanged p lost come gone new old now) (one : lost ≤ 1)
-    (low : (k : ℕ) → k ≤ p / 32 → begins k ≡ run_blocks * k)
-    (high : (k : ℕ) → p / 32 < k → begins k + lost ≡ run_blocks * k + come) where
+-- the borders of runs ahead of a run and its own stay, and those behind it move on by what came
+module _ {old now : List (List ℕ)} {p lost come : ℕ} {gone new : List ℕ} {begins ends : ℕ → ℕ} {run : ℕ}
+    (change : IsChanged p lost come gone new old now)
+    (low : (k : ℕ) → k ≤ run → (begins k ≤ p) × (ends k ≡ begins k))
+    (high : (k : ℕ) → run < k → (p + lost ≤ begins k) × (ends k + lost ≡ begins k + come)) where
   edge : (m : List ℕ → ℕ) → IsAdded m → (k : ℕ) →
-      (k ≤ p / 32 → ahead m now (begins k) ≡ ahead m old (run_blocks * k))
-      × (p / 32 < k → ahead m now (begins k) + m gone ≡ ahead m old (run_blocks * k) + m new)
+      (k ≤ run → ahead m now (ends k) ≡ ahead m old (begins k))
+      × (run < k → ahead m now (ends k) + m gone ≡ ahead m old (begins k) + m new)
   edge m added k = (
-    (λ le. rw (low k le) (change.before m added (run_blocks * k) (omega arith))),
-    (λ lt. change.behind m added (run_blocks * k) (begins k) (omega arith) (high k lt)),
+    (λ le. rw ((low k le).1) (change.before m added (begins k) (low k le).0)),
+    (λ lt. change.behind m added (begins k) (ends k) (high k lt).0 (high k lt).1),
   )
 
-  runs_changed : {sums : List SumView} {count : ℕ} {s t : SumView} (most : ℕ) →
-      AreRuns old sums (λ r. run_blocks * r) count → p < count → s ≡ get_or sums (p / 32) s → IsExchanged gone new s t →
-      most ≤ run_blocks * length sums → run_blocks * length sums < most + run_blocks →
-      AreRuns now (set sums (p / 32) t) begins most
-  runs_changed {sums} {s = s} {t} most had inside first swap enough few =
-      let run : ℕ = p / 32 in
+  runs_changed : {sums : List SumView} {count most : ℕ} {s t : SumView} → AreRuns old sums begins count →
+      run < length sums → s ≡ get_or sums run s → IsExchanged gone new s t → most ≤ run_blocks * length sums →
+      run_blocks * length sums < most + run_blocks → AreRuns now (set sums run t) ends most
+  runs_changed {sums} {s = s} {t} had there first swap enough few =
       let long : length (set sums run t) ≡ length sums = length-set sums run t in
-      let there : run < length sums = omega arith in
       record {
         enough = rw long enough;
         few = rw long few;
@@ -116,21 +114,37 @@ module _ {old now : List (List ℕ)} {p lost come : ℕ} {gone new : List ℕ} (
             (cases_eq r run);
       }
 
-pub came_passing : {blocks : List (List ℕ)} {sums : List SumView} {p : ℕ} {block : List ℕ} {s t : SumView} →
-    AreOpen blocks sums → p ≤ length blocks → s ≡ get_or sums (p / 32) s → HasMore s t block →
-    ArePassing (insert blocks p block) (set sums (p / 32) t) (p / 32 + 1)
-came_passing {blocks} {p = p} {block} had inside first more =
-    let long = length-insert blocks p block inside in
-    runs_changed (late_from (p / 32 + 1)) (block_came blocks p block inside) (omega arith) (λ k le. omega arith)
-    (λ k lt. omega arith) (length (insert blocks p block)) had (omega arith) first more (omega arith) (omega arith)
+module _ {blocks : List (List ℕ)} {offset : ℕ} {sums : List SumView} {block : List ℕ} {s t : SumView} where
+  -- the first run is then short of one less
+  pub came_first : AreSums blocks offset sums → 0 < offset → offset ≤ 32 → s ≡ get_or sums 0 s → HasMore s t block →
+      AreSums (insert blocks 0 block) (offset - 1) (set sums 0 t)
+  came_first had some most first more =
+      let long = length-insert blocks 0 block (omega arith) in
+      runs_changed (block_came blocks 0 block (omega arith)) (λ k le. (omega arith, omega arith))
+      (λ k lt. (omega arith, omega arith)) had (omega arith) first more (omega arith) (omega arith)
 
-pub went_taking : {blocks : List (List ℕ)} {sums : List SumView} {p : ℕ} {gone : List ℕ} {s t : SumView} →
-    AreSums blocks sums → p < length blocks → gone ≡ get_or blocks p [] → s ≡ get_or sums (p / 32) s →
-    HasLess s t gone → AreTaking (remove blocks p) (set sums (p / 32) t) (p / 32 + 1)
-went_taking {blocks} {p = p} {gone} had inside read first less =
-    let long = length-remove blocks p inside in
-    runs_changed (early_from (p / 32 + 1)) (block_went blocks p gone inside read) (omega arith) (λ k le. omega arith)
-    (λ k lt. omega arith) (length (remove blocks p) + 1) had (omega arith) first less (omega arith) (omega arith)
+  module _ {p run : ℕ} (own : run ≡ (p + offset) / 32) (first : s ≡ get_or sums run s) (short : offset < 32) where
+    pub came_passing : AreOpen blocks offset sums → p ≤ length blocks → HasMore s t block →
+        ArePassing (insert blocks p block) offset (set sums run t) (run + 1)
+    came_passing had inside more =
+        let long = length-insert blocks p block inside in
+        runs_changed (block_came blocks p block inside) (λ k le. (omega arith, omega arith))
+        (λ k lt. (omega arith, omega arith)) had (omega arith) first more (omega arith) (omega arith)
+
+    module _ (had : AreSums blocks offset sums) (inside : p < length blocks) (read : block ≡ get_or blocks p [])
+        (less : HasLess s t block) where
+      pub went_taking : AreTaking (remove blocks p) offset (set sums run t) (run + 1)
+      went_taking =
+          let long = length-remove blocks p inside in
+          runs_changed (block_went blocks p block inside read) (λ k le. (omega arith, omega arith))
+          (λ k lt. (omega arith, omega arith)) had (omega arith) first less (omega arith) (omega arith)
+
+      -- the first run is then short of one more
+      pub went_first : p ≡ 0 → AreSums (remove blocks p) (offset + 1) (set sums run t)
+      went_first is =
+          let long = length-remove blocks p inside in
+          runs_changed (block_went blocks p block inside read) (λ k le. (omega arith, omega arith))
+          (λ k lt. (omega arith, omega arith)) had (omega arith) first less (omega arith) (omega arith)
 
 -- ## A border that moves
 
@@ -138,7 +152,7 @@ pub still_read : (sums : List SumView) (next : ℕ) (t : SumView) {u : SumView} 
     u ≡ get_or (set sums (next - 1) t) next u → u ≡ get_or sums next u
 still_read sums next t {u} late second = second ∙ get_or-set_other sums (next - 1) next t u (omega arith)
 
-module _ {blocks : List (List ℕ)} {sums : List SumView} {begins : ℕ → ℕ} (ends : ℕ → ℕ) {count next : ℕ}
+module _ {blocks : List (List ℕ)} {sums : List SumView} {begins ends : ℕ → ℕ} {count next : ℕ}
     {s t u v : SumView} (had : AreRuns blocks sums begins count) (late : 1 ≤ next) (inside : next < length sums)
     (same : (k : ℕ) → k ≢ next → ends k ≡ begins k) (first : s ≡ get_or sums (next - 1) s)
     (second : u ≡ get_or (set sums (next - 1) t) next u) where
@@ -181,14 +195,12 @@ same_ahead : {X : Type 0} (xs : List X) (i k : ℕ) → (i < length xs → i ≡
 same_ahead xs i k one other = grind (arith, common_steps, take_all, cases_lt i (length xs), cases_lt k (length xs))
 
 -- where all borders that have blocks behind them are right, the sums are
-pub settled : {blocks : List (List ℕ)} {sums : List SumView} {begins : ℕ → ℕ} {count : ℕ} →
+pub settled : {blocks : List (List ℕ)} {sums : List SumView} {begins right : ℕ → ℕ} {count : ℕ} →
     AreRuns blocks sums begins count →
-    ((k : ℕ) → k ≤ length sums → begins k < length blocks → begins k ≡ run_blocks * k) →
-    ((k : ℕ) → k ≤ length sums → run_blocks * k < length blocks → begins k ≡ run_blocks * k) →
-    AreRuns blocks sums (λ r. run_blocks * r) count
-settled {blocks} {sums} {begins} had one other =
-    let same = λ (k : ℕ) (le : k ≤ length sums).
-    same_ahead blocks (begins k) (run_blocks * k) (one k le) (other k le) in
+    ((k : ℕ) → k ≤ length sums → begins k < length blocks → begins k ≡ right k) →
+    ((k : ℕ) → k ≤ length sums → right k < length blocks → begins k ≡ right k) → AreRuns blocks sums right count
+settled {blocks} {sums} {begins} {right} had one other =
+    let same = λ (k : ℕ) (le : k ≤ length sums). same_ahead blocks (begins k) (right k) (one k le) (other k le) in
     record {
       enough = had.enough;
       few = had.few;
@@ -202,20 +214,22 @@ parted : (block front back : List ℕ) (n : ℕ) → block ≡ front ++ back →
     (take n block ≡ front) × (drop n block ≡ back)
 parted block front back n whole long = grind (arith, common_steps)
 
-module _ {blocks : List (List ℕ)} {sums : List SumView} {capacity : ℕ} {view : BlocksView} (had : AreSummed blocks sums)
-    (is : record { blocks = blocks; capacity = capacity } ≡ view) {i : ℕ} (within : i < length view.blocks) where
+module _ {blocks : List (List ℕ)} {offset capacity : ℕ} {sums : List SumView} {view : BlocksView}
+    (had : AreSummed blocks offset sums)
+    (is : record { blocks = blocks; offset = offset; capacity = capacity } ≡ view) {i : ℕ}
+    (within : i < length view.blocks) where
   seen : blocks ≡ view.blocks
   seen = ap (λ (v : BlocksView). v.blocks) is
 
   inside : i < length blocks
   inside = rw seen within
 
-  there : i / 32 < length sums
+  there : (i + offset) / 32 < length sums
   there = omega (arith, inside)
 
-  pub sum_room : {s : SumView} {more : List ℕ} → s ≡ get_or sums (i / 32) s →
+  pub sum_room : {s : SumView} {more : List ℕ} → s ≡ get_or sums ((i + offset) / 32) s →
       length (concat view.blocks) + length more < 2 ^ 64 → HasRoom s more
-  sum_room first fits = has_room had.runs (i / 32) there first (rw seen fits)
+  sum_room first fits = has_room had.runs ((i + offset) / 32) there first (rw seen fits)
 
   module _ {block : List ℕ} (read : block ≡ get_or blocks i block) where
     block_is : block ≡ get_or blocks i []
@@ -224,28 +238,33 @@ module _ {blocks : List (List ℕ)} {sums : List SumView} {capacity : ℕ} {view
     set_changed : (new : List ℕ) → IsChanged i 1 1 block new blocks (set blocks i new)
     set_changed new = block_set blocks i block inside block_is new
 
-    pub sum_has : {s : SumView} {some : List ℕ} → s ≡ get_or sums (i / 32) s →
+    pub sum_has : {s : SumView} {some : List ℕ} → s ≡ get_or sums ((i + offset) / 32) s →
         ((m : List ℕ → ℕ) → IsAdded m → m some ≤ m block) → HasThese s some
     sum_has first few = these (read_sum had.runs there first) (λ m added.
-        let one = one_between m added blocks (run_blocks * (i / 32)) i (run_blocks * (i / 32 + 1)) block (omega arith)
+        let run : ℕ = (i + offset) / 32 in
+        let one = one_between m added blocks (begin_of offset run) i (begin_of offset (run + 1)) block (omega arith)
         (omega arith) inside block_is in
         omega (arith, few m added))
 
-    summed_set : {new : List ℕ} {s t : SumView} → s ≡ get_or sums (i / 32) s → IsExchanged block new s t →
-        length (concat blocks) + length new < 2 ^ 64 + length block → AreSummed (set blocks i new) (set sums (i / 32) t)
+    summed_set : {new : List ℕ} {s t : SumView} → s ≡ get_or sums ((i + offset) / 32) s →
+        IsExchanged block new s t → length (concat blocks) + length new < 2 ^ 64 + length block →
+        AreSummed (set blocks i new) offset (set sums ((i + offset) / 32) t)
     summed_set {new} first swap few =
+        let run : ℕ = (i + offset) / 32 in
         let inside = inside in
         let long = length-set blocks i new in
         let all = (set_changed new).all length length_added in
         record {
-          runs = runs_changed (λ r. run_blocks * r) (set_changed new) (omega arith) (λ k le. refl) (λ k lt. refl)
-              (length (set blocks i new)) had.runs inside first swap (omega arith) (omega arith);
+          runs = runs_changed (set_changed new) (λ k le. (omega arith, refl)) (λ k lt. (omega arith, refl)) had.runs
+              there first swap (omega arith) (omega arith);
+          short = had.short;
           fits = omega arith;
         }
 
     pub summed_more : (new more : List ℕ) {s t : SumView} →
-        ((m : List ℕ → ℕ) → IsAdded m → m new ≡ m block + m more) → s ≡ get_or sums (i / 32) s → HasMore s t more →
-        length (concat view.blocks) + length more < 2 ^ 64 → AreSummed (set blocks i new) (set sums (i / 32) t)
+        ((m : List ℕ → ℕ) → IsAdded m → m new ≡ m block + m more) → s ≡ get_or sums ((i + offset) / 32) s →
+        HasMore s t more → length (concat view.blocks) + length more < 2 ^ 64 →
+        AreSummed (set blocks i new) offset (set sums ((i + offset) / 32) t)
     summed_more new more put first has fits =
         let long = put length length_added in
         let seen = ap (λ (l : List (List ℕ)). length (concat l)) seen in
@@ -253,8 +272,8 @@ module _ {blocks : List (List ℕ)} {sums : List SumView} {capacity : ℕ} {view
         (omega arith)
 
     pub summed_less : (new less : List ℕ) {s t : SumView} →
-        ((m : List ℕ → ℕ) → IsAdded m → m new + m less ≡ m block) → s ≡ get_or sums (i / 32) s → HasLess s t less →
-        AreSummed (set blocks i new) (set sums (i / 32) t)
+        ((m : List ℕ → ℕ) → IsAdded m → m new + m less ≡ m block) → s ≡ get_or sums ((i + offset) / 32) s →
+        HasLess s t less → AreSummed (set blocks i new) offset (set sums ((i + offset) / 32) t)
     summed_less new less out first has =
         let long = out length length_added in
         summed_set first (exchanged has (λ m added. let e = out m added in omega (arith, added.few [])))

@@ -1,4 +1,4 @@
--- The blocks of a list behind the first, and the sums of their runs of 32.
+-- The blocks of a list behind the first, and the sums of their runs of 32, of which the first may be short of some.
 use Rattle.std.specs.Prelude.{◌≡◌, ℕ, ◌+◌, ◌-◌, ◌*◌, ◌<◌, ◌≤◌, ◌^◌, List, [], length, min, take, slice_index, slice_index_or}
 use Rattle.std.specs.List.{concat}
 use Rattle.cq_base.specs.Limits.{most_ports}
@@ -40,9 +40,10 @@ pub record HasThese (s : SumView) (some : List ℕ) : Type 0 where
   pub places : length some ≤ s.places
   pub counts : (j : ℕ) → j < most_ports → count_of j some ≤ own_in s j
 
--- the blocks, and for how many there is memory
+-- the blocks, of how many the first run is short, and for how many there is memory
 pub record BlocksView : Type 0 where
   pub blocks : List (List ℕ)
+  pub offset : ℕ
   pub capacity : ℕ
 
 -- the sum is that of the blocks from one place on up to another
@@ -60,35 +61,41 @@ pub record AreRuns (blocks : List (List ℕ)) (sums : List SumView) (begins : �
   pub each : (r : ℕ) (none : SumView) → r < length sums →
       IsBetween blocks (begins r) (begins (r + 1)) (slice_index_or sums r none)
 
+-- the block at which run r begins, where the first is short of so many
+abbrev pub begin_of : ℕ → ℕ → ℕ
+begin_of offset r = run_blocks * r - offset
+
 -- the runs of the blocks
-abbrev pub AreSums : List (List ℕ) → List SumView → Type 0
-AreSums blocks sums = AreRuns blocks sums (λ r. run_blocks * r) (length blocks)
+abbrev pub AreSums : List (List ℕ) → ℕ → List SumView → Type 0
+AreSums blocks offset sums = AreRuns blocks sums (begin_of offset) (length blocks + offset)
 
 -- as many runs as one block more needs, so that the last may have no block
-abbrev pub AreOpen : List (List ℕ) → List SumView → Type 0
-AreOpen blocks sums = AreRuns blocks sums (λ r. run_blocks * r) (length blocks + 1)
+abbrev pub AreOpen : List (List ℕ) → ℕ → List SumView → Type 0
+AreOpen blocks offset sums = AreRuns blocks sums (begin_of offset) (length blocks + offset + 1)
 
 -- a block came: the runs ahead of one are right, and those from it on begin a block too late
-abbrev pub late_from : ℕ → ℕ → ℕ
-late_from next r = run_blocks * r + min 1 (r + 1 - next)
+abbrev pub late_from : ℕ → ℕ → ℕ → ℕ
+late_from offset next r = begin_of offset r + min 1 (r + 1 - next)
 
-abbrev pub ArePassing : List (List ℕ) → List SumView → ℕ → Type 0
-ArePassing blocks sums next = AreRuns blocks sums (late_from next) (length blocks)
+abbrev pub ArePassing : List (List ℕ) → ℕ → List SumView → ℕ → Type 0
+ArePassing blocks offset sums next = AreRuns blocks sums (late_from offset next) (length blocks + offset)
 
 -- a block went: the runs ahead of one are right, and those from it on begin a block too early
-abbrev pub early_from : ℕ → ℕ → ℕ
-early_from next r = run_blocks * r - min 1 (r + 1 - next)
+abbrev pub early_from : ℕ → ℕ → ℕ → ℕ
+early_from offset next r = begin_of offset r - min 1 (r + 1 - next)
 
-abbrev pub AreTaking : List (List ℕ) → List SumView → ℕ → Type 0
-AreTaking blocks sums next = AreRuns blocks sums (early_from next) (length blocks + 1)
+abbrev pub AreTaking : List (List ℕ) → ℕ → List SumView → ℕ → Type 0
+AreTaking blocks offset sums next = AreRuns blocks sums (early_from offset next) (length blocks + offset + 1)
 
--- the runs of the blocks have their sums, and there are no more places than can be counted
-pub record AreSummed (blocks : List (List ℕ)) (sums : List SumView) : Type 0 where
-  pub runs : AreSums blocks sums
+-- the runs of the blocks have their sums, the first has room for a block at least, and there are no more places than
+-- can be counted
+pub record AreSummed (blocks : List (List ℕ)) (offset : ℕ) (sums : List SumView) : Type 0 where
+  pub runs : AreSums blocks offset sums
+  pub short : offset < run_blocks
   pub fits : length (concat blocks) < 2 ^ 64
 
--- the run of a place, and how many places stand ahead of this run
-pub record IsStart (blocks : List (List ℕ)) (place run ahead : ℕ) : Type 0 where
-  pub counted : ahead ≡ length (concat (take (run_blocks * run) blocks))
+-- the block at which the run of a place begins, and how many places stand ahead of this run
+pub record IsStart (blocks : List (List ℕ)) (place begin ahead : ℕ) : Type 0 where
+  pub counted : ahead ≡ length (concat (take begin blocks))
   pub late : ahead ≤ place
   pub early : place < length (concat blocks)

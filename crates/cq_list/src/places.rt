@@ -1,15 +1,15 @@
 //! The outputs of the cells of a list, in order.
-ghost use Rattle.std.specs.Prelude.{◌≡◌, ℕ, ◌+◌, ◌-◌, ◌*◌, ◌<◌, ◌≤◌, ◌^◌, ◌++◌, [], ◌∷◌, Some, IfOk, length, take, insert, remove, slice_get, slice_index_or};
+ghost use Rattle.std.specs.Prelude.{◌≡◌, ℕ, ◌+◌, ◌-◌, ◌<◌, ◌≤◌, ◌^◌, ◌++◌, [], ◌∷◌, Some, IfOk, length, take, insert, remove, slice_get, slice_index_or};
 ghost use Rattle.std.specs.List.{position_or_len, concat};
 ghost use Rattle.cq_base.specs.Limits.{most_ports};
 ghost use Rattle.cq_list.specs.Split.{is_output, place_of_nth, count_of};
 ghost use Rattle.cq_list.specs.Places.{CanGrow, HasGrown, HaveMemory, IsSpot, IsAhead, AreFilled, IsFilledUp, joined, least_places, pulled};
 ghost use Rattle.cq_list.specs.Block.{most_places};
-ghost use Rattle.cq_list.specs.Sums.{IsStart, own_in, run_blocks};
+ghost use Rattle.cq_list.specs.Sums.{IsStart, own_in};
 
 use crate::block::{Block, HALF_PLACES, MOST_PLACES};
 use crate::sum::Sum;
-use crate::summed_blocks::{RUN_BLOCKS, SummedBlocks};
+use crate::summed_blocks::SummedBlocks;
 use cq_base::{MOST_PORTS, NoMemory, Port};
 use std::alloc::Global;
 use std::collections::VecDeque;
@@ -65,17 +65,17 @@ struct Ahead {
     own: usize,
 }
 
-// The run of a place, and how many places stand ahead of this run.
+// The block at which the run of a place begins, and how many places stand ahead of this run.
 #[derive(Clone, Copy)]
 struct Start {
-    run: usize,
+    begin: usize,
     ahead: usize,
 }
 
 // Where the run of a place starts, from the first run on.
 fn start_from_first(blocks: &SummedBlocks, place: usize) -> Start
     requires { place < length (concat blocks.now.blocks) }
-    ensures { IsStart blocks.now.blocks place result.run result.ahead }
+    ensures { IsStart blocks.now.blocks place result.begin result.ahead }
 {
     let mut left = place;
     let sums = blocks.sums();
@@ -83,7 +83,7 @@ fn start_from_first(blocks: &SummedBlocks, place: usize) -> Start
         let places = sums[run].places();
         if left < places {
             return Start {
-                run,
+                begin: blocks.begin_of(run),
                 ahead: place - left,
             };
         }
@@ -96,7 +96,7 @@ fn start_from_first(blocks: &SummedBlocks, place: usize) -> Start
 fn start_from_last(blocks: &SummedBlocks, place: usize, len: usize) -> Start
     requires inside { place < len }
     requires len { len ≡ length (concat blocks.now.blocks) }
-    ensures { IsStart blocks.now.blocks place result.run result.ahead }
+    ensures { IsStart blocks.now.blocks place result.begin result.ahead }
 {
     let mut ahead = len;
     let sums = blocks.sums();
@@ -104,7 +104,10 @@ fn start_from_last(blocks: &SummedBlocks, place: usize, len: usize) -> Start
         let run = sums.len() - 1 - passed;
         ahead -= sums[run].places();
         if ahead <= place {
-            return Start { run, ahead };
+            return Start {
+                begin: blocks.begin_of(run),
+                ahead,
+            };
         }
     }
     unreachable!()
@@ -112,12 +115,12 @@ fn start_from_last(blocks: &SummedBlocks, place: usize, len: usize) -> Start
 
 // Where a place stands in its run.
 fn spot_in(blocks: &SummedBlocks, place: usize, start: Start) -> Spot
-    requires { IsStart blocks.now.blocks place start.run start.ahead }
+    requires { IsStart blocks.now.blocks place start.begin start.ahead }
     ensures { IsSpot blocks.now.blocks place result.block result.within }
 {
     let mut within = place - start.ahead;
     let count = blocks.len();
-    'each: for block in start.run * RUN_BLOCKS..count {
+    'each: for block in start.begin..count {
         let len = blocks.at(block).len();
         if within < len {
             return Spot { block, within };
@@ -193,15 +196,15 @@ fn nth_in(places: &Block, block: usize, output: Port, number: usize, ahead: Ahea
     (ahead.places + within, Spot { block, within })
 }
 
-// The same in the run that has it.
+// The same in the run that has it, which begins at this block.
 fn find_in_run(
     blocks: &SummedBlocks,
-    run: usize,
+    begin: usize,
     output: Port,
     number: usize,
     from: Ahead,
 ) -> (usize, Spot)
-    requires ahead { IsAhead blocks.now.blocks output (run_blocks * run) from.places from.own }
+    requires ahead { IsAhead blocks.now.blocks output begin from.places from.own }
     requires late { from.own ≤ number }
     requires early { number < count_of output (concat blocks.now.blocks) }
     requires fits { length (concat blocks.now.blocks) < 2 ^ 64 }
@@ -210,7 +213,7 @@ fn find_in_run(
 {
     let mut ahead = from;
     let count = blocks.len();
-    'each: for block in run * RUN_BLOCKS..count {
+    'each: for block in begin..count {
         let places = blocks.at(block);
         let next = with_block(places, output, ahead);
         if number < next.own {
@@ -239,13 +242,13 @@ fn find_from_ends(blocks: &SummedBlocks, output: Port, number: usize, all: Ahead
     'runs: for first in 0..runs {
         let next = with_run(&sums[first], output, front);
         if number < next.own {
-            return find_in_run(blocks, first, output, number, front);
+            return find_in_run(blocks, blocks.begin_of(first), output, number, front);
         }
         front = next;
         let last = runs - 1 - first;
         back = without_run(&sums[last], output, back);
         if back.own <= number {
-            return find_in_run(blocks, last, output, number, back);
+            return find_in_run(blocks, blocks.begin_of(last), output, number, back);
         }
     }
     unreachable!()

@@ -1,24 +1,23 @@
-use Rattle.cq_list.proofs.Terms.{rules, arith, inl, ◌+◌, ◌-◌, ◌*◌}
-use Rattle.cq_list.specs.Sums.{late_from}
+use Rattle.cq_list.proofs.Terms.{rules, arith, inl, ◌-◌}
 use Rattle.cq_list.proofs.Runs.{gives, passing_on, settled, still_read, takes}
 use Rattle.cq_list.proofs.summed_blocks.pass_on.Goals as goal
 
 pub subtract-requires : goal.subtract-requires
 subtract-requires c =
-    gives c.runs.invariant.passing (c.runs.next - 1) (omega arith) c.index_mut.ensures.value (c.runs.next * 32)
-    (omega arith) c.index-first.ensures (omega arith) (omega arith)
+    gives c.runs.invariant.passing (c.runs.next - 1) (omega arith) c.index_mut.ensures.value _ (omega arith)
+    c.index-first.ensures (omega arith) (omega arith)
 
 pub add-requires : goal.add-requires
 add-requires c =
     let read = still_read _ c.runs.next _ (omega arith) c.index_mut-in-runs.ensures.value in
-    takes c.runs.invariant.passing c.runs.next (omega arith) read (c.runs.next * 32) (omega arith)
-    c.index-first.ensures c.requires.fits (inl (omega arith))
+    takes c.runs.invariant.passing c.runs.next (omega arith) read _ (omega arith) c.index-first.ensures
+    c.requires.fits (inl (omega arith))
 
 pub runs-preserved : goal.runs-preserved
 runs-preserved c = record {
-  passing = passing_on (late_from (c.runs.next + 1)) c.runs.invariant.passing (omega arith) (omega arith)
-      (λ k ne. omega arith) c.index_mut.ensures.value c.index_mut-in-runs.ensures.value (c.runs.next * 32) (omega arith)
-      c.index-first.ensures (omega arith) (omega arith) c.subtract.ensures c.add.ensures;
+  passing = passing_on c.runs.invariant.passing (omega arith) (omega arith) (λ k ne. omega arith)
+      c.index_mut.ensures.value c.index_mut-in-runs.ensures.value _ (omega arith) c.index-first.ensures (omega arith)
+      (omega arith) c.subtract.ensures c.add.ensures;
   all = search (arith, rules, c.runs.invariant.all);
   capacity = search (arith, rules, c.runs.invariant.capacity);
 }

@@ -1,24 +1,23 @@
-use Rattle.cq_list.proofs.Terms.{rules, arith, inr, ◌+◌, ◌*◌, ◌-◌}
-use Rattle.cq_list.specs.Sums.{early_from}
+use Rattle.cq_list.proofs.Terms.{rules, arith, inr, ◌-◌}
 use Rattle.cq_list.proofs.Runs.{gives, settled, still_read, takes, taking_on}
 use Rattle.cq_list.proofs.summed_blocks.take_on.Goals as goal
 
 pub add-requires : goal.add-requires
 add-requires c =
-    takes c.runs.invariant.taking (c.runs.next - 1) (omega arith) c.index_mut.ensures.value (c.runs.next * 32 - 1)
-    (omega arith) c.index-last.ensures c.requires.fits (inr (omega arith))
+    takes c.runs.invariant.taking (c.runs.next - 1) (omega arith) c.index_mut.ensures.value _ (omega arith)
+    c.index-last.ensures c.requires.fits (inr (omega arith))
 
 pub subtract-requires : goal.subtract-requires
 subtract-requires c =
     let read = still_read _ c.runs.next _ (omega arith) c.index_mut-in-runs.ensures.value in
-    gives c.runs.invariant.taking c.runs.next (omega arith) read (c.runs.next * 32 - 1) (omega arith)
-    c.index-last.ensures (omega arith) (omega arith)
+    gives c.runs.invariant.taking c.runs.next (omega arith) read _ (omega arith) c.index-last.ensures
+    (omega arith) (omega arith)
 
 pub runs-preserved : goal.runs-preserved
 runs-preserved c = record {
-  taking = taking_on (early_from (c.runs.next + 1)) c.runs.invariant.taking (omega arith) (omega arith)
-      (λ k ne. omega arith) c.index_mut.ensures.value c.index_mut-in-runs.ensures.value (c.runs.next * 32 - 1)
-      (omega arith) c.index-last.ensures (omega arith) (omega arith) c.add.ensures c.subtract.ensures;
+  taking = taking_on c.runs.invariant.taking (omega arith) (omega arith) (λ k ne. omega arith) c.index_mut.ensures.value
+      c.index_mut-in-runs.ensures.value _ (omega arith) c.index-last.ensures (omega arith) (omega arith) c.add.ensures
+      c.subtract.ensures;
   all = search (arith, rules, c.runs.invariant.all);
   capacity = search (arith, rules, c.runs.invariant.capacity);
 }

@@ -1,0 +1,17 @@
+use Rattle.cq_list.proofs.Terms.{rules, arith, length-append}
+use Rattle.cq_list.proofs.Runs.{came_first, has_room}
+use Rattle.cq_list.proofs.summed_blocks.SummedBlocks.insert_first.Goals as goal
+
+pub add-requires : goal.add-requires
+add-requires c =
+    let enough = c.open_first-short.ensures.sums.enough in
+    has_room c.open_first-short.ensures.sums 0 (omega arith) c.index_mut.ensures.value (search (arith, rules))
+
+pub invariant_of-self : goal.invariant_of-self
+invariant_of-self c =
+    rw c.push_front_reserved.ensures.items (record {
+      runs = came_first c.open_first-short.ensures.sums c.open_first-short.ensures.some c.open_first-short.ensures.most
+          c.index_mut.ensures.value c.add.ensures;
+      short = omega arith;
+      fits = search (arith, rules, length-append);
+    })
