@@ -1,5 +1,5 @@
 -- Lists that are new up to a place, and old from it on.
-use Rattle.cq_fabric.proofs.Terms.{common_steps, rules, ◌≡◌, ℕ, ◌+◌, ◌<◌, ◌≤◌, List, length, map, get_or, set, drop, Some, ◌∙◌, arith, slice_get, enumerate_from, length-enumerate_from, get_or-enumerate_from, slice_get-get_or, at_end, at_place, changed_to, next_place, drop-drop, drop-set-lt, get_or-map, length-map, length-set, set-get_or}
+use Rattle.cq_fabric.proofs.Terms.{common_steps, rules, ◌≡◌, ℕ, ◌+◌, ◌<◌, ◌≤◌, List, length, map, get_or, set, drop, Some, ◌∙◌, arith, slice_get, enumerate_from, length-enumerate_from, get_or-enumerate_from, slice_get-get_or, at_end, at_place, changed_to, next_place, drop-drop, drop-set-lt, get_or-map, length-map, length-set, set-get_or, length-told, told_next}
 
 -- one item more is written, and those behind it are as they were
 pub still_behind : {X : Type 0} (now old : List X) (j : ℕ) (y : X) → drop j now ≡ drop j old →
@@ -49,3 +49,5 @@ module _ {X : Type 0} {f : ℕ → X → X} {xs : List X} {n : ℕ} {now : List 
 
   pub all_changed : length xs ≤ n → now ≡ map (λ at. f at.0 at.1) (enumerate_from 0 xs)
   all_changed past = grind (arith, common_steps, at_end, length-by_place)
+
+pub ruleset told_steps = (told_next, at_end, length-told)

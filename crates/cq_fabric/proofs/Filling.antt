@@ -99,3 +99,5 @@ pub one_told : {X : Type 0} (f : X → List Queued) (items : List X) (i : ℕ) (
     x ≡ get_or items i x → cells ≡ f x → more ≡ take (i + 1) (map f items)
 one_told f items i x all more cells so_far is inside read told =
     let nil = [] in search (arith, rules, take_next, length-map, get_or-map f items i x nil)
+
+pub ruleset filled = (still_spare, stands_anew, take_all)

@@ -6,7 +6,7 @@
 use Rattle.cq_fabric.proofs.Terms.{common_steps, rules, ◌≡◌, ◌≢◌, ℕ, ◌+◌, ◌<◌, ◌≤◌, ◌⊎◌, true, List, [], length, map, get_or, set, replicate, Option, Some, None, refl, sym, ap, ◌∙◌, arith, All, insert, IsDistinct, cases_eq, cases_lt, length-map, length-replicate, get_or_default, get_or_past, get_or-replicate, get_or-set_same, get_or-set_other, length-set, Queued, MoreUrgentAhead, cushion, with_arrival, place_of_arrival, Waiting, cells_of, list_of, FirstKeysDiffer, AreOrdersOf, first_key, key_before, orders_of, Moves, list_taken, Orders, no_offers, ports, Partners, partner_of, with_pair, are_orders, IsAmong, came_to, among_insert, was_waiting, KeysApart, ComeApart, Comes, list_at, list_with, empty_list, AreSameWithout, one_orders, place_in-le-length, IsSameBut, same_list, same_but_arrival, same_but_taken, same_without, most_ports, cells-at}
 use Rattle.std.proofs.Math.ListN.{get_or-map}
 use Rattle.cq_prefs.proofs.BehindFirst.{comes_behind, same_offers}
-use Rattle.cq_fabric.proofs.Queued.{firsts_apart}
+use Rattle.cq_fabric.proofs.Queued.{firsts_apart, new_square}
 
 -- the lists are as many as ports are offered
 pub as_offered : (lists : List Waiting) (o : Orders) → o ≡ orders_of (cells_of lists) → ports o ≡ length lists
@@ -134,3 +134,5 @@ module _ (m : Partners) (lists lists' : List Waiting) (buffers buffers' : List (
   pub moved_outputs : All (λ list. list.outputs ≡ length lists) lists →
       map (λ w. w.outputs) lists' ≡ map (λ w. w.outputs) lists → All (λ list. list.outputs ≡ length lists) lists'
   moved_outputs all outputs k d l = search (arith, rules, length-map, get_or-map (λ (w : Waiting). w.outputs))
+
+pub ruleset new_ones = (none_offered, new_square, length-map, length-replicate)

@@ -153,3 +153,7 @@ new_square lists buffers n k few offered outputs long as_many =
 pub popped_by : (b b' : Buffered) (q : Option Queued) → q ≡ slice_get b.cells 0 → b'.cells ≡ drop 1 b.cells →
     b'.spare ≡ b.spare + cond (is_some q) 1 0 → b' ≡ popped b
 popped_by b b' q first cells spare = grind (arith, common_steps)
+
+pub ruleset departing = (whole, length-map, popped_square, fronts_shown, rests_shown, rooms_shown)
+
+pub ruleset rooms_are = (buffer_room-is)

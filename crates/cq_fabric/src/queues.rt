@@ -204,6 +204,7 @@ fn none_crossed(buffers: &[OutputBuffer]) -> bool
 
 impl Queues {
     /// No cell waits. The lists and the buffers can hold so many cells. The error is want of memory.
+    #[tactic(auto, using(crate::proofs::Offered::new_ones))]
     pub fn new(alloc: Global, from_inputs: &[u64], to_outputs: &[u64]) -> Result<Queues, NoMemory>
         requires few { length from_inputs.now ≤ most_ports }
         requires square { length to_outputs.now ≡ length from_inputs.now }
@@ -268,6 +269,7 @@ impl Queues {
     }
 
     /// The number of inputs, and of outputs.
+    #[tactic(auto, using(crate::proofs::Queued::rooms_are, crate::proofs::Rooms::rooms_fit))]
     pub fn ports(&self) -> u16
         ensures value { result ≡ length self.now.inputs }
         ensures buffers { length self.now.buffers ≡ length self.now.inputs }
@@ -391,6 +393,7 @@ impl Queues {
 
     /// The first cell of each buffer leaves it, and comes to `gone` at the place of its output. The places behind
     /// those of the outputs stay as they were.
+    #[tactic(auto, using(crate::proofs::Queued::departing))]
     pub fn depart(&mut self, gone: &mut Gone)
         ensures gone { take (length self.old.inputs) gone.new ≡ fronts self.old.buffers }
         ensures others { drop (length self.old.inputs) gone.new ≡ drop (length self.old.inputs) gone.old }

@@ -7,6 +7,7 @@ use cq_ideal::{Limiter, Ranks};
 use cq_rank::Rank;
 
 /// Each machine is told what its output sent in the slot that ends, or that it was idle.
+#[tactic(auto, using(crate::proofs::Changed::told_steps))]
 pub fn tell<R: Rank>(ranks: &mut Ranks<R>, gone: &[Option<Queued>])
     requires few { length gone.now ≤ most_ports }
     requires outputs { length gone.now ≡ length ranks.old.fixed }
