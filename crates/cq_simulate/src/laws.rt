@@ -22,6 +22,7 @@ pub fn fabric_sends_as_the_ideal_switch()
 
 /// Every packet leaves its output whole, or is counted as refused there: one of both, once. So who misses a packet in
 /// what was written of an output can trust that it is in the count.
+#[tactic(auto, using(crate::proofs::EachPacket::each_packet_once))]
 pub fn each_packet_is_written_or_counted()
     ensures { (t : Tables) (captures : List (List Captured)) (rs : List LimitedRecord) →
         AreTables t → length captures ≡ ports_of t.setup → IsFabricRun t (arrivals t captures) rs →
@@ -30,6 +31,7 @@ pub fn each_packet_is_written_or_counted()
 
 /// The cells that arrive at an input come packet after packet: the numbers of the packets rise, and of each packet the
 /// first cell comes first. So where outputs have limits each packet is admitted or refused whole.
+#[tactic(auto, using(crate::proofs::OfPackets::packets_come))]
 pub fn whole_packets_arrive()
     ensures { (t : Tables) (captures : List (List Captured)) (input : ℕ) →
         AreTables t → length captures ≡ ports_of t.setup → input < length captures →

@@ -15,6 +15,7 @@ use std::alloc::Global;
 /// comes to its end sends is so, and each of these in the order of arrival (`runs_leave_whole_packets`). `t0` is the
 /// stamp from which its slots are counted, in nanoseconds. From an output that is no port nothing departs, so no packet
 /// leaves it; and a packet that is refused does not leave. The error is want of memory.
+#[tactic(auto, using(crate::proofs::AllPacked::nowhere))]
 pub fn packets_of(
     alloc: Global,
     output: Port,
@@ -159,6 +160,7 @@ pub(crate) fn stamp_of(slot: Slot, tables: &Tables, t0: u64) -> u128
 }
 
 /// The original length of a captured packet.
+#[tactic(auto, using(crate::proofs::AllPacked::originals))]
 pub(crate) fn original_of(captures: &[Capture], input: Port, packet: u32) -> u32
     requires input { input < length captures.now }
     requires packet { packet < length (packets_at captures.now input) }
