@@ -1,6 +1,6 @@
 -- How many cells each output holds, counted in one walk over the lists: at first those of the buffers, and of each
 -- list those for the output more.
-use Rattle.cq_engine.proofs.Terms.{common_steps, rules, ◌≡◌, ℕ, ◌+◌, ◌<◌, ◌≤◌, List, [], ◌∷◌, ◌++◌, length, map, get_or, set, take, sym, ◌∙◌, arith, All, filter, cases_eq, cond_both, eq-eqb, ne_eqb, ext_get_or, get_or-map, get_or-set_other, get_or-set_same, length-map, take_all, take_more, slice_get-get_or, Queued, is_for, list_of, Fabric, IsAmong, buffer, input, fabric_held, waiting_for, held_at, held_long, has_there, filter-append, length-append}
+use Rattle.cq_engine.proofs.Terms.{common_steps, rules, ◌≡◌, ℕ, ◌+◌, ◌<◌, ◌≤◌, List, [], ◌∷◌, ◌++◌, length, map, get_or, set, take, sym, ◌∙◌, arith, All, filter, cases_eq, cond_both, eq-eqb, ne_eqb, ext_get_or, get_or-map, get_or-set_other, get_or-set_same, length-map, take_all, take_more, slice_get-get_or, Queued, is_for, list_of, Fabric, IsAmong, buffer, input, fabric_held, waiting_for, held_at, held_long, has_there, filter-append, length-append, length-set}
 use Rattle.cq_laws.proofs.Cushions.{bit, bit_false, bit_true}
 
 -- how many of the cells are for output j
@@ -56,3 +56,5 @@ module _ (f : Fabric) (i : ℕ) (held : List ℕ) (so_far : HeldSoFar f i held) 
 pub held_last : (f : Fabric) (i : ℕ) (held : List ℕ) → HeldSoFar f i held → length f.inputs ≤ i → held ≡ fabric_held f
 held_last f i held so_far past = ext_get_or 0 held (fabric_held f) (so_far.ports ∙ sym (held_long f))
     (λ j below. search (arith, rules, so_far.counts, take_all, held_at))
+
+pub ruleset one_list = (count_next, length-set, take_all)

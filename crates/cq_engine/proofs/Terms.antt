@@ -28,7 +28,7 @@ unfoldable pub use Rattle.cq_laws.specs.Measures.{figures_after, input_after, ou
 pub use Rattle.cq_laws.specs.Phases.{came_to}
 pub use Rattle.cq_laws.specs.{Agreement.SendsAlike, Places.NoKeyTwice, Places.Waiting, declared.frozen.Frozen.Frozen}
 pub use Rattle.cq_laws.proofs.{IdealOf.agrees_of, LeastRun.more_at_first, LeastSlack.by_arrivals, LeastSlack.more_after, QuietSlots.empty_is}
-pub use Rattle.cq_fabric.proofs.Changed.{IsChangedTo, all_changed, at-by_place, length-by_place, next_changed, next_kept, still_few}
+pub use Rattle.cq_fabric.proofs.Changed.{IsChangedTo, at-by_place, length-by_place, next_changed, next_kept, still_few}
 pub use Rattle.cq_fabric.proofs.Known.{AreRanked, BuffersHaveRoom, HaveArrived, HaveJudged, HaveMoved, HaveSent, ListsHaveRoom}
 pub use Rattle.cq_fabric.proofs.Limits.{admits_are, admitted_room, held_at, held_long, holds_first, numbers_fit, still_holds}
 pub use Rattle.cq_fabric.proofs.Rested.{rested_agrees, rested_limited_run, still_held}

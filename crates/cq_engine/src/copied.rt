@@ -9,6 +9,7 @@ use cq_laws::Frozen;
 use std::alloc::Global;
 
 /// The same figures. The error is want of memory.
+#[tactic(auto, using(crate::proofs::Going::same_figures))]
 pub fn copied_figures(alloc: Global, figures: &Figures) -> Result<Figures, NoMemory>
     ensures { IfOk result (λ copy. copy ≡ figures.now) }
 {
@@ -24,6 +25,7 @@ pub fn copied_figures(alloc: Global, figures: &Figures) -> Result<Figures, NoMem
 }
 
 // How many cells each of these has. The error is want of memory.
+#[tactic(auto, using(std::proofs::lemmas::List::take_all))]
 fn lengths_of(alloc: Global, buffers: &[Sequence<Queued>]) -> Result<Sequence<u64>, NoMemory>
     ensures { IfOk result (λ counts. counts ≡ map length buffers.now) }
 {
@@ -48,7 +50,7 @@ fn count_one(held: &mut Sequence<u64>, output: Port) -> Result<(), NoMemory>
 }
 
 // The cells of a list are counted, each for its output. The error is want of memory, as that of `count_one`.
-#[tactic(auto, using(std::proofs::lemmas::List::take_all))]
+#[tactic(auto, using(crate::proofs::Counted::one_list))]
 fn count_each(held: &mut Sequence<u64>, cells: &[Queued]) -> Result<(), NoMemory>
     requires outputs { All (λ c. c.cell.output < length held.old) cells.now }
     ensures ports { OnOk result (length held.new ≡ length held.old) }
@@ -62,6 +64,7 @@ fn count_each(held: &mut Sequence<u64>, cells: &[Queued]) -> Result<(), NoMemory
 }
 
 // How many cells each output holds, in the lists and in its buffer. The error is want of memory.
+#[tactic(auto, using(crate::proofs::Counted::held_first, crate::proofs::Counted::held_last))]
 fn held_in(alloc: Global, from: &Frozen) -> Result<Sequence<u64>, NoMemory>
     requires square { length from.now.buffers ≡ length from.now.lists }
     requires outputs { (i : ℕ) (c : OfCell) → IsAmong c (input (fabric_in from.now) i) →
@@ -80,6 +83,7 @@ fn held_in(alloc: Global, from: &Frozen) -> Result<Sequence<u64>, NoMemory>
 /// The limiter of an engine that goes on from a state: it has these limits, and the marks and the numbers of what was
 /// refused of the state, and each output holds the cells that wait for it there. The error is want of memory, as that
 /// of `count_one`.
+#[tactic(auto, using(cq_fabric::proofs::Limits::held_long))]
 pub fn limiter_of(alloc: Global, limits: &[Option<u64>], from: &Frozen) -> Result<Limiter, NoMemory>
     requires square { length from.now.buffers ≡ length from.now.lists }
     requires ports { length from.now.lists ≡ length limits.now }

@@ -17,6 +17,7 @@ fn any_sent(gone: &[Option<Queued>]) -> bool
 }
 
 // The cells that left are put at the end of what was sent.
+#[tactic(auto, unfolding(cq_ideal::specs::IdealSlot::departures_in))]
 fn send(slot: Slot, gone: &[Option<Queued>], sent: &mut Room<Departure>)
     requires few { length gone.now ≤ most_ports }
     requires room { length gone.now ≤ sent.old.spare }
@@ -77,6 +78,7 @@ pub fn leave<R: Rank>(
 
 /// Each output sends the first cell of its buffer, which it then holds no longer, or is idle. Its machine is told, and
 /// it is counted. `places` are lent for what is sent.
+#[tactic(auto, using(cq_ideal::proofs::Changed::list_steps))]
 pub fn depart<R: Rank>(
     ranks: &mut Ranks<R>,
     queues: &mut Queues,

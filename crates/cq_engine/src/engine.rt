@@ -119,6 +119,7 @@ impl<R: Rank> Engine<R> {
     /// room for `from_inputs[i]` cells and buffer j for `to_outputs[j]`, output j has the limit `limits[j]`, or none,
     /// no packet is refused, nothing was refused or counted, and the next slot is 0. In a slot so many workers at most
     /// propose at once. All memory that a slot needs is taken here. The error is want of memory.
+    #[tactic(auto, using(cq_ideal::proofs::Changed::list_steps))]
     pub fn new(
         alloc: Global,
         ranks: Vec<R>,

@@ -142,6 +142,7 @@ fn output_counted(figures: OutputFigures, slot: Slot, gone: Queued) -> OutputFig
 
 /// Adds the cells that came to the inputs to what was seen of them, once they stand in their lists, and what is seen
 /// of the slacks.
+#[tactic(auto, using(cq_fabric::proofs::Changed::all_changed))]
 pub fn count_inputs(
     alloc: Global,
     look: Look,
@@ -170,6 +171,7 @@ pub fn count_inputs(
 }
 
 /// Adds the cells that left the outputs to what was seen of them. Where none left nothing changes.
+#[tactic(auto, using(cq_fabric::proofs::Changed::all_changed))]
 pub fn count_outputs(outputs: &mut Sequence<OutputFigures>, slot: Slot, gone: &[Option<Queued>])
     requires ports { length outputs.old ≡ length gone.now }
     requires counts { (j : ℕ) (x : OfOutput) → slice_get outputs.old j ≡ Some x → x.cells < 2 ^ 64 - 1 }

@@ -45,6 +45,7 @@ pub fn go_straight(queues: &Queues, came: &Newcomers, gone: &mut Gone) -> bool
 }
 
 // Each cell that came is noted as one that crosses in the first phase.
+#[tactic(auto, using(crate::proofs::StraightSlot::noted))]
 fn note_each(came: &Newcomers, inputs: usize, slot: Slot, note: &mut Room<Transfer>)
     requires few { inputs ≤ most_ports }
     requires room { inputs ≤ note.old.spare }
@@ -77,6 +78,7 @@ fn input_passed(figures: InputFigures, _queued: Queued) -> InputFigures
 }
 
 // Adds the cells that came to what was seen of the inputs. Where none came nothing changes.
+#[tactic(auto, using(cq_fabric::proofs::Changed::all_changed))]
 fn count_passed(inputs: &mut Sequence<InputFigures>, came: &Newcomers, ports: usize)
     requires few { ports ≤ most_ports }
     requires ports { length inputs.old ≡ ports }

@@ -1,5 +1,5 @@
-use Rattle.cq_engine.proofs.Terms.{rules, ◌≡◌, ◌<◌, length, map, ap, ◌∙◌, arith, get_or_read, list_of, fabric_in}
-use Rattle.cq_engine.proofs.Counted.{cells_inside, held_first, held_last, held_next}
+use Rattle.cq_engine.proofs.Terms.{rules, ◌≡◌, ◌<◌, length, ap, arith, get_or_read, list_of, fabric_in}
+use Rattle.cq_engine.proofs.Counted.{cells_inside, held_next}
 use Rattle.cq_engine.proofs.copied.held_in.Goals as goal
 use Rattle.cq_engine.proofs.copied.held_in.Goals.{After-as_slice}
 
@@ -10,10 +10,6 @@ here c = search (arith, rules, get_or_read)
 inside : (c : After-as_slice) → c.inputs.input < length c.args.from.now.lists
 inside c = let long = ap length c.as_slice-lists.ensures in omega arith
 
-pub inputs-init : goal.inputs-init
-inputs-init c = held_first (fabric_in c.args.from.now) c.in_ok-held.held c.requires.square
-    (c.in_ok-held.ensures ∙ ap (map length) c.as_slice-buffers.ensures)
-
 pub count_each-requires : goal.count_each-requires
 count_each-requires c = search (arith, rules, cells_inside, inside, here)
 
@@ -22,6 +18,3 @@ inputs-preserved c =
     let at = (goal.at.inputs-preserved c).After-as_slice in
     let counted = c.in_ok-count_each.ensures in
     held_next _ _ _ c.inputs.invariant (inside at) _ (here at) _ counted.ports counted.counts
-
-pub returns : goal.returns
-returns c = search (arith, rules, held_last)

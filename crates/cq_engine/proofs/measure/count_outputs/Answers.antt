@@ -1,4 +1,4 @@
-use Rattle.cq_engine.proofs.Terms.{◌≡◌, ℕ, output_counted, None, arith, rules, OutputFigures, all_changed, next_changed, next_kept, still_few}
+use Rattle.cq_engine.proofs.Terms.{◌≡◌, ℕ, output_counted, None, arith, rules, OutputFigures, next_changed, next_kept, still_few}
 use Rattle.cq_engine.proofs.measure.count_outputs.Goals as goal
 
 abbrev none : OutputFigures
@@ -15,6 +15,3 @@ output_counted-counted-requires c = still_few c.outputs.invariant (λ (y : Outpu
 
 pub outputs-preserved : goal.outputs-preserved
 outputs-preserved c = search (arith, rules, next_changed, next_kept c.outputs.invariant none, nothing_counted)
-
-pub returns : goal.returns
-returns c = all_changed c.outputs.invariant (omega arith)

@@ -1,4 +1,4 @@
-use Rattle.cq_engine.proofs.Terms.{None, arith, rules, InputFigures, all_changed, next_changed, next_kept, still_few}
+use Rattle.cq_engine.proofs.Terms.{None, arith, rules, InputFigures, next_changed, next_kept, still_few}
 use Rattle.cq_engine.proofs.straight.count_passed.Goals as goal
 
 abbrev none : InputFigures
@@ -10,6 +10,3 @@ input_passed-counted-requires c =
 
 pub inputs-preserved : goal.inputs-preserved
 inputs-preserved c = search (arith, rules, next_changed, next_kept c.inputs.invariant none)
-
-pub returns : goal.returns
-returns c = all_changed c.inputs.invariant (omega arith)

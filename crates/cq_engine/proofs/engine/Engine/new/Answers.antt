@@ -21,17 +21,8 @@ running_first : (ms : List Machine) (n : ℕ) (ranks : List (List ℕ)) (q : Que
 running_first ms n ranks q x l one ports states inputs buffers figures limits held =
     grind (arith, common_steps, holds_first, first_up, more_at_first)
 
-pub new-requires : goal.new-requires
-new-requires g c = search (arith, rules, length-map)
-
-pub new-requires-2 : goal.new-requires-2
-new-requires-2 g c = search (arith, rules, length-map)
-
 pub invariant_of-result : goal.invariant_of-result
 invariant_of-result g c =
     let runs = running_first (map g.R.Rank.machine c.of.result.fixed) (length c.args.ranks.items) c.of.result.states
     c.in_ok-new.field-0 c.in_ok-no_figures.field-0 c.in_ok-new-2.field-0 in
     search (arith, rules, runs, length-map)
-
-pub returns : goal.returns
-returns g c = search (arith, rules, c.of.ensures.fixed, c.of.ensures.states)
