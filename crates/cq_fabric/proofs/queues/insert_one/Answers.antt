@@ -1,12 +1,6 @@
-use Rattle.cq_fabric.proofs.Terms.{common_steps, rules, length-set, arith, get_or_default, length-map, get_or-map, get_or-set_other, get_or-set_same}
+use Rattle.cq_fabric.proofs.Terms.{rules, length-set, arith, get_or_default, length-map, get_or-map, get_or-set_other, get_or-set_same}
 use Rattle.cq_fabric.proofs.Offered.{come_behind, come_differ, come_same, set_came}
 use Rattle.cq_fabric.proofs.queues.insert_one.Goals as goal
-
-pub bounds-buffers-output : goal.bounds-buffers-output
-bounds-buffers-output c = search (arith, rules, length-map)
-
-pub cushion_for-cushion-requires : goal.cushion_for-cushion-requires
-cushion_for-cushion-requires c = grind (arith, common_steps, get_or_default, get_or-map)
 
 pub renew_pair-requires-clause-keys : goal.renew_pair-requires-clause-keys
 renew_pair-requires-clause-keys c =
@@ -23,9 +17,3 @@ renew_pair-requires-clause-others c =
 pub returns-then-behind : goal.returns-then-behind
 returns-then-behind c = search
     (arith, rules, length-map, get_or-map, come_behind, set_came, get_or_default, get_or-set_same, get_or-set_other)
-
-pub returns-clause-list : goal.returns-clause-list
-returns-clause-list c = grind (arith, common_steps, get_or_default, get_or-map, get_or-set_same)
-
-pub returns-clause-others : goal.returns-clause-others
-returns-clause-others c = search (arith, rules, get_or-set_other)

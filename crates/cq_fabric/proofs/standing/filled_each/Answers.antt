@@ -2,9 +2,6 @@ use Rattle.cq_fabric.proofs.Terms.{rules, arith, get_or}
 use Rattle.cq_fabric.proofs.Filling.{given_at, one_filled}
 use Rattle.cq_fabric.proofs.standing.filled_each.Goals as goal
 
-pub fill-requires : goal.fill-requires
-fill-requires g c = search (arith, rules, c.requires.can, given_at)
-
 pub places-preserved : goal.places-preserved
 places-preserved g c cells_at room_of number n fills =
     let given = given_at _ _ c.index-cells-at.is c.places-test.true c.requires.as_many c.as_slice.ensures in

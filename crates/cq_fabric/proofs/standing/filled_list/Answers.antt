@@ -2,9 +2,6 @@ use Rattle.cq_fabric.proofs.Terms.{◌∙◌, arith, rules}
 use Rattle.cq_fabric.proofs.Filling.{comes_anew, comes_behind, comes_in_range, comes_last, room_stays, still_spare}
 use Rattle.cq_fabric.proofs.standing.filled_list.Goals as goal
 
-pub places-init : goal.places-init
-places-init c = search (arith, rules)
-
 pub insert-requires : goal.insert-requires
 insert-requires c = search
     (arith, rules, still_spare c.args.cells.now c.places.at, comes_in_range, comes_anew, comes_behind)

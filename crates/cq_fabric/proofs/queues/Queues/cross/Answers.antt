@@ -33,9 +33,6 @@ pub cross_matched-requires-clause-follow : goal.cross_matched-requires-clause-fo
 cross_matched-requires-clause-follow c =
     let can = subst CanCross (sym c.self.view_is) c.requires.cells in search (arith, rules, can.apart)
 
-pub cross_matched-requires-clause-note : goal.cross_matched-requires-clause-note
-cross_matched-requires-clause-note c = search (arith, rules, matched_long)
-
 pub invariant_of-self : goal.invariant_of-self
 invariant_of-self c = search
     (arith, rules, crossed, as_offered, length-map, whole, crossed_square, crossed_buffer_rooms)

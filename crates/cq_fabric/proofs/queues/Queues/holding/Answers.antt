@@ -4,12 +4,6 @@ use Rattle.cq_fabric.proofs.Offered.{as_offered}
 use Rattle.cq_fabric.proofs.queues.Queues.holding.Goals as goal
 use Rattle.cq_fabric.proofs.queues.Queues.holding.Goals.{In_ok-offers}
 
-pub filled_each-requires-clause-can : goal.filled_each-requires-clause-can
-filled_each-requires-clause-can c i given inside is = search (arith, rules, c.requires.hold.inputs)
-
-pub filled_each-requires-2-clause-can : goal.filled_each-requires-2-clause-can
-filled_each-requires-2-clause-can c i given inside is = search (arith, rules, c.requires.hold.outputs)
-
 -- the lists and the buffers have their cells and their rooms
 lists_filled : (c : In_ok-offers) →
     AreFilled (λ (w : Waiting). w.cells) list_room (λ (w : Waiting). w.outputs) (length c.args.from_inputs.now)

@@ -1,5 +1,5 @@
 -- The least slack of a list, cell after cell: the least of the slacks so far and of one more is the lesser of the two.
-use Rattle.cq_fabric.proofs.Terms.{rules, [], refl, arith, take_all, input, fabric_of, common_steps, ◌≡◌, ℕ, ◌+◌, ◌-◌, ◌<◌, List, ◌∷◌, ◌++◌, length, get_or, take, Option, Some, min, ⊎_elim, slice_get, reduce, enumerate_from, get_or-map, length-map, take_more, get_or-enumerate_from, length-enumerate_from, get_or_from_slice_get, slice_get_cases, slice_get_within, item_inside, seen_at, Queued, Fabric, cushion_of, either_by, slacks}
+use Rattle.cq_fabric.proofs.Terms.{rules, [], refl, arith, take_all, input, fabric_of, common_steps, ◌≡◌, ℕ, ◌+◌, ◌-◌, ◌<◌, List, ◌∷◌, ◌++◌, length, get_or, take, Option, Some, min, ⊎_elim, slice_get, reduce, enumerate_from, get_or-map, length-map, take_more, get_or-enumerate_from, length-enumerate_from, get_or_from_slice_get, slice_get_cases, slice_get_within, Queued, Fabric, cushion_of, either_by, slacks}
 use Rattle.cq_fabric.proofs.queues.Queues.least_slack.Goals as goal
 
 -- ## The least of some numbers
@@ -32,15 +32,6 @@ looked_at f i p slack least more so_far below each told =
     let more = take_more (slacks f i) p 0 in
     grind (arith, common_steps, each x.0 x.2, slack_there f i p x.0 x.2, reduce_push, more, length-slacks))
     (λ past. absurd (omega arith)) (slice_get_cases (input f i) p).1
-
-pub index-requires : goal.index-requires
-index-requires c = search (arith, rules, item_inside)
-
-pub slack_at-requires-clause-told : goal.slack_at-requires-clause-told
-slack_at-requires-clause-told c = search (arith, rules, seen_at, item_inside)
-
-pub places-init : goal.places-init
-places-init c = refl
 
 pub places-preserved : goal.places-preserved
 places-preserved c =
