@@ -105,6 +105,7 @@ fn skip<R: Rank>(ideal: &mut Ideal<R>, schedule: &Schedule, slot: Slot, coming: 
 
 // Runs a switch of so many ports over all cells that arrive. What is sent in a slot stands in a list for as many as
 // there are ports, until it is packed. The error is the switch's first tag fault, or want of memory.
+#[tactic(auto, using(crate::proofs::Steps::running_first))]
 fn run_slots<R: Rank>(
     alloc: Global,
     ideal: &mut Ideal<R>,

@@ -20,6 +20,7 @@ pub struct Packing {
 /// The captures of the packets that leave each output, in order of output: at each those of
 /// [`packets_of`](crate::packets_of). The departures are used up, and give their memory back, while the captures grow.
 /// Each capture is given its room at the start. The error is want of memory.
+#[tactic(auto, unfolding(crate::specs::Packets::packets_out), using(crate::proofs::AllPacked::all_packed))]
 pub fn packets_of_all(
     alloc: Global,
     sent: Departures,

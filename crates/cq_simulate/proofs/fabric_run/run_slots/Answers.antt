@@ -1,6 +1,6 @@
 use Rattle.cq_simulate.proofs.Terms.{ap, is_err, ◌+◌, ◌-◌, true, ◌∙◌, arith, rules, sym, err_from_is_err_and, end_of, IsEmptyFabric, quiet_of}
-use Rattle.cq_simulate.proofs.FabricSteps.{over_by, Stands, can_run_here, can_take_over, crossing_first, crossing_over, fault_here, left_here, next_here, run_stands}
-use Rattle.cq_simulate.proofs.Steps.{enough_are, free_again, goes_on, left_with_all}
+use Rattle.cq_simulate.proofs.FabricSteps.{over_by, Stands, can_run_here, crossing_over, fault_here, left_here, next_here, run_stands}
+use Rattle.cq_simulate.proofs.Steps.{free_again, goes_on, left_with_all}
 use Rattle.cq_simulate.proofs.fabric_run.run_slots.Given as given
 use Rattle.cq_simulate.proofs.fabric_run.run_slots.Goals as goal
 use Rattle.cq_simulate.proofs.fabric_run.run_slots.Goals.{After-arrivals}
@@ -21,9 +21,6 @@ stands g c = run_stands g.R.Rank.machine c.slots.invariant.runs (goes_on c.is_ov
 
 -- ## The loop
 
-pub slots-init : goal.slots-init
-slots-init g c = search (arith, rules, crossing_first, enough_are)
-
 pub slot-requires : goal.slot-requires
 slot-requires g c =
     let here = stands g (goal.at.slot-requires g c).After-arrivals in
@@ -43,9 +40,6 @@ overflow_add-slot g c = let here = stands g (goal.at.overflow_add-slot g c).Afte
 pub slots-smaller : goal.slots-smaller
 slots-smaller g c =
     let left = (stands g (goal.at.slots-smaller g c).After-arrivals).crossing.left in omega arith
-
-pub take_all-requires : goal.take_all-requires
-take_all-requires g c = search (arith, rules, can_take_over, stands)
 
 pub slots-preserved : goal.slots-preserved
 slots-preserved g c =

@@ -5,9 +5,6 @@ use Rattle.cq_simulate.proofs.ideal_run.run_ideal_packed.Goals as goal
 pub run_slots-ran-requires-clause-ready : goal.run_slots-ran-requires-clause-ready
 run_slots-ran-requires-clause-ready c = search (arith, rules, length-map-range_with_len, room_at, machine_count)
 
-pub run_slots-ran-requires-clause-ports : goal.run_slots-ran-requires-clause-ports
-run_slots-ran-requires-clause-ports c = search (arith, rules, machine_count)
-
 pub returns-in_err-ran-clause-refused : goal.returns-in_err-ran-clause-refused
 unfolding ideal_departures ran_ideal
 returns-in_err-ran-clause-refused c = search (arith, rules, err_from_is_err_and, limited_same_sent)

@@ -1,5 +1,5 @@
 use Rattle.cq_simulate.proofs.Terms.{slots_within, ◌≡◌, ◌+◌, ◌-◌, suc, All, [], rules, map, ◌∙◌, arith, err_from_is_err_and, end_of, enough}
-use Rattle.cq_simulate.proofs.Steps.{HasHad, Running, at_end, at_fault, at_next, can_have, can_take_over, free_again, goes_on, running_first, slot_ok, stands as stands_at}
+use Rattle.cq_simulate.proofs.Steps.{HasHad, Running, at_end, at_fault, at_next, can_have, free_again, goes_on, slot_ok, stands as stands_at}
 use Rattle.cq_simulate.proofs.ideal_run.run_slots.Given as given
 use Rattle.cq_simulate.proofs.ideal_run.run_slots.Goals as goal
 use Rattle.cq_simulate.proofs.ideal_run.run_slots.Goals.{After-arrivals, In_ok-slot}
@@ -23,9 +23,6 @@ had g c = search (arith, rules, slot_ok)
 
 -- ## The loop
 
-pub slots-init : goal.slots-init
-slots-init g c = search (arith, rules, running_first)
-
 pub slot-requires : goal.slot-requires
 slot-requires g c =
     let here = stands g (goal.at.slot-requires g c).After-arrivals in
@@ -39,9 +36,6 @@ returns-in_err-slot-clause-refused g c =
 pub slots-smaller : goal.slots-smaller
 slots-smaller g c =
     let left = (stands g (goal.at.slots-smaller g c).After-arrivals).left in omega arith
-
-pub take_all-requires : goal.take_all-requires
-take_all-requires g c = search (arith, rules, can_take_over g.R.Rank.machine, stands, had)
 
 pub slots-preserved : goal.slots-preserved
 slots-preserved g c =

@@ -1,5 +1,5 @@
-use Rattle.cq_simulate.proofs.Terms.{rules, length, ap, arith, packets_out}
-use Rattle.cq_simulate.proofs.AllPacked.{all_packed, at_port, can_take, none_yet, one_more}
+use Rattle.cq_simulate.proofs.Terms.{rules, length, ap, arith}
+use Rattle.cq_simulate.proofs.AllPacked.{at_port, can_take, none_yet, one_more}
 use Rattle.cq_simulate.proofs.packing.packets_of_all.Goals as goal
 
 pub departures-init : goal.departures-init
@@ -22,7 +22,3 @@ pub departures-preserved : goal.departures-preserved
 departures-preserved c =
     one_more c.departures.invariant c.in-Some.ensures c.departure-departure.ensures c.requires c.index_mut.result.now
     c.index_mut.ensures.value c.take.new.self c.in_ok-take.ensures
-
-pub returns : goal.returns
-unfolding packets_out
-returns c = search (arith, rules, all_packed)

@@ -1,6 +1,6 @@
 use Rattle.cq_simulate.proofs.Terms.{common_steps, rules, ap, arith, err_from_is_err_and, EngineView}
 use Rattle.cq_simulate.proofs.FabricOpening.{IsMade, can_begin, parted_of}
-use Rattle.cq_simulate.proofs.TakenUp.{machine_count, machines_many}
+use Rattle.cq_simulate.proofs.TakenUp.{machines_many}
 use Rattle.cq_simulate.proofs.parted_run.part_fresh.Given as given
 use Rattle.cq_simulate.proofs.parted_run.part_fresh.Goals as goal
 use Rattle.cq_simulate.proofs.parted_run.part_fresh.Goals.{In_ok-note}
@@ -28,7 +28,3 @@ pub returns-clause-parted : goal.returns-clause-parted
 returns-clause-parted g c =
     let begins = made g (goal.at.returns-clause-parted g c).In_ok-note in
     parted_of begins c.in_ok-run_before.ensures.run c.in_ok-frozen.ensures
-
--- the fabric that stands still has a list for each port
-pub returns-clause-ports : goal.returns-clause-ports
-returns-clause-ports g c = search (arith, rules, machine_count)
