@@ -2,7 +2,7 @@
 use Rattle.cq_simulate.proofs.Terms.{common_steps, rules, ◌≡◌, ℕ, suc, ◌+◌, ◌-◌, ◌<◌, ◌≤◌, ◌^◌, Bool, true, false, List, [], ◌++◌, length, map, Option, Err, refl, sym, ap, arith, zero, ◌*◌, ◌∷◌, length-append, sum, slice_index, cases_lt, and_left, leb-false, ne_eqb, Arrival, arriving, end_of, arriving_at, RoomView, Cell, Departure, TagFault, Transfer, EngineView, HaveBufferRoom, HaveListRoom, IsMadeAs, IsReadyFor, SlotDone, answer_to, its_admission, marked_fabric, HaveLeft, CanCount, AreForPorts, ranking, IsEmptyFabric, Fabric, input, LimitedFabricRun, LimitedRecord, IsLimitedFault, LimitedFabricSlot, IsInputBest, Machine, class_count, counts_fit, none_counted, HasRunOn, IsReadyOn, NoneCome, StopsWithin, RanTo, WentOn, to_come, arrivals_for, arrives_found, from_here, one_if, come_from, no_more_from, for_here, come_for, no_more_to, IsQuiet, append-nil, get_or_past, take_all, take-append-le, IdealState, transfers_of_run, range_with_len, Queued, nothing_left, come_count, come_count-first, arriving_length, arriving_here, arriving_parts, waiting, total, total_same, Marked, arriving_from, departures_of, LimitedSent, stable_limited_slot, limited_ports_kept, same_limited_slot, only_limited_run, empty_together, Agrees, fabric_held, held_for, LimitedAgrees, figures_after, sum_by-cons, agrees_of, ideal_of, is_from, is_to, number_of, arriving_is, found, quiet_limited_slots, limited_lists_kept, limited_outputs_kept, all_go_on, departures_one, transfers_one, hold_as_many, most_ports, quiet_slots, best_act_alike, kept_on, kept_with, slots_fit, run_length, ◌∙◌, kept_both, kept_quiet}
 use Rattle.cq_engine.specs.Engine.{HasGoneOn, ports_of}
 use Rattle.cq_engine.specs.Resting.{HasRested}
-use Rattle.cq_simulate.proofs.Steps.{IsFree, few_left, fewer_come, of_admitted, come_here, numbers, slot_err}
+use Rattle.cq_simulate.proofs.Steps.{fewer_come, of_admitted, come_here, numbers, slot_err}
 use Rattle.cq_simulate.proofs.FabricCounts.{all_listed, at_inputs, cross_few, none_proposed, square_few}
 
 -- What is still to come. The first arrival of a slot from this one on is the same among all arrivals as among those
@@ -243,12 +243,6 @@ module _ {whole : Bool} {end : ℕ} {M : List ℕ → Machine} {came : List Arri
 
   buffer_room : (cells : List (Option Cell)) → cells ≡ arriving came slot → HaveBufferRoom cells now
   buffer_room cells are j within = search (arith, rules, same_ports, c.buffers, for_here)
-
-  -- the departures of the run can take over what leaves into a free list
-  pub can_take_over : {cells : List (Option Cell)} {after : EngineView} {leaving left : RoomView Departure}
-      {note_new : RoomView Transfer} → IsFree (length first.fixed) leaving →
-      SlotDone (map M now.fixed) slot cells now after leaving left note note_new → length left.items ≤ sent.spare
-  can_take_over free done = search (arith, rules, few_left, left_here)
 
   -- the slot finds all that it asks for
   pub can_run_here : (cells : List (Option Cell)) → cells ≡ arriving came slot → (leaving : RoomView Departure) →

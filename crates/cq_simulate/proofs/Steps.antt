@@ -124,10 +124,6 @@ pub record IsFree (ports : ℕ) (leaving : RoomView Departure) : Type 0 where
 
 module _ {slot ports : ℕ} {gone : List (Option Queued)} {leaving left : RoomView Departure}
     (free : IsFree ports leaving) (has : HaveLeft slot gone leaving left) where
-  -- what stands there is what the slot sent
-  pub few_left : length left.items ≤ ports
-  few_left = search (arith, rules)
-
   -- the list is free again once it is emptied
   pub free_again : {emptied : RoomView Departure} → emptied.items ≡ [] →
       emptied.spare ≡ left.spare + length left.items → IsFree ports emptied
@@ -233,12 +229,6 @@ module _ (M : List ℕ → Machine) {came : List Arrival} {first : IdealSwitch} 
   can_have {cells} are free =
       let short : enough came ≤ 2 ^ 63 + 2 ^ 35 = r.ready.short in
       search (arith, rules, room_left, arrivals_for, r.counts)
-
-  -- and the departures of the run can take over what leaves there
-  pub can_take_over : {cells : List (Option Cell)} {after : IdealSwitch} {leaving left : RoomView Departure} →
-      IsFree (length first.fixed) leaving → HasHad (map M now.fixed) slot cells now after leaving left →
-      length left.items ≤ sent.spare
-  can_take_over free had = search (arith, rules, few_left)
 
   pub at_next : {cells : List (Option Cell)} {after : IdealSwitch} {leaving left sent_new : RoomView Departure} →
       cells ≡ arriving came slot → IsFree (length first.fixed) leaving →
