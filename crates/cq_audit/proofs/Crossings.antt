@@ -1,5 +1,5 @@
 -- What is told of the lists of some queues is told of their inputs, and so are the transfers of what the lines tell.
-use Rattle.cq_audit.proofs.Terms.{common_steps, arith, ◌≡◌, ◌+◌, ◌++◌, ℕ, List, length, Queued, Transfer, RoomView, Waiting, cells_of, Moves, transfers_of, Partners, Queues, IsPhaseFault, IsStableTold, PhaseFault}
+use Rattle.cq_audit.proofs.Terms.{common_steps, arith, ◌≡◌, ◌+◌, ◌++◌, ℕ, List, length, Queued, Transfer, RoomView, Waiting, cells_of, Moves, transfers_of, Partners, Queues, IsPhaseFault, IsStableTold, PhaseFault, length-map}
 use Rattle.cq_audit.specs.Crossing.{AreNoted, HaveCrossed}
 
 -- there are as many lists as inputs
@@ -21,3 +21,5 @@ module _ (lists : List Waiting) (old new : Queues) (slot phase : ℕ) (lines : L
       note'.items ≡ note.items ++ transfers_of m old.inputs slot phase →
       note'.spare + length (transfers_of m old.inputs slot phase) ≡ note.spare → AreNoted lines note note'
   are_noted note note' noted room = grind (arith, common_steps, note.items)
+
+pub ruleset cross_steps = (fault_there, told_there, have_crossed, are_noted, length-map)

@@ -139,3 +139,5 @@ module _ (ws : List Waiting) (lines : List Transfer) (n : ℕ) (d : Transfer) (m
   pub right_at : first_id line.output w.cells ≡ Some line.id → IsFreeOutput m line.output →
       ToldBy (cells_of ws) (take (n + 1) lines) (with_pair m line.input line.output)
   right_at names free = search (rules, long, take_more, right_line, parts, own, list)
+
+pub ruleset told_steps = (none_told, cells_at, can_join)

@@ -19,6 +19,7 @@ use std::alloc::Global;
 /// line, and none for those between them.
 ///
 /// Each error but want of memory comes for one cause alone: see `AuditRefusal`.
+#[tactic(auto, using(crate::proofs::Slots::lengths))]
 pub fn audit_log(
     alloc: Global,
     setup: &Setup,

@@ -52,6 +52,7 @@ fn preferred<'a>(offers: &'a Offers, pairs: &Pairs, input: Port) -> &'a [Port]
 
 // The least output with which an input blocks the matching, if there is one. It is one that the input prefers to its
 // partner, and which has none that it prefers to the input.
+#[tactic(auto, using(crate::proofs::Ahead::in_range, crate::proofs::Ahead::stands))]
 fn least_blocking(offers: &Offers, pairs: &Pairs, input: Port) -> Option<Port>
     requires input { input < length pairs.now }
     requires ports { length pairs.now ≡ ports offers.now }

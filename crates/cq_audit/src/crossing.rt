@@ -8,7 +8,7 @@ use cq_fabric::Queues;
 
 /// Makes the transfers that the lines of a phase tell, and notes them, where they are those of a stable matching. The
 /// error is the first fault of the lines, and then the queues and `note` are as before. It takes no memory.
-#[tactic(auto, using(crate::proofs::Crossings::fault_there))]
+#[tactic(auto, using(crate::proofs::Crossings::cross_steps))]
 pub fn cross(
     queues: &mut Queues,
     slot: Slot,

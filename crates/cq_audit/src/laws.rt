@@ -43,6 +43,7 @@ pub fn transfers_tell_the_run()
 
 /// A log is that of a stable run, or is refused for one thing at most, and never both; want of memory is no such thing.
 /// It does nothing: its contract is the claim.
+#[tactic(auto, using(crate::proofs::AuditExact::audit_is_exact))]
 pub fn audits_are_exact()
     ensures { (setup : Setup) (limits : List (Option ℕ)) (came : List Arrival) → IsAuditExact setup limits came }
 {}

@@ -46,6 +46,7 @@ impl<R: Rank> Model for Replay<R> {
 }
 
 // What arrives comes: it is judged, and what is admitted gets its keys and goes into the lists of its inputs.
+#[tactic(auto, using(crate::proofs::Slots::come_to_ports, crate::proofs::Slots::lengths))]
 fn come<R: Rank>(
     ranks: &mut Ranks<R>,
     queues: &mut Queues,
@@ -108,6 +109,7 @@ fn send<R: Rank>(
 }
 
 // No cell waits, and the lists and the buffers of so many ports have room for all cells that arrive by this schedule.
+#[tactic(auto, using(crate::proofs::Slots::lengths))]
 fn queues_for(alloc: Global, schedule: &Schedule, ports: u16) -> Result<Queues, NoMemory>
     requires few { ports ≤ most_ports }
     requires ports { ports ≤ schedule.now.ports }
@@ -125,6 +127,7 @@ impl<R: Rank> Replay<R> {
     /// A fabric with an input and an output for each rank. No cell waits, the lists and the buffers have room for all
     /// cells that arrive by this schedule, and output j has the limit `limits[j]`, or none. All memory that slots need
     /// is taken here. The error is want of memory.
+    #[tactic(auto, using(crate::proofs::Slots::lengths))]
     pub fn new(
         alloc: Global,
         ranks: Vec<R>,
@@ -194,6 +197,7 @@ impl<R: Rank> Replay<R> {
     /// All slots from this one on up to the other, in which no cell arrives and none waits, and of which there is no
     /// line. They take no longer than one slot: each machine is told once that its output was idle, however many slots
     /// there are, so that both are given for the clauses alone.
+    #[tactic(auto, using(crate::proofs::Slots::rest_steps))]
     pub fn rest(&mut self, _slot: Slot, _to: Slot)
         requires in_step { IsInStep (map R.machine self.old.fixed) _slot self.old }
         requires empty { IsEmptyFabric self.old.fabric.state }

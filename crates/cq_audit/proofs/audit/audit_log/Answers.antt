@@ -26,16 +26,6 @@ returns-in_err-lines-clause-no c =
     let at = goal.at.returns-in_err-lines-clause-no c in
     let many = counted at.After-len-ports ∙ ranked at.In_ok-ranks in search (arith, rules, err_from_is_err_and)
 
-pub new-requires-2-clause-machines : goal.new-requires-2-clause-machines
-new-requires-2-clause-machines c = search (arith, rules, c.in_ok-ranks.ensures.one_switch)
-
-pub new-requires-2-clause-limits : goal.new-requires-2-clause-limits
-new-requires-2-clause-limits c = cc (ranked (goal.at.new-requires-2-clause-limits c).In_ok-ranks)
-
-pub new-requires-2-clause-ports : goal.new-requires-2-clause-ports
-new-requires-2-clause-ports c =
-    let many = ranked (goal.at.new-requires-2-clause-ports c).In_ok-ranks in omega (arith, c.requires.ports)
-
 pub replay_run-requires : goal.replay_run-requires
 replay_run-requires c =
     let at = goal.at.replay_run-requires c in

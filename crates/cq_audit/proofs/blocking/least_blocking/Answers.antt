@@ -1,13 +1,7 @@
 use Rattle.cq_audit.proofs.Terms.{arith, rules, inl, inr}
-use Rattle.cq_audit.proofs.Ahead.{at_end, in_range, kept, stands, taken}
+use Rattle.cq_audit.proofs.Ahead.{at_end, kept, taken}
 use Rattle.cq_audit.proofs.blocking.least_blocking.Goals as goal
 use Rattle.cq_audit.proofs.blocking.least_blocking.Goals.{then-is_none_or+then-not-has_better_input, else-is_none_or, else-is_none_or-via-then-is_none_or+else-not-has_better_input, else-is_none_or-via-else-is_none_or}
-
-pub has_better_input-requires-clause-output : goal.has_better_input-requires-clause-output
-has_better_input-requires-clause-output c = search (arith, rules, in_range)
-
-pub has_better_input-requires-clause-offered : goal.has_better_input-requires-clause-offered
-has_better_input-requires-clause-offered c = search (arith, rules, stands)
 
 pub outputs-preserved : goal.outputs-preserved
 outputs-preserved c =

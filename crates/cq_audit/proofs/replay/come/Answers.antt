@@ -1,15 +1,9 @@
-use Rattle.cq_audit.proofs.Terms.{arith, rules, length-map}
-use Rattle.cq_audit.proofs.Slots.{apart, come_to_ports, fit, held_fits, no_fault}
+use Rattle.cq_audit.proofs.Terms.{arith, rules}
+use Rattle.cq_audit.proofs.Slots.{apart, fit, held_fits, no_fault}
 use Rattle.cq_audit.proofs.replay.come.Goals as goal
-
-pub judge-requires-clause-arrivals : goal.judge-requires-clause-arrivals
-judge-requires-clause-arrivals g c = search (arith, rules, come_to_ports)
 
 pub judge-requires-clause-held : goal.judge-requires-clause-held
 judge-requires-clause-held g c = search (arith, rules, held_fits)
-
-pub take-requires-clause-marks : goal.take-requires-clause-marks
-take-requires-clause-marks g c = search (arith, rules, length-map)
 
 pub unreachable-requires : goal.unreachable-requires
 unreachable-requires g c = no_fault g.R.Rank.machine c.args.ranks.now c.args.queues.now c.args.limiter.now c.requires
@@ -22,6 +16,3 @@ arrive-requires-clause-fit g c = fit g.R.Rank.machine c.args.ranks.now c.args.qu
 pub arrive-requires-clause-come : goal.arrive-requires-clause-come
 arrive-requires-clause-come g c = apart g.R.Rank.machine c.args.ranks.now c.args.queues.now c.args.limiter.now
     c.requires c.judge.new.self.marks _ _ c.in_default.ensures.came
-
-pub returns : goal.returns
-returns g c = search (arith, rules)

@@ -1,5 +1,5 @@
 use Rattle.cq_audit.proofs.Terms.{arith, rules, length-map, cells_of, take_all}
-use Rattle.cq_audit.proofs.TellingLines.{ToldBy, all_told, can_join, right_at, wrong_at}
+use Rattle.cq_audit.proofs.TellingLines.{ToldBy, all_told, right_at, wrong_at}
 use Rattle.cq_audit.proofs.told.told.Goals as goal
 use Rattle.cq_audit.proofs.told.told.Goals.{After-lines}
 
@@ -10,9 +10,6 @@ ended c = search (arith, rules, take_all)
 pub returns-then-not-is_right-clause-wrong : goal.returns-then-not-is_right-clause-wrong
 returns-then-not-is_right-clause-wrong c = wrong_at _ _ _ _ _ _ c.lines-test.true c.requires.lines c.requires.rise
     c.lines.invariant c.index-lists-line.is (search rules)
-
-pub join-requires : goal.join-requires
-join-requires c = search (arith, rules, can_join)
 
 pub lines-preserved : goal.lines-preserved
 lines-preserved c = rw c.join.ensures (right_at _ _ _ _ _ _ c.lines-test.true c.requires.lines c.requires.rise

@@ -4,9 +4,6 @@ use Rattle.cq_audit.proofs.replay.Replay.new.Given as given
 use Rattle.cq_audit.proofs.replay.Replay.new.Goals as goal
 use Rattle.cq_audit.proofs.replay.Replay.new.Goals.{After-of}
 
-pub queues_for-requires : goal.queues_for-requires
-queues_for-requires g c = search (arith, rules, length-map)
-
 -- there is a rank for each port
 many : (g : given.Over) (c : After-of g) → c.len-ports.result ≡ length c.args.ranks.items
 many g c = search (arith, rules)
