@@ -77,3 +77,5 @@ module _ (input from next : ℕ) (came : List Arrival) where
     one_comes cell found =
         let it = found_at came slot input cell found in
         search (arith, rules, has_kept, next_in from next slot it.arrival (filter (is_from input) came), line_rising)
+
+pub ruleset coming_steps = (none_comes, one_comes, found_there)

@@ -4,7 +4,7 @@
 -- which stand by their keys. What the items of a list come to with their places, item by item. The departures of the
 -- cells that were sent stand by slot, and are before the next one. The figures of the outputs change departure by
 -- departure, each those of its own output. And the slots of a run: departures that stand by slot end with the last.
-use Rattle.cq_resume.proofs.Terms.{IsBefore, pairs_kept_with, ◌&&◌, rules, ◌≡◌, ℕ, ◌+◌, ◌-◌, ◌<◌, ◌≤◌, eqb, leb, ltb, Bool, true, false, List, [], ◌∷◌, length, get_or, take, drop, refl, ap, ◌∙◌, length-drop, Bor, arith, ◌++◌, map, common_steps, filter, Called, ComputesKey, Mut, IsPartitionPoint, IsNonDecreasingBy, always_returns_same, append-nil, get_or-drop, get_or-take, length-take-le, take-append-drop, map-append, take_more, filter-append, eq-eqb, leb-false, leb-true, ltb-false, ltb-true, ne_eqb, cases_eq, eqb-true, AllPairs, range_with_len, enumerate_from, IsRising, Queued, IsBufferedBefore, ◌^◌, set, length-append, AllByRecursion, Departure, OutputFigures, output_told, IsSentBefore, IsTimely, departed, with_departure, Gone, recursion_from_All, filter_all, filter_none, cases_Bool, get_or-map-range_with_len, set_one, slots_of, all_weaker, of_images, few_kept, each_pair, all_pairs, EachPair, pairs_mapped, All-from_recursion}
+use Rattle.cq_resume.proofs.Terms.{IsBefore, pairs_kept_with, ◌&&◌, rules, ◌≡◌, ℕ, ◌+◌, ◌-◌, ◌<◌, ◌≤◌, eqb, leb, ltb, Bool, true, false, List, [], ◌∷◌, length, get_or, take, drop, refl, ap, ◌∙◌, length-drop, Bor, arith, ◌++◌, map, common_steps, filter, Called, ComputesKey, Mut, IsPartitionPoint, IsNonDecreasingBy, always_returns_same, append-nil, get_or-drop, get_or-take, length-take-le, take-append-drop, map-append, take_more, filter-append, eq-eqb, leb-false, leb-true, ltb-false, ltb-true, ne_eqb, cases_eq, eqb-true, AllPairs, range_with_len, enumerate_from, IsRising, Queued, IsBufferedBefore, ◌^◌, set, length-append, AllByRecursion, Departure, OutputFigures, output_told, IsSentBefore, IsTimely, departed, with_departure, Gone, recursion_from_All, filter_all, filter_none, cases_Bool, get_or-map-range_with_len, set_one, slots_of, all_weaker, of_images, few_kept, each_pair, all_pairs, EachPair, pairs_mapped, All-from_recursion, map-constant, take_all}
 use Rattle.std.proofs.lemmas.List.{take_rest}
 
 -- a test computes what each of its calls answers
@@ -122,3 +122,5 @@ module _ (sent : List Departure) (ports i : ℕ) (e : Departure) (now : List Out
         set now here.output x ≡ map (output_told (take (i + 1) sent)) (range_with_len 0 ports)
     departure_counted x counted =
         let is = rw there at counted in grind (arith, common_steps, read_on, All-from_recursion _ sent all i e inside)
+
+pub ruleset sent_steps = (fewer_sent, departure_counted, map-constant, take_all)

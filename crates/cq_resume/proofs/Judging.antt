@@ -5,7 +5,7 @@
 -- is counted among all buffered cells; and what is named is the same. Of any two names of one flow the one that
 -- arrived first leaves first. What a sound state comes to is said of found cells too. Where a step of judging fails it
 -- names the first clause that fails, since those before it are known; and a state is sound of which all are known.
-use Rattle.cq_resume.proofs.Terms.{common_steps, Option, arith, rules, ◌≡◌, ◌<◌, ◌↔◌, ◌⊎◌, eqb, Bool, true, false, List, [], ◌∷◌, length, map, refl, ◌∙◌, ℕ, ap, All, IsPermutation, filter, AllByRecursion, AllZip, list_any-IsPermutation, sum_by-IsPermutation, Arrival, Queued, IsTally, input_told, sent_told, AreFound, IsWholePacket, PacketsStand, TalliesUp, has_name, names_of, IsFound, AllNamed, AreWholePackets, NoneNamed, HasLimit, Switch, is_named, named_in, packet_before, buffer_told, fabric_told, Gone, Name, Tally, State, length-filter, departed, figures_at_input, Found, Seen, ◌++◌, get_or, ◌≤◌, AllPairs, cases_order, map-append, All-permutation, IsPermutation-sym, IsBefore, FlowsStand, IsGone, IsNameBefore, IsTold, InOneFlow, Leaves, LeavesEarlier, sent_name, waiting_name, IsFoundBefore, IsListedBefore, IsNoLaterInput, IsGoneBefore, IsTimely, StandsBelow, StandBelow, AreOrdered, AreArrivals, KeepArrivalOrder, OfOneFlow, AreBelowFloors, IsBelowFloor, StandInOrder, is_ahead, queued_in, output_of, Named, Sent, All-from_recursion, Option, recursion_from_All, machines_of, None, Some, inl, inr, ◌-◌, zero, suc, take, ◌+◌, filter_map, slice_get, cases_Bool, cases_eq, cases_lt, eq-eqb, eqb-true, get_or_past, map-id, get_or-map-range_with_len, length-map-range_with_len, is_for, cushion_of, input, SlackStands, cushion_in, thread_in, HaveSlack, list_told, queued_of, length-map, Scheduled, AreCellsFor, AreNamesFor, HaveRoom, IsCellFor, IsFirstOfTwo, AreFoundIn, IsForPorts, Clause, IsFirstOf, IsFirstUnsound, IsSound, switch_of, CanTakeUp, ports_of, Tables, machine_of, IsInRange, IsNamed, below_more, below_none, all_weaker, all_both, all_front, all_back, of_images, Setup, has_at, has_there, all_of_has, all_has, has_all, has_left, has_right, has_cases, has_image, image_has, pair_of_has, Has, each_pair, all_pairs, pairs_right, pairs_cross, EachPair, pairs_of_images, most_ports, StateRefusal}
+use Rattle.cq_resume.proofs.Terms.{common_steps, Option, arith, rules, ◌≡◌, ◌<◌, ◌↔◌, ◌⊎◌, eqb, Bool, true, false, List, [], ◌∷◌, length, map, refl, ◌∙◌, ℕ, ap, All, IsPermutation, filter, AllByRecursion, AllZip, list_any-IsPermutation, sum_by-IsPermutation, Arrival, Queued, IsTally, input_told, sent_told, AreFound, IsWholePacket, PacketsStand, TalliesUp, has_name, names_of, IsFound, AllNamed, AreWholePackets, NoneNamed, HasLimit, Switch, is_named, named_in, packet_before, buffer_told, fabric_told, Gone, Name, Tally, State, length-filter, departed, figures_at_input, Found, Seen, ◌++◌, get_or, ◌≤◌, AllPairs, cases_order, map-append, All-permutation, IsPermutation-sym, IsBefore, FlowsStand, IsGone, IsNameBefore, IsTold, InOneFlow, Leaves, LeavesEarlier, sent_name, waiting_name, IsFoundBefore, IsListedBefore, IsNoLaterInput, IsGoneBefore, IsTimely, StandsBelow, StandBelow, AreOrdered, AreArrivals, KeepArrivalOrder, OfOneFlow, AreBelowFloors, IsBelowFloor, StandInOrder, is_ahead, queued_in, output_of, Named, Sent, All-from_recursion, Option, recursion_from_All, machines_of, None, Some, inl, inr, ◌-◌, zero, suc, take, ◌+◌, filter_map, slice_get, cases_Bool, cases_eq, cases_lt, eq-eqb, eqb-true, get_or_past, map-id, get_or-map-range_with_len, length-map-range_with_len, is_for, cushion_of, input, SlackStands, cushion_in, thread_in, HaveSlack, list_told, queued_of, length-map, Scheduled, AreCellsFor, AreNamesFor, HaveRoom, IsCellFor, IsFirstOfTwo, AreFoundIn, IsForPorts, Clause, IsFirstOf, IsFirstUnsound, IsSound, switch_of, CanTakeUp, ports_of, Tables, machine_of, IsInRange, IsNamed, below_more, below_none, all_weaker, all_both, all_front, all_back, of_images, Setup, has_at, has_there, all_of_has, all_has, has_all, has_left, has_right, has_cases, has_image, image_has, pair_of_has, Has, each_pair, all_pairs, pairs_right, pairs_cross, EachPair, pairs_of_images, most_ports, StateRefusal, err_from_is_err_and}
 use Rattle.cq_resume.proofs.Zipped.{zip_by, same_mapped, IsOf, names_zip, sifted, told_facts, zip_both, zip_has, zip_mate, pairs_alike, all_alike, each_right, one_for, Differ}
 use Rattle.cq_resume.proofs.Cut.{filter_both}
 use Rattle.cq_resume.specs.Sound.{IsBufferedBefore, IsSentBefore}
@@ -422,3 +422,8 @@ module _ (t : Tables) (c : Scheduled) (s : State) (f : Found) (k : AreFoundIn t 
           let floors = floors_alike (switch_of t c) s f k.found t.setup refl in
           let all = two_more (switch_of t c) s 5 packets_known _ _ (flows_is stand.0) floors leave in
           search (arith, rules, all 2, all 3, all 4, all 5, all 6)
+
+-- what a found state is judged by
+pub ruleset judge_asks = (outputs_low, few_ports, names_for, ports_are, cells_for, err_from_is_err_and)
+
+pub ruleset judge_steps = (judge_asks, stand_refused, packets_refused, leave_refused, can_take_up, is_sound)

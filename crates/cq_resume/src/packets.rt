@@ -19,6 +19,7 @@ pub struct Tally {
 }
 
 // The cell that arrives at an input next, from this slot on and before the next one of the run, with its slot.
+#[tactic(auto, using(crate::proofs::Coming::coming_steps))]
 fn next_cell(schedule: &Schedule, input: Port, from: Slot, next: Slot) -> Option<(Slot, Cell)>
     requires input { input < schedule.now.ports }
     requires packets { ArePackets schedule.now.ports schedule.now.came }
@@ -44,6 +45,7 @@ fn may_come(first: bool, named: bool, limited: bool, mark: bool) -> bool
 }
 
 // A cell is counted where it is left out.
+#[tactic(auto, using(cq_ideal::proofs::Counting::none_counted))]
 fn count_left(refused: &mut [Refused], cell: Cell, left: bool)
     requires { CanCount 1 refused.old }
     ensures { refused.new ≡ with_refused (if left then cell ∷ [] else []) refused.old }
@@ -96,6 +98,7 @@ fn walk(
 
 /// What the arrivals before the next slot come to that are not named. None where a packet is named in part, or where
 /// one is not named whose output has no limit. The error is want of memory.
+#[tactic(auto, using(crate::proofs::Upheld::packet_fails))]
 pub fn tally_packets(
     alloc: Global,
     schedule: &Schedule,

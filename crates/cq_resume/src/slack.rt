@@ -29,6 +29,7 @@ pub fn buffer_at(buffered: &[Queued], output: Port) -> &[Queued]
 }
 
 // How many cells of its output's buffer are more urgent, where each buffer stands in order.
+#[tactic(auto, using(crate::proofs::Cut::filter_both))]
 fn cushion_of(buffered: &[Queued], queued: Queued) -> usize
     requires { BuffersStand buffered.now }
     ensures { result ≡ length (cushion_in buffered.now queued) }

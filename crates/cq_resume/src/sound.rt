@@ -73,6 +73,7 @@ fn judge_ranks(
 
 // What the cells come to that a state does not name, where those that it names were found. It is refused for the first
 // of the other clauses that does not hold.
+#[tactic(auto, using(crate::proofs::Judging::judge_steps))]
 fn judge_found(
     alloc: Global,
     state: &State,

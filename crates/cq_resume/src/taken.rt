@@ -152,6 +152,7 @@ fn nothing_sent(alloc: Global, ports: u16) -> Result<Vec<OutputFigures>, NoMemor
 }
 
 // What was seen of each output.
+#[tactic(auto, using(crate::proofs::Cut::sent_steps))]
 fn outputs_of(
     alloc: Global,
     sent: &[Departure],
@@ -169,6 +170,7 @@ fn outputs_of(
 }
 
 // How many slots there are up to the last one in which a cell departed, that one included; 0 where none did.
+#[tactic(auto, using(crate::proofs::Cut::slots_last, cq_base::proofs::Pooled::each_pair))]
 fn slots_of(sent: &[Departure]) -> Slot
     requires rising { AllPairs (λ d e. d.slot ≤ e.slot) sent.now }
     requires low { AllByRecursion (λ d. d.slot < 2 ^ 63) sent.now }

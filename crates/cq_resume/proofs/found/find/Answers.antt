@@ -13,9 +13,6 @@ zips : (c : In_ok-names) → AllZip (IsOf c.args.schedule.now.came c.args.state.
     (names_of c.deref.result.now c.deref-2.result.now c.deref-3.result.now)
 zips c = search (arith, rules, names_zip, zip_same)
 
-pub found_all-requires : goal.found_all-requires
-found_all-requires c = search (arith, rules, all_front, all_weaker)
-
 pub found_all-requires-2 : goal.found_all-requires-2
 found_all-requires-2 c = search (arith, rules, all_back, all_front, all_weaker)
 

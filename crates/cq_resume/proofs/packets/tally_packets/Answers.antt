@@ -1,6 +1,6 @@
 use Rattle.cq_resume.proofs.Terms.{rules, List, length, sym, ap, ◌∙◌, arith, Refused, length-map, with_items_is, with_cells, coming, unnamed}
 use Rattle.cq_resume.proofs.Adding.{Tallied, tallied_first, tallied_more, tally_fits}
-use Rattle.cq_resume.proofs.Upheld.{all_stand, packet_fails, tallies_up}
+use Rattle.cq_resume.proofs.Upheld.{all_stand, tallies_up}
 use Rattle.cq_resume.proofs.Walking.{cells_in}
 use Rattle.cq_resume.proofs.packets.tally_packets.Goals as goal
 use Rattle.cq_resume.proofs.packets.tally_packets.Goals.{After-of-2}
@@ -21,9 +21,6 @@ inputs-preserved c =
     rw (with_items_is c.inputs.refused c.walk.new.refused (omega (arith, c.inputs.refused.ok.0)))
     (tallied_more _ _ _ _ _ c.requires.packets _ _ _ c.inputs.invariant (omega arith) (omega arith) _ _ _
     (sym c.in-Some.is ∙ c.walk.ensures.mark) counted c.in_ok-push-in-Some.ensures.items)
-
-pub returns-in-None-clause-none : goal.returns-in-None-clause-none
-returns-in-None-clause-none c stand = search (arith, rules, packet_fails)
 
 -- all inputs are walked
 ended : (c : After-of-2) →

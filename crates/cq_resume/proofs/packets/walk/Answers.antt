@@ -1,4 +1,4 @@
-use Rattle.cq_resume.proofs.Terms.{fewer_left, rules, ◌<◌, ◌∙◌, refl, sym, arith, none_counted, Arrival, IsNameBefore, all_of_has}
+use Rattle.cq_resume.proofs.Terms.{rules, ◌<◌, ◌∙◌, refl, sym, arith, none_counted, Arrival, IsNameBefore, all_of_has}
 use Rattle.std.proofs.lemmas.List.Kept.{AllPairs-filter}
 use Rattle.cq_resume.proofs.Walking.{comes_from, walk_goes_on, walk_stops}
 use Rattle.cq_resume.proofs.packets.walk.Goals as goal
@@ -18,9 +18,6 @@ pub returns-then-not-may_come-clause-mark : goal.returns-then-not-may_come-claus
 returns-then-not-may_come-clause-mark c =
     let stops = walk_stops c.args.input c.arrivals.from c.args.next in
     search (arith, rules, stops, c.arrivals.invariant, c.in-Some.ensures.some)
-
-pub count_left-requires : goal.count_left-requires
-count_left-requires c = search (arith, rules, fewer_left, c.arrivals.invariant.few)
 
 pub arrivals-preserved : goal.arrivals-preserved
 arrivals-preserved c =

@@ -9,9 +9,3 @@ more {Y} f i y now new so_far is pushed = counted_more f i now new y so_far push
 
 pub ports-preserved : goal.ports-preserved
 ports-preserved c = search (arith, rules, more, listed_at, buffered_at)
-
-pub returns-clause-lists : goal.returns-clause-lists
-returns-clause-lists c = search (arith, rules, listed_at)
-
-pub returns-clause-buffers : goal.returns-clause-buffers
-returns-clause-buffers c = search (arith, rules, buffered_at)

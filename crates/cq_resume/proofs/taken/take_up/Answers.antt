@@ -5,9 +5,6 @@ use Rattle.cq_resume.proofs.Judging.{buffer_is, figures_are, list_is, mapped_ali
 use Rattle.cq_resume.proofs.Cut.{departed_low, departed_rising}
 use Rattle.cq_resume.proofs.taken.take_up.Goals as goal
 
-pub inputs_of-inputs-requires-clause-ordered : goal.inputs_of-inputs-requires-clause-ordered
-inputs_of-inputs-requires-clause-ordered c = rw c.deref.ensures.value c.requires.names
-
 pub places_of-placed-requires : goal.places_of-placed-requires
 places_of-placed-requires c = search (arith, rules, departed_rising, departed_low, of_images departed)
 
