@@ -16,3 +16,4 @@ pub mod Left
 pub mod Audits
 pub mod OnePlan
 pub mod AnyWorkers
+pub mod Steps

@@ -51,6 +51,7 @@ pub fn stream_from<R: Threads + Wait + Copy + Send + 'static, F: Files, W: Watch
 }
 
 // Reads the file of an input, and begins to decode it. Where it has no file there is nothing to decode.
+#[tactic(auto, using(crate::proofs::Reached::exit_is, crate::proofs::Chain::judges_then))]
 fn begin_port<R: Threads + Wait + Copy + Send + 'static, F: Files, W: Watch + 'static>(
     rt: R,
     alloc: Global,

@@ -67,6 +67,7 @@ fn put_counted(text: &mut Vec<u8>, name: &[u8], count: usize) -> Result<(), NoMe
 }
 
 /// What leaves the one output of a switch of one port, under this name.
+#[tactic(auto, using(crate::proofs::Crossed::some_left))]
 pub fn build_passed(
     alloc: Global,
     tables: &Tables,
@@ -85,6 +86,7 @@ pub fn build_passed(
 }
 
 /// What leaves each output of a switch, and the trace of its run.
+#[tactic(auto, unfolding(crate::specs::Plan::switched))]
 pub fn build_switched(
     alloc: Global,
     tables: &Tables,
@@ -168,6 +170,7 @@ pub fn build_report(alloc: Global, figures: &Figures, refused: &[Refused]) -> Re
 
 // The captures of what leaves each output, each under its name, and the trace behind them. The trace is told first,
 // since the captures use up the departures.
+#[tactic(auto, using(crate::proofs::Crossed::packed_under))]
 fn build_traced(
     alloc: Global,
     tables: &Tables,

@@ -97,6 +97,7 @@ fn pass_over<R: Threads + Sync, F: Files, G: Gate>(
 }
 
 // What the crossbar switch of one port makes of this capture, with all its bytes.
+#[tactic(auto, using(crate::proofs::Reached::exit_is))]
 fn pass_on<R: Threads + Sync, G: Gate>(
     rt: &R,
     alloc: Global,
@@ -233,6 +234,7 @@ fn judge_captures<R: Threads + Sync, F: Files, G: Gate>(
 
 // What the ideal switch makes of these captures, one for each port, with all its bytes. The captures are given up on
 // the way.
+#[tactic(auto, using(crate::proofs::Crossed::switched_whole, crate::proofs::Reached::exit_is))]
 fn send_ideally<R: Threads + Sync>(
     rt: &R,
     alloc: Global,
@@ -295,6 +297,7 @@ where
 
 // What the crossbar switch makes of these captures, one for each port, with all its bytes. The captures are given up
 // on the way.
+#[tactic(auto, using(crate::proofs::Steps::crossed_steps), unfolding(crate::specs::Plan::crossed))]
 fn cross<R: Threads + Sync, G: Gate>(
     rt: &R,
     alloc: Global,
@@ -333,6 +336,7 @@ fn soak<R: Threads + Sync, G: Gate>(
 }
 
 // The report of what the crossbar switch makes of this traffic.
+#[tactic(auto, unfolding(crate::specs::Plan::reported))]
 fn report_on<R: Threads + Sync, G: Gate>(
     rt: &R,
     alloc: Global,
@@ -420,6 +424,7 @@ fn part<R: Threads + Sync, G: Gate>(
 
 // What the crossbar switch makes of these captures, one for each port, where it goes on from the state of this text.
 // The captures are given up on the way, and the text once it is read.
+#[tactic(auto, using(crate::proofs::Reached::exit_is), unfolding(crate::specs::Plan::resumed))]
 fn go_on<R: Threads + Sync, G: Gate>(
     rt: &R,
     alloc: Global,

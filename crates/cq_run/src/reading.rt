@@ -18,6 +18,7 @@ const LONGEST_CONFIGURATION: u64 = cq_base::LONGEST_CONFIGURATION as u64;
 const LONGEST_TEXT: u64 = cq_state::LONGEST_TEXT as u64;
 
 /// The tables of the configuration of this name.
+#[tactic(auto, using(crate::proofs::TextRead::configuration_long))]
 pub fn read_configuration<F: Files>(
     alloc: Global,
     files: &mut F,
@@ -145,6 +146,7 @@ pub fn read_file<F: Files>(
 
 /// The capture of an input, from the file of this name, if that has at most `limit` bytes: what any reader that goes
 /// by the grammar makes of it.
+#[tactic(auto, using(crate::proofs::Reached::exit_is, crate::proofs::Chain::judges_then))]
 pub fn read_input<F: Files>(
     alloc: Global,
     files: &mut F,

@@ -304,6 +304,7 @@ fn put_line<S: Sink>(sink: &mut S, pieces: &[Piece]) -> Result<(), WriteFault>
     put_all(sink, b"\n")
 }
 
+#[tactic(auto, using(crate::proofs::Put::puts_all, std::proofs::lemmas::List::take_at))]
 fn put_piece<S: Sink>(sink: &mut S, piece: Piece) -> Result<(), WriteFault>
     ensures { Says S.taken S.faults (piece_text piece.entry) sink.old sink.new result }
 {

@@ -87,6 +87,7 @@ pub fn switch_ideally<R: Threads + Sync>(
 
 /// What the crossbar switch does with these captures, one for each port. It sends what the ideal switch
 /// sends, whoever proposes first.
+#[tactic(auto, using(crate::proofs::Crossed::is_crossed))]
 pub fn switch_by_crossbar<R: Threads + Sync, G: Gate>(
     rt: &R,
     alloc: Global,
@@ -110,6 +111,7 @@ pub fn switch_by_crossbar<R: Threads + Sync, G: Gate>(
 
 /// Checks a log and a trace of any maker of what a switch does with these captures, one for each port. Ok comes where
 /// the log is that of a stable run, and the trace is what the ideal switch sends.
+#[tactic(auto, using(crate::proofs::Reached::exit_is))]
 pub fn audit_texts<R: Threads + Sync>(
     rt: &R,
     alloc: Global,
@@ -158,6 +160,7 @@ fn audit_over(
 }
 
 // The trace of what the ideal switch sends. The departures are given up: as text they have a quarter of their bytes.
+#[tactic(auto, using(crate::proofs::Reached::exit_is))]
 fn ideal_text(alloc: Global, tables: &Tables, schedule: &Schedule) -> Result<Vec<u8>, Halt>
     requires { IsScheduleFor tables.now schedule.now }
     ensures text { IfOk result (λ text. (sent : List Departure)

@@ -1,4 +1,4 @@
-use Rattle.cq_run.proofs.Terms.{rules, ◌≡◌, [], arith, nil_from_length, common_steps}
+use Rattle.cq_run.proofs.Terms.{rules, ◌≡◌, [], arith, nil_from_length}
 use Rattle.cq_run.proofs.Ports.{file_ends, none_arrive, together}
 use Rattle.cq_run.proofs.Reached.{exit_is}
 use Rattle.cq_run.proofs.ahead.+stream_from.Goals as goal
@@ -10,21 +10,7 @@ returns-in-None-clause-judges g t c = λ r.
     let none : c.args.rows.now ≡ [] = nil_from_length c.args.rows.now c.in-None.ensures.cases in
     rw (none, c.of.ensures, c.new.ensures.items) (none_arrive r _ _ _ _ c.requires.closed)
 
--- ## No writing was begun
-
-pub returns-in-None-clause-kept : goal.returns-in-None-clause-kept
-returns-in-None-clause-kept g t c = g.met.F.Files.lasts_unbegun.none _
-
-pub returns-in_ok-begun-in-Some-clause-kept : goal.returns-in_ok-begun-in-Some-clause-kept
-returns-in_ok-begun-in-Some-clause-kept g t c = search (arith, rules, g.met.F.Files.lasts_unbegun.both)
-
 -- ## What the readers and the rows before come to
-
-pub finish_port-requires-clause-begun : goal.finish_port-requires-clause-begun
-finish_port-requires-clause-begun g t c = search (arith, rules)
-
-pub finish_port-requires-clause-small : goal.finish_port-requires-clause-small
-finish_port-requires-clause-small g t c = search (arith, rules)
 
 pub returns-in_err-begun-in-Some-clause-judges : goal.returns-in_err-begun-in-Some-clause-judges
 returns-in_err-begun-in-Some-clause-judges g t c =
@@ -36,6 +22,3 @@ returns-in_ok-begun-in-Some-clause-judges g t c = λ r.
     (together _ c.in_ok-begun-in-Some.ensures.begun c.begin_port.ensures.closed c.begin_port.ensures.told
     c.begin_port.ensures.kept g.met.F.Files.lasts_unbegun r _ _ _ _ _ _ c.finish_port.ensures.spelt
     c.finish_port.ensures.halts (c.stream_from-later.ensures.judges r) c.in_front.ensures)
-
-pub returns-in_ok-begun-in-Some-clause-each : goal.returns-in_ok-begun-in-Some-clause-each
-returns-in_ok-begun-in-Some-clause-each g t c = grind (arith, common_steps)

@@ -1,9 +1,6 @@
-use Rattle.cq_run.proofs.Terms.{arith, rules}
-use Rattle.cq_run.proofs.Crossed.{file_is, some_left}
+use Rattle.cq_run.proofs.Terms.{arith}
+use Rattle.cq_run.proofs.Crossed.{file_is}
 use Rattle.cq_run.proofs.build.build_passed.Goals as goal
-
-pub unreachable-requires : goal.unreachable-requires
-unreachable-requires c = search (arith, rules, some_left)
 
 pub returns : goal.returns
 returns c =

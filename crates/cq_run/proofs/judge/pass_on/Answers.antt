@@ -1,19 +1,12 @@
 use Rattle.cq_run.proofs.Terms.{arith, rules, ap, sym, ◌∙◌, ◌≡◌, ◌∷◌, [], length, List, Captured}
 use Rattle.cq_run.proofs.Crossed.{switched_whole}
-use Rattle.cq_run.proofs.Reached.{exit_is}
 use Rattle.cq_run.proofs.judge.pass_on.Goals as goal
-
-pub switch_by_crossbar-requires-clause-captures : goal.switch_by_crossbar-requires-clause-captures
-switch_by_crossbar-requires-clause-captures g c κs within = search (arith, rules)
 
 pub build_passed-requires : goal.build_passed-requires
 build_passed-requires g c =
     let one = ap (λ (cs : List (List Captured)). length cs) c.in_ok-captures.ensures ∙ sym c.requires.port in
     rw c.into_switched.ensures (switched_whole c.requires.tables one
     (rw c.as_slice.ensures at c.in_ok-crossed.ensures.crossed.switched))
-
-pub returns-in_err-crossed-clause-refused : goal.returns-in_err-crossed-clause-refused
-returns-in_err-crossed-clause-refused g c = search (arith, rules, exit_is)
 
 pub returns-clause-passing : goal.returns-clause-passing
 returns-clause-passing g c =

@@ -1,12 +1,8 @@
-use Rattle.cq_run.proofs.Terms.{arith, rules, ap, Err, ⊎_elim}
-use Rattle.cq_run.proofs.TextRead.{configuration_is_to_read, configuration_long}
+use Rattle.cq_run.proofs.Terms.{arith, rules, ap, Err}
+use Rattle.cq_run.proofs.TextRead.{configuration_is_to_read}
 use Rattle.cq_run.proofs.reading.read_configuration.Goals as goal
 
 pub returns-in-Err-Fault-clause-judges : goal.returns-in-Err-Fault-clause-judges
 returns-in-Err-Fault-clause-judges g c =
     let why = rw c.text.ensures at (c.in-Err-Fault.ensures.why (ap Err c.in-Err-Fault.field-0-is)) in
     search (arith, rules, g.F.Files.space, c.in-Err-Fault.ensures.whole.fault, why, configuration_is_to_read)
-
-pub returns-in-Err-Long-clause-judges : goal.returns-in-Err-Long-clause-judges
-returns-in-Err-Long-clause-judges g c =
-    search (arith, rules, c.in-Err-Long.ensures.whole.long, configuration_long, g.F.Files.space, ⊎_elim)

@@ -1,11 +1,6 @@
 use Rattle.cq_run.proofs.Terms.{arith, rules}
-use Rattle.cq_run.proofs.Chain.{judges_then}
 use Rattle.cq_run.proofs.TextRead.{capture_halts, capture_is}
-use Rattle.cq_run.proofs.Reached.{exit_is}
 use Rattle.cq_run.proofs.reading.read_input.Goals as goal
-
-pub returns-in_err-bytes-clause-judges : goal.returns-in_err-bytes-clause-judges
-returns-in_err-bytes-clause-judges g c = λ r. search (arith, rules, exit_is, judges_then)
 
 pub returns-in-Ok-clause-judges : goal.returns-in-Ok-clause-judges
 returns-in-Ok-clause-judges g c = λ r.

@@ -1,0 +1,8 @@
+-- What the prover is given beside its own rules where functions are proved without an answer.
+use Rattle.cq_run.proofs.Terms.{left_in_packets}
+use Rattle.cq_run.proofs.Stopped.{part_long, same_state}
+use Rattle.cq_run.proofs.Reached.{exit_is}
+
+pub ruleset crossed_steps = (exit_is, left_in_packets)
+
+pub ruleset parted_steps = (exit_is, part_long, same_state)
