@@ -51,7 +51,7 @@ pub use Rattle.cq_run.specs.Passing.{all_leave, as_it_leaves, capture_of_all}
 pub use Rattle.cq_run.specs.Pieces.{joined, piece_text}
 pub use Rattle.cq_run.specs.Planning.{Decides, IsDenial, IsWithinRange, known_by, known_to}
 pub use Rattle.cq_run.specs.Plan.{audited, capture_out, checked, passed, file_alone}
-unfoldable pub use Rattle.cq_run.specs.Plan.{captures_out, crossed, reported, resumed, switched}
+unfoldable pub use Rattle.cq_run.specs.Plan.{captures_out, crossed, resumed, switched}
 pub use Rattle.cq_run.specs.Refusals.{meaning_of}
 pub use Rattle.cq_run.specs.Switching.{IsCrossed, IsCrossing, IsIdeal, IsPassing, IsSwitched, halt_for, under_names}
 pub use Rattle.cq_run.specs.Verdict.{MayRead, MayWrite, capture_in, captures_in, file_in, found_or_missing, ideally_sent, judged, judged_or_words, named, packets_at, read_or_refused_for, sent_or_tag, short_in, short_or, state_in, tables_in, text_in, ◌>>=◌}
