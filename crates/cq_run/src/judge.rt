@@ -59,6 +59,7 @@ pub fn judge<R: Threads + Sync, F: Files, G: Gate>(
     }
 }
 
+#[tactic(auto, using(crate::proofs::Steps::capture_steps))]
 fn pass<R: Threads + Sync, F: Files, G: Gate>(
     rt: &R,
     alloc: Global,
@@ -157,6 +158,7 @@ enum Asked {
 }
 
 // What a command comes to that asks this of a configuration.
+#[tactic(auto, using(crate::proofs::Steps::tables_steps))]
 fn judge_configured<R: Threads + Sync, F: Files, G: Gate>(
     rt: &R,
     alloc: Global,
@@ -252,6 +254,7 @@ fn send_ideally<R: Threads + Sync>(
 
 /// What `run` comes to for a configuration, or its first refusal, where captures are decoded by readers ahead of
 /// judging. The watch is told of each that begins, and changes no answer.
+#[tactic(auto, using(crate::proofs::Steps::tables_steps))]
 pub fn run_ahead<R, F: Files, G: Gate, W: Watch + 'static>(
     rt: R,
     alloc: Global,
