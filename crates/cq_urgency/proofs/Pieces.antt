@@ -1,6 +1,6 @@
 -- Pieces of an array. The piece of n items from h on is take n (drop h xs). A part of the array that is written anew
 -- leaves what stands ahead of it and behind it.
-use Rattle.cq_urgency.proofs.Terms.{common_steps, rules, ◌≡◌, ℕ, ◌+◌, ◌-◌, ◌<◌, ◌≤◌, List, ◌∷◌, ◌++◌, length, set, take, drop, append_assoc, length-append, length-take, length-drop, arith, insert, take-take, take_at, drop-drop, drop-append-le, drop_more, drop_all, drop-take}
+use Rattle.cq_urgency.proofs.Terms.{common_steps, rules, ◌≡◌, ℕ, ◌+◌, ◌-◌, ◌<◌, ◌≤◌, List, ◌∷◌, ◌++◌, length, set, take, drop, append_assoc, length-append, length-take, length-drop, arith, insert, take-take, take_at, drop-drop, drop-append-le, drop_more, drop_all, drop-take, take-paste, take_all}
 
 pub length_piece : {X : Type 0} (xs : List X) (h n : ℕ) → h + n ≤ length xs → length (take n (drop h xs)) ≡ n
 length_piece xs h n inside = let few = length-take n (drop h xs) in let left = length-drop h xs in omega arith
@@ -30,3 +30,5 @@ put_on xs ys rest y h n p m sum inside is =
 pub put_on_front : {X : Type 0} (xs ys rest : List X) (y : X) (n p m : ℕ) → p + m ≡ n → n ≤ length xs →
     ys ≡ y ∷ take m (drop p xs) → take (n + 1) (take p xs ++ (ys ++ rest)) ≡ insert (take n xs) p y
 put_on_front xs ys rest y n p m sum inside = grind (arith, common_steps, put_on xs ys rest y 0 n p m sum)
+
+pub ruleset piece_steps = (length_piece, take-take, take-paste, length-drop, take_all, put_on, put_on_front)

@@ -36,6 +36,7 @@ impl Model for Block {
 }
 
 // A cell comes first and the others move one place on, over the last one.
+#[tactic(auto, using(crate::proofs::Pieces::turned_on))]
 fn push_on(cells: &mut [Queued], queued: Queued)
     requires { 0 < length cells.old }
     ensures { cells.new ≡ queued ∷ take (length cells.old - 1) cells.old }
@@ -45,6 +46,7 @@ fn push_on(cells: &mut [Queued], queued: Queued)
 }
 
 // The cells from a place on move to the front of the array.
+#[tactic(auto, using(crate::proofs::Pieces::piece_steps))]
 fn move_front(cells: &mut [Queued; MOST_CELLS], head: usize)
     requires inside { head ≤ most_cells }
     requires each { length cells.old ≡ most_cells }
@@ -57,6 +59,7 @@ fn move_front(cells: &mut [Queued; MOST_CELLS], head: usize)
 // A cell goes into the piece of so many cells from the head on, and the answer is where the piece begins now. The
 // cells behind it move. Where the array ends behind the piece, all of it moves to the front first, once for all cells
 // that find room behind it then.
+#[tactic(auto, using(crate::proofs::Pieces::piece_steps))]
 fn put_inside(
     cells: &mut [Queued; MOST_CELLS],
     head: usize,
@@ -142,6 +145,7 @@ impl Block {
     }
 
     /// Takes the first cell out. No cell moves.
+    #[tactic(auto, using(crate::proofs::Pieces::length_piece, crate::proofs::Pieces::popped))]
     pub fn pop(&mut self) -> Queued
         requires { 0 < length self.old }
         ensures first { slice_get self.old 0 ≡ Some result }

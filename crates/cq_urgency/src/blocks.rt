@@ -74,6 +74,7 @@ fn put_block(pool: &mut Vec<Block>, free: &mut Vec<usize>, queued: Queued) -> us
 }
 
 // The upper half of a full block goes over to a block that has its first cell already.
+#[tactic(auto, using(crate::proofs::Placed::move_steps))]
 fn move_upper(pool: &mut Vec<Block>, from: usize, to: usize)
     requires from { from < length pool.old.items }
     requires to { to < length pool.old.items }
@@ -225,6 +226,7 @@ impl Blocks {
     }
 
     /// The cells, of which there are so many, block after block. The error is want of memory.
+    #[tactic(auto, using(crate::proofs::Flattened::one_more))]
     pub fn cells(&self, alloc: Global, len: usize) -> Result<Vec<Queued>, NoMemory>
         ensures { IfOk result (λ cells. cells.items ≡ flattened self.now.blocks) }
     {

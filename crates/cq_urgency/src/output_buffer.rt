@@ -68,6 +68,7 @@ fn begun(blocks: &Blocks, key: Key) -> usize
 }
 
 // Behind all cells, where the last one has a lesser key.
+#[tactic(auto, using(crate::proofs::Spots::spot_end, crate::proofs::Spots::some_at))]
 fn spot_at_end(blocks: &Blocks, key: Key) -> Option<Spot>
     requires rising { IsRising (flattened blocks.now.blocks) }
     requires filled { AreFilled blocks.now.blocks }
@@ -89,6 +90,7 @@ fn spot_at_end(blocks: &Blocks, key: Key) -> Option<Spot>
 }
 
 // Where the cells of lesser key end: in the last block that begins with one, or ahead of all.
+#[tactic(auto, using(crate::proofs::Spots::spot_first, crate::proofs::Spots::rising_block))]
 fn spot_of(blocks: &Blocks, key: Key) -> Spot
     requires rising { IsRising (flattened blocks.now.blocks) }
     requires filled { AreFilled blocks.now.blocks }
@@ -113,7 +115,7 @@ fn spot_of(blocks: &Blocks, key: Key) -> Spot
 }
 
 // How many of so many cells have a lesser key.
-#[tactic(auto, using(crate::proofs::Flattened::some_blocks))]
+#[tactic(auto, using(crate::proofs::Flattened::few_steps))]
 fn cushion_in(blocks: &Blocks, key: Key, len: u64) -> u64
     requires rising { IsRising (flattened blocks.now.blocks) }
     requires filled { AreFilled blocks.now.blocks }
@@ -205,6 +207,7 @@ impl OutputBuffer {
 
     /// A cell comes in. It goes before the first cell with a greater key, or to the end, and the other cells keep
     /// their order. It takes room for one cell and no memory.
+    #[tactic(auto, using(cq_base::proofs::Putting::length_put, cq_base::proofs::Putting::rising_put))]
     pub fn put(&mut self, queued: Queued)
         requires spare { 0 < self.old.spare }
         requires other_key { HasOtherKey queued self.old.cells }

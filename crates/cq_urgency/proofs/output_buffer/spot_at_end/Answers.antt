@@ -1,5 +1,5 @@
 use Rattle.cq_urgency.proofs.Terms.{rules, ◌<◌, arith}
-use Rattle.cq_urgency.proofs.Spots.{some_at, spot_end}
+use Rattle.cq_urgency.proofs.Spots.{some_at}
 use Rattle.cq_urgency.proofs.output_buffer.spot_at_end.Goals as goal
 use Rattle.cq_urgency.proofs.output_buffer.spot_at_end.Goals.{After-len-within}
 
@@ -12,6 +12,3 @@ overflow_sub-place c = some (goal.at.overflow_sub-place c).After-len-within
 
 pub at-requires : goal.at-requires
 at-requires c = search (arith, rules, some)
-
-pub returns-then-precedes : goal.returns-then-precedes
-returns-then-precedes c = search (arith, rules, spot_end, some_at)
