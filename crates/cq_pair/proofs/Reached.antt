@@ -3,7 +3,7 @@
 -- inputs.
 use Rattle.cq_pair.proofs.Terms.{rules, ℕ, ◌≡◌, ◌+◌, ◌*◌, ◌<◌, ◌≤◌, List, [], ◌∷◌, Option, None, length, get_or, replicate, ◌∙◌, ap, arith, common_steps, range_with_len, length-replicate, filter_passes, Orders, AreOffers, ports, IsOffered, IsInputBest, proposals, start, IsFree, IsQuiescent, IsSound, is_free, free_inputs, next_output, propose, matching_of, input_in_range, output_in_range, inputs_at_most, sound-start, sound-after, held-start, next_output-offered, nobody, free_if, free_only_if, matching-of, matching_of-is, events_at_most, events-quiet, Progress, IsReached, ShowsWaiting, has_number, has_kept}
 use Rattle.cq_prefs.proofs.Quiet.{input_best-quiet}
-use Rattle.cq_pair.proofs.Waiting.{waiting-free}
+use Rattle.cq_pair.proofs.Waiting.{waiting-free, waiting-first}
 
 pub asked_offered : (o : Orders) → AreOffers o → (c : Progress) → (i : ℕ) → IsFree o c.state i →
     IsOffered o i (next_output o c.state i)
@@ -78,3 +78,7 @@ reached-step o v c d i r f state matching waiting made =
 
 pub size_reached : (o : Orders) (c : Progress) → AreOffers o → IsReached o c → length c.matching ≡ ports o
 size_reached o c v r = ap length r.matching ∙ (matching-of o v c.state).size
+
+pub ruleset asked_steps = (inputs_at_most, asked_offered, asked_known, free_known, places_known, sound-reached)
+
+pub ruleset begin_steps = (start-shown, reached-begin, waiting-first)

@@ -71,6 +71,7 @@ fn position_ahead(order: &[Port], input: Port, held: u16) -> Option<u16>
 }
 
 // No pair is left, over so many ports. Pairs of as many ports are parted where they stand.
+#[tactic(auto, using(std::proofs::lemmas::List::take_all))]
 fn part_all(matching: &mut Matching, ports: u16)
     requires { ports ≤ most_ports }
     ensures { matching.new ≡ replicate ports None }
@@ -111,6 +112,7 @@ impl Core {
 
     /// Begins anew for these offers, in place of whatever stands here: no output holds an input, and no proposal was
     /// made.
+    #[tactic(auto, using(crate::proofs::Reached::begin_steps))]
     pub fn begin_again(&mut self, offers: &Offers)
         ensures reached { IsReached offers.now self.new }
         ensures state { self.new.state ≡ start offers.now }
@@ -196,6 +198,7 @@ impl Core {
     }
 
     // What a free input asks, and how it stands there.
+    #[tactic(auto, using(crate::proofs::Reached::asked_steps))]
     fn asked_by(&self, offers: &Offers, input: Port) -> Asked
         requires reached { IsReached offers.now self.now }
         requires free { IsFree offers.now self.now.state input }
@@ -251,6 +254,7 @@ impl Core {
     }
 
     // An output takes an input that has this position there.
+    #[tactic(auto, using(crate::proofs::Waiting::takes_still))]
     fn take(&mut self, offers: &Offers, input: Port, output: Port, position: u16)
         requires { CanTake offers.now self.old input output }
         ensures { Takes offers.now self.old self.new input output position }
