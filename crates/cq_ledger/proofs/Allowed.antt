@@ -187,3 +187,5 @@ pub all_claimed : (l : LedgerState) (s : SeatState) (table : TableId) (offers : 
     → AreMatched l s table offers mine view → HasClaimedAll s →
     (i : ℕ) → i < ports offers → HasClaimed view i
 all_claimed l s table offers mine view m all i h = grind (arith, common_steps)
+
+pub ruleset allowed = (matched, join-allowed, split-allowed)

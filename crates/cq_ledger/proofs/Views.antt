@@ -1,6 +1,6 @@
 -- Lists of views, and the bits of numbers.
 -- A view in another one's place, and the rule where the words stay and the views alone change.
-use Rattle.cq_ledger.proofs.Terms.{ℕ, zero, suc, ◌≡◌, ◌≢◌, ◌⊎◌, ◌<◌, ◌≤◌, ◌^◌, ◌%◌, List, [], ◌∷◌, length, get_or, sym, ◌∙◌, ap, arith, bit_or, some, some-injective, some-ne-none, get_elem?, pow_mono, div-eq_of_lt, cases_eq, bit_at_or, bit_at-pow_same, bit_at-pow_other, bit_at-zero, bit_at-lt, same_from_bits, bit, common_steps, rules, ⊎_elim, ◌+◌, set, Some, None, IsFree, next_place, sum_by, sum_by-set, at_set, set_here, set_else, Orders, State, state_after, View, AreClaims, AreHands, IsLedger, IsViewOf, Sits, HasClaimed, HasSeen, IsClaimed, IsClaimedByOne, IsInAHand, Waits, claim_word}
+use Rattle.cq_ledger.proofs.Terms.{ℕ, zero, suc, ◌≡◌, ◌≢◌, ◌⊎◌, ◌<◌, ◌≤◌, ◌^◌, ◌%◌, List, [], ◌∷◌, length, get_or, sym, ◌∙◌, ap, arith, bit_or, some, some-injective, some-ne-none, get_elem?, pow_mono, div-eq_of_lt, cases_eq, bit_at_or, bit_at-pow_same, bit_at-pow_other, bit_at-zero, bit_at-lt, same_from_bits, bit, common_steps, rules, ⊎_elim, ◌+◌, set, Some, None, IsFree, next_place, sum_by, sum_by-set, at_set, set_here, set_else, Orders, State, state_after, View, AreClaims, AreHands, IsLedger, IsViewOf, Sits, HasClaimed, HasSeen, IsClaimed, IsClaimedByOne, IsInAHand, Waits, claim_word, shr_and_one, eqb-true, eq-eqb, ltb-true}
 
 -- a view that stands at a place of the list
 pub at_known : {A : Type 0} → (xs : List A) (i : ℕ) (a d : A) → get_elem? xs i ≡ some a →
@@ -154,3 +154,5 @@ unfoldable pub dealt : (o : Orders) (words : List ℕ) (views now : List View) (
     sum_by (λ (y : View). y.made) now ≡ sum_by (λ (y : View). y.made) views →
     ((a : ℕ) (v : View) → Sits now a v → v.claims ≡ 0 → (v.hand ≡ None) × (v.made ≡ 0)) → IsLedger o words now
 dealt o words views now k same claims hands made idle = search (rules)
+
+pub ruleset bit_tests = (shr_and_one, eqb-true, eq-eqb, ltb-true, bit-past)

@@ -33,6 +33,7 @@ pub(crate) fn bit_of(input: Port) -> u64
 }
 
 /// Whether the number has the bit of an input.
+#[tactic(auto, using(crate::proofs::Views::bit_tests), unfolding(crate::specs::Views::bit))]
 pub(crate) fn has_bit(word: u64, input: Port) -> bool
     ensures { IsTrue result ↔ (bit word input ≡ 1) }
 {

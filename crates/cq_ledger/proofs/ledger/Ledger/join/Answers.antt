@@ -1,9 +1,6 @@
-use Rattle.cq_ledger.proofs.Terms.{rules, ◌∙◌, ap, arith, Seated}
-use Rattle.cq_ledger.proofs.Allowed.{join-allowed, look-allowed, matched}
+use Rattle.cq_ledger.proofs.Terms.{◌∙◌, ap, arith, Seated}
+use Rattle.cq_ledger.proofs.Allowed.{look-allowed, matched}
 use Rattle.cq_ledger.proofs.ledger.Ledger.join.Goals as goal
-
-pub join_seat-requires : goal.join_seat-requires
-join_seat-requires c = search (arith, rules, matched, join-allowed)
 
 pub load-requires : goal.load-requires
 load-requires c =
