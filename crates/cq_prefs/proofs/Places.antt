@@ -61,3 +61,5 @@ place_in_is xs y i short before here =
 pub no_offers_are : (n : ℕ) → AreOffers (no_offers n)
 unfolding IsDistinct
 no_offers_are n = search (arith, rules, get_or-replicate, get_or_past, length-replicate, cases_lt)
+
+pub ruleset places_of = (length-replicate, no_offers_are, place_of-at)

@@ -59,6 +59,7 @@ fn no_orders(alloc: Global, ports: u16) -> Result<Vec<Preference>, NoMemory>
 
 impl Offers {
     /// Nothing is offered, over so many inputs and as many outputs. The error is want of memory.
+    #[tactic(auto, using(crate::proofs::Places::places_of))]
     pub fn new(alloc: Global, ports: u16) -> Result<Offers, NoMemory>
         requires { ports ≤ most_ports }
         ensures { IfOk result (λ offers. offers ≡ no_offers ports) }
@@ -84,6 +85,7 @@ impl Offers {
     /// in the order of its first cells for them, an output prefers the inputs by the keys of these cells.
     ///
     /// It takes no memory.
+    #[tactic(auto, using(crate::proofs::Renewing::made_more))]
     pub fn fill(&mut self, lists: &[InputList])
         requires lists { length lists.now ≡ ports self.old }
         requires outputs { All (λ list. list.outputs ≡ ports self.old) lists.now }
@@ -155,6 +157,7 @@ impl Offers {
     }
 
     /// How many inputs have an offer.
+    #[tactic(auto, using(crate::proofs::Offering::offers_steps))]
     pub fn offering(&self) -> u16
         ensures count { result ≡ length (inputs_with_offers self.now (ports self.now)) }
         ensures few { result ≤ ports self.now }
@@ -201,6 +204,7 @@ impl Offers {
     }
 
     /// What an input asks by the proposal to the output at a place of its order.
+    #[tactic(auto, using(crate::proofs::Places::places_of))]
     pub fn asked(&self, input: Port, place: u16) -> Ask
         requires { place < length (outputs_of self.now input) }
         ensures input { input < ports self.now }

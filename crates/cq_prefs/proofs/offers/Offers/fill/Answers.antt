@@ -1,5 +1,5 @@
 use Rattle.cq_prefs.proofs.Terms.{arith, rules, ◌≡◌, length-map, cells_of, orders_of, Orders}
-use Rattle.cq_prefs.proofs.Renewing.{made_more, orders_made, in_range_of}
+use Rattle.cq_prefs.proofs.Renewing.{orders_made, in_range_of}
 use Rattle.cq_prefs.proofs.InputOrder.{are_offers, are_orders}
 use Rattle.cq_prefs.proofs.offers.Offers.fill.Goals as goal
 use Rattle.cq_prefs.proofs.offers.Offers.fill.Goals.{After-loop-output}
@@ -19,6 +19,3 @@ invariant_of-self c =
 
 pub returns : goal.returns
 returns c = search (arith, rules, made, are_orders)
-
-pub loop-output-preserved : goal.loop-output-preserved
-loop-output-preserved c = search (arith, rules, made_more)
