@@ -15,3 +15,5 @@ pub refused_map : {A : Type 0} (result : Result A PcapRefusal) (P Q : PcapRefusa
     → ((fault : PcapRefusal) → P fault → Q fault) → IfErr result (λ refusal. IfSome (fault_of refusal) P)
     → IfErr result (λ refusal. IfSome (fault_of refusal) Q)
 refused_map result P Q f h = search (arith, rules, IfErr-weaker)
+
+pub ruleset refusals = (IfErr-weaker, named_fault, some_is)

@@ -3,7 +3,7 @@
 -- place goes on so: the record read there is spelt by the bytes up to its end. A fault there is the file's, and where
 -- no byte is left the file is a capture.
 use Rattle.std.proofs.Common.{rules}
-use Rattle.cq_pcap.proofs.Terms.{◌≡◌, ℕ, ◌+◌, ◌-◌, ◌<◌, ◌≤◌, ◌^◌, List, [], ◌∷◌, ◌++◌, length, take, drop, ap, sym, arith, add-zero, common_steps, map-append, length-drop, length-take-le, drop-drop, take_all, take_rest, All-push, sum_by-cons, sum_by_push, Ok, Err, Some, None, sum_by, Form, PcapRefusal, Captured, rows_from, file_length, first_packet, header_form, AreRowsOf, AreRowsTo, AreSpelt, IsFaultAt, IsRowOf, packet_at, packets_at, all_both}
+use Rattle.cq_pcap.proofs.Terms.{◌≡◌, ℕ, ◌+◌, ◌-◌, ◌<◌, ◌≤◌, ◌^◌, List, [], ◌∷◌, ◌++◌, length, take, drop, ap, sym, arith, add-zero, common_steps, map-append, length-drop, length-take-le, drop-drop, take_all, take_rest, All-push, sum_by-cons, sum_by_push, Ok, Err, Some, None, sum_by, Form, PcapRefusal, Captured, rows_from, file_length, first_packet, header_form, AreRowsOf, AreRowsTo, AreSpelt, IsFaultAt, IsRowOf, packet_at, packets_at, all_both, IfOk-weaker, IfErr-weaker}
 use Rattle.cq_pcap.specs.declared.capture.PacketRow.{PacketRow}
 use Rattle.cq_pcap.proofs.Headers.{header_is, header_place, AreBytes, AreBytes-drop, first_says}
 use Rattle.cq_pcap.proofs.ReadIsSpelt.{body_length, faulty_at, spelt_more, spelt_none}
@@ -75,3 +75,5 @@ header_fault bytes refusal e = search (rules, header_is, header_place)
 pub rows_all : (form : Form) (bytes : List ℕ) (rows : List PacketRow) (at : ℕ) → at ≡ length bytes
     → AreRowsTo form bytes at rows → AreSpelt bytes rows
 rows_all form bytes rows at e so_far = grind (arith, common_steps, take_all)
+
+pub ruleset row_faults = (IfOk-weaker, IfErr-weaker, rows_none, rows_fault, header_fault)

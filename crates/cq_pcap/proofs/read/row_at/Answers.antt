@@ -1,10 +1,7 @@
-use Rattle.cq_pcap.proofs.Terms.{arith, rules, IfErr-weaker}
+use Rattle.cq_pcap.proofs.Terms.{arith}
 use Rattle.cq_pcap.proofs.Headers.{AreBytes}
-use Rattle.cq_pcap.proofs.Rows.{rows_fault, rows_more}
+use Rattle.cq_pcap.proofs.Rows.{rows_more}
 use Rattle.cq_pcap.proofs.read.row_at.Goals as goal
-
-pub returns-in_err-row_of-clause-fault : goal.returns-in_err-row_of-clause-fault
-returns-in_err-row_of-clause-fault c = search (arith, rules, IfErr-weaker, rows_fault)
 
 pub returns-clause-more : goal.returns-clause-more
 returns-clause-more c rows so_far =
