@@ -153,3 +153,5 @@ next_of_both from xs ys None (Some t) first second = search (arith, rules, arriv
 next_of_both from xs ys (Some s) None first second = search (arith, rules, arrives_first, all_both, all_weaker)
 next_of_both from xs ys (Some s) (Some t) first second =
     search (arith, rules, cases_lt, arrives_second, arrives_first, all_both, all_weaker)
+
+pub ruleset next_steps = (get_or_read, no_row, line_done, line_next)

@@ -29,3 +29,5 @@ pub row_is_of : (place : ℕ) (ps : List Captured) (k : ℕ) (d : PacketRow) (e 
     × ((slice_index_or (rows_from place ps) k d).len ≡ length (slice_index_or ps k e).body)
 row_is_of place [] k d e h = absurd (omega arith)
 row_is_of place (p ∷ ps) k d e h = grind (arith, common_steps, row_is_of (place + 16 + length p.body) ps)
+
+pub ruleset stamp_steps = (map-rows_from, stamps_more)

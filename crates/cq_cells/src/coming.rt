@@ -50,6 +50,7 @@ fn make_ready(arrivals: &mut Arrivals, ports: usize, wanted: usize)
 }
 
 // The cells that arrive in the slot come to the inputs of these lines, in place of those that stood there.
+#[tactic(auto, using(crate::proofs::Owned::all_filled, crate::proofs::Owned::still_stand))]
 fn come(lines: &[Line], slot: Slot, near: &mut Nearby, arrivals: &mut Arrivals)
     requires few { length lines.now ≤ most_ports }
     requires own { AreOwn 0 lines.now }

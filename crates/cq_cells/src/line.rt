@@ -101,6 +101,7 @@ impl Line {
 
     /// The least slot from this one on in which a cell arrives, or None where there is none. Where so many packets have
     /// begun, or one more, it is found at once.
+    #[tactic(auto, using(crate::proofs::Looked::next_steps))]
     pub fn next_near(&self, from: Slot, near: usize) -> Option<Slot>
         ensures { IsNextArrival self.now from result }
     {
@@ -183,6 +184,7 @@ fn begun_near(rows: &[Row], slot: Slot, near: usize) -> usize
 
 // Whether so many packets have begun in the slot: there are so many, the last of them has, and the one after it has
 // not.
+#[tactic(auto, using(crate::proofs::Looked::begun_beside))]
 fn is_begun(rows: &[Row], slot: Slot, number: usize) -> bool
     requires { IsNonDecreasingBy (λ row. row.start) rows.now }
     ensures { IsTrue result → (number ≤ length rows.now) × IsBegun rows.now slot number }

@@ -6,7 +6,7 @@ ghost use Rattle.cq_cells.specs.Terms.{earlier, t0_of};
 use cq_pcap::{Capture, PacketRow};
 
 /// The least stamp of all captures, in nanoseconds, or 0 where there is no packet.
-#[tactic(auto, unfolding(crate::specs::Schedule::t0_of))]
+#[tactic(auto, using(crate::proofs::Stamps::stamp_steps), unfolding(crate::specs::Schedule::t0_of))]
 pub fn t0_of(captures: &[Capture]) -> u64
     ensures { result ≡ t0_of captures.now }
 {

@@ -1,5 +1,5 @@
 use Rattle.cq_cells.proofs.Terms.{rules, ◌≡◌, [], arith, get_or_read, arriving_at, all_of}
-use Rattle.cq_cells.proofs.Owned.{arriving_at_line, arrives_own, filling_next, all_filled, still_stand}
+use Rattle.cq_cells.proofs.Owned.{arriving_at_line, arrives_own, filling_next}
 use Rattle.cq_cells.proofs.coming.come.Goals as goal
 use Rattle.cq_cells.proofs.coming.come.Goals.{After-cell_near-cell}
 
@@ -16,6 +16,3 @@ put-requires-clause-own c = search (rules, given, arrives_own)
 
 pub lines-preserved : goal.lines-preserved
 lines-preserved c = search (arith, rules, filling_next, given)
-
-pub returns : goal.returns
-returns c = search (arith, rules, all_filled, still_stand)
