@@ -303,3 +303,5 @@ module _ (ins : Inside) {m : MemSpace} (view : mem_space ins ≡ m) where
     reads_on {at} {place} most count e held piece buf after opened here had counted copied some moved =
         let next = takes_next (name_at (columns_of es) at) (bytes_at (columns_of es) at) most place count in
         grind (arith, common_steps, stands, next)
+
+pub ruleset cut_steps = (map-set, map-set_same, string_bytes)

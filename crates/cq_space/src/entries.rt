@@ -82,6 +82,7 @@ pub(crate) fn put_bytes(entries: &mut [Entry], at: usize, bytes: Vec<u8>)
 }
 
 /// Appends to the bytes of an entry that has some.
+#[tactic(auto, using(crate::proofs::InMemory::lengthened))]
 pub(crate) fn append(entries: &mut [Entry], at: usize, piece: &[u8]) -> Result<(), NoMemory>
     requires there { at < length entries.old }
     requires some { IsSome (told_at (columns_of entries.old) at) }
@@ -96,6 +97,7 @@ pub(crate) fn append(entries: &mut [Entry], at: usize, piece: &[u8]) -> Result<(
 }
 
 /// Cuts reading the name of the entry at `after` bytes.
+#[tactic(auto, using(crate::proofs::InMemory::cut_steps))]
 pub(crate) fn cut_reading(entries: &mut [Entry], at: usize, after: u64)
     requires { at < length entries.old }
     ensures { columns_of entries.new ≡ with_read_cut (columns_of entries.old) at after }
@@ -104,6 +106,7 @@ pub(crate) fn cut_reading(entries: &mut [Entry], at: usize, after: u64)
 }
 
 /// Cuts writing the name of the entry at `after` bytes.
+#[tactic(auto, using(crate::proofs::InMemory::cut_steps))]
 pub(crate) fn cut_writing(entries: &mut [Entry], at: usize, after: u64)
     requires { at < length entries.old }
     ensures { columns_of entries.new ≡ with_write_cut (columns_of entries.old) at after }

@@ -73,6 +73,7 @@ impl MemFiles {
 
     /// Gives the name these bytes, whether there was such a name or not. The mode has to be closed. All
     /// else is as before; after `NoMemory` everything is.
+    #[tactic(auto, using(crate::proofs::InMemory::bytes_are_set))]
     pub fn set(&mut self, name: &str, bytes: &[u8]) -> Result<(), NoMemory>
         requires { self.old.mode ≡ Closed }
         ensures ok { OnOk result (self.new ≡ record self.old
@@ -102,6 +103,7 @@ impl MemFiles {
     /// Cuts reading the name at `after` bytes: a read does not go past them, and the next read there
     /// fails. It counts from then on and for every later reading of the name; the newest cut of a name
     /// counts. There need be no such name. After `NoMemory` everything is as before.
+    #[tactic(auto, using(crate::proofs::InMemory::reading_is_cut))]
     pub fn fail_read(&mut self, name: &str, after: u64) -> Result<(), NoMemory>
         ensures ok { OnOk result (self.new ≡ record self.old { read_cuts = insert self.old.read_cuts name.now after }) }
         ensures err { OnErr result (self.new ≡ self.old) }
@@ -114,6 +116,7 @@ impl MemFiles {
     /// Cuts writing the name at `after` bytes: a write does not go past them, and the next write there
     /// fails. It counts as the cut of [`MemFiles::fail_read`] does. After `NoMemory` everything is as
     /// before.
+    #[tactic(auto, using(crate::proofs::InMemory::writing_is_cut))]
     pub fn fail_write(&mut self, name: &str, after: u64) -> Result<(), NoMemory>
         ensures ok { OnOk result (self.new ≡ record self.old
             { write_cuts = insert self.old.write_cuts name.now after }) }
