@@ -101,3 +101,5 @@ pub log_clashes : (t : Tables) (r : TableRefusal) → bytes_eq t.log t.trace ≡
     Refuses (Some (refused (codes "log") DuplicateFile)) r → Refuses (file_check t) r
 unfolding first
 log_clashes t r clashes told = rw clashes told
+
+pub ruleset differs = (apart_all, apart_first, apart_next, apart_stops, log_clashes, port_apart, port_read, port_write)

@@ -124,6 +124,7 @@ fn document(alloc: Global, bytes: &[u8]) -> Result<Table, TableRefusal>
 ///
 /// A text of more than 1,048,576 bytes is refused before it is read. The tables are in range. The other
 /// error is want of memory.
+#[tactic(auto, using(crate::proofs::Text::table_fault, crate::proofs::Text::read_all))]
 pub fn read_tables(alloc: Global, bytes: &[u8]) -> Result<Tables, TableRefusal>
     ensures tables { IfOk result (λ tables. read_or_refused bytes.now ≡ Ok tables) }
     ensures in_range { IfOk result (λ tables. AreTables tables) }

@@ -102,6 +102,7 @@ pub fn addresses(alloc: Global, top: &Table, ports: usize) -> Result<Vec<Address
 }
 
 /// The rules, among so many ports and classes.
+#[tactic(auto, using(crate::proofs::Checks::otherwise_holds))]
 pub fn rules(
     alloc: Global,
     top: &Table,

@@ -73,7 +73,7 @@ pub fn number_below(value: &Value, greatest: u16, count: usize) -> Result<u16, W
 }
 
 // The number below 2^128 that 1 to 39 digits write.
-#[tactic(auto, unfolding(crate::specs::Value::written))]
+#[tactic(auto, using(crate::proofs::Values::parsed_is_written), unfolding(crate::specs::Value::written))]
 fn written(text: &str) -> Option<u128>
     ensures { result ≡ written text.now }
 {

@@ -1,9 +1,6 @@
 use Rattle.cq_tables.proofs.Terms.{rules, arith}
-use Rattle.cq_tables.proofs.Walk.{apart_more, apart_none, apart_stop, walk_holds, walked_read}
+use Rattle.cq_tables.proofs.Walk.{apart_more, apart_stop, walk_holds, walked_read}
 use Rattle.cq_tables.proofs.addresses.address_rows.Goals as goal
-
-pub addresses-init : goal.addresses-init
-addresses-init c = search (arith, rules, apart_none)
 
 pub returns-in_err-row-clause-refused : goal.returns-in_err-row-clause-refused
 returns-in_err-row-clause-refused c =

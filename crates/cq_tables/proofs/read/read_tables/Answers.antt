@@ -1,5 +1,5 @@
 use Rattle.cq_tables.proofs.Terms.{IfErr, rules, arith, table_view, Refuses, file_check}
-use Rattle.cq_tables.proofs.Text.{file_fault, long_told, no_document, read_all, table_fault}
+use Rattle.cq_tables.proofs.Text.{file_fault, long_told, no_document}
 use Rattle.cq_tables.proofs.read.read_tables.Goals as goal
 
 pub returns-then-bytes-gt-LONGEST_CONFIGURATION-clause-refused :
@@ -10,9 +10,6 @@ returns-then-bytes-gt-LONGEST_CONFIGURATION-clause-refused c =
 pub returns-in_err-top-clause-refused : goal.returns-in_err-top-clause-refused
 returns-in_err-top-clause-refused c = no_document c.args.bytes.now _ (omega arith) (search rules)
 
-pub returns-in_err-tables-clause-refused : goal.returns-in_err-tables-clause-refused
-returns-in_err-tables-clause-refused c = search (arith, rules, table_fault)
-
 pub returns-in_err-files_differ-clause-refused : goal.returns-in_err-files_differ-clause-refused
 returns-in_err-files_differ-clause-refused c =
     let told = c.in_err-files_differ.ensures {u = tt} in
@@ -20,6 +17,3 @@ returns-in_err-files_differ-clause-refused c =
     search (rules, told.refused) in
     file_fault c.args.bytes.now (table_view c.in_ok-top.top) c.in_ok-tables.tables _ (omega arith)
     c.in_ok-top.ensures.held c.in_ok-tables.ensures.held c.in_ok-tables.ensures.value raw
-
-pub returns-clause-tables : goal.returns-clause-tables
-returns-clause-tables c = search (arith, rules, read_all)

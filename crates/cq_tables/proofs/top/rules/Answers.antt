@@ -1,9 +1,5 @@
-use Rattle.cq_tables.proofs.Terms.{arith, rules}
-use Rattle.cq_tables.proofs.Checks.{otherwise_holds, otherwise_later}
+use Rattle.cq_tables.proofs.Checks.{otherwise_later}
 use Rattle.cq_tables.proofs.top.rules.Goals as goal
-
-pub returns-clause-held : goal.returns-clause-held
-returns-clause-held c = search (arith, rules, otherwise_holds)
 
 pub returns-clause-refused : goal.returns-clause-refused
 returns-clause-refused c =
