@@ -252,54 +252,33 @@ impl<R: Rank> Engine<R> {
         ensures stopped { self.new.stopped ≡ is_err result }
         ensures stays { OnErr result (HasStopped self.old self.new sent.old sent.new note.old note.new) }
     {
-        let ports = self.queues.ports();
-        if let Err(fault) = take_in(
-            &mut self.ranks,
-            &mut self.limiter,
-            &mut self.came,
-            slot,
-            arrivals,
-        ) {
+        let ranks = &mut self.ranks;
+        let queues = &mut self.queues;
+        let limiter = &mut self.limiter;
+        let figures = &mut self.figures;
+        let ports = queues.ports();
+        if let Err(fault) = take_in(ranks, limiter, &mut self.came, slot, arrivals) {
             self.stopped = true;
             return Err(fault);
         }
         let look = self.look;
         self.look = Look::Arriving;
         self.next = slot + 1;
-        if go_straight(&self.queues, &self.came, &mut self.gone) {
-            let crossed = pass(
-                &mut self.ranks,
-                &mut self.limiter,
-                &mut self.figures,
-                &self.came,
-                self.gone.of_outputs(ports),
-                slot,
-                sent,
-                note,
-            );
-            count_proposals(&mut self.figures, crossed, 0);
+        let came = &self.came;
+        if go_straight(queues, came, &mut self.gone) {
+            let gone = self.gone.of_outputs(ports);
+            let crossed = pass(ranks, limiter, figures, came, gone, slot, sent, note);
+            count_proposals(figures, crossed, 0);
             return Ok(());
         }
-        self.queues.arrive(&self.came);
-        let inputs = &mut self.figures.inputs;
-        count_inputs(alloc, look, inputs, &self.queues, &self.came);
+        queues.arrive(came);
+        count_inputs(alloc, look, &mut figures.inputs, queues, came);
         let workers = self.workers;
         let core = &mut self.core;
-        let queues = &mut self.queues;
         let first = cross(core, queues, rt, alloc, workers, slot, 1, gate, note);
-        depart(
-            &mut self.ranks,
-            &mut self.queues,
-            &mut self.limiter,
-            &mut self.figures,
-            &mut self.gone,
-            slot,
-            sent,
-        );
-        let core = &mut self.core;
-        let queues = &mut self.queues;
+        depart(ranks, queues, limiter, figures, &mut self.gone, slot, sent);
         let second = cross(core, queues, rt, alloc, workers, slot, 2, gate, note);
-        count_proposals(&mut self.figures, first, second);
+        count_proposals(figures, first, second);
         Ok(())
     }
 

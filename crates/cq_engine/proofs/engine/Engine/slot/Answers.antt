@@ -6,7 +6,7 @@ use Rattle.cq_engine.proofs.Slot.{HaveCrossed, Whole, moved_of, whole_slot}
 use Rattle.cq_engine.proofs.StraightSlot.{at_most_square, crossings_few, held_straight, whole_straight}
 use Rattle.cq_engine.proofs.engine.Engine.slot.Given as given
 use Rattle.cq_engine.proofs.engine.Engine.slot.Goals as goal
-use Rattle.cq_engine.proofs.engine.Engine.slot.Goals.{After-arrive, After-cross-second, After-depart, After-take_in, After-of_outputs, After-pass-crossed, After-self}
+use Rattle.cq_engine.proofs.engine.Engine.slot.Goals.{After-arrive, After-cross-second, After-depart, After-take_in, After-of_outputs-gone, After-pass-crossed, After-self}
 
 -- ## Numbers
 
@@ -94,18 +94,18 @@ whole g c =
 -- ## What is known of the straight way
 
 -- each cell that came is at the place of its output
-straight : (g : given.Over) (c : After-of_outputs g) →
-    GoStraight c.self.inside.queues c.take_in.new.came c.of_outputs.result.now
-straight g c = rw (c.of_outputs.ensures, c.ports-ports.ensures.value) (c.go_straight.ensures.sent c.if-go_straight.true)
+straight : (g : given.Over) (c : After-of_outputs-gone g) →
+    GoStraight c.self.inside.queues c.take_in.new.came c.of_outputs-gone.result.now
+straight g c = rw (c.of_outputs-gone.ensures, c.ports-ports.ensures.value) (c.go_straight.ensures.sent c.if-go_straight.true)
 
 -- no more cells cross than there are ports
 few_proposed : (g : given.Over) (c : After-pass-crossed g) →
     length c.self.inside.queues.inputs ≡ length c.args.self.now.fixed →
-    GoStraight c.self.inside.queues c.take_in.new.came c.of_outputs.result.now →
+    GoStraight c.self.inside.queues c.take_in.new.came c.of_outputs-gone.result.now →
     c.pass-crossed.new.figures.proposals + (c.pass-crossed.result + 0)
     ≤ c.args.self.now.figures.proposals + 2 * (length c.args.self.now.fixed * length c.args.self.now.fixed)
 few_proposed g c seen is =
-    once_few _ _ _ _ _ (crossings_few c.args.slot (length c.of_outputs.result.now) c.take_in.new.came)
+    once_few _ _ _ _ _ (crossings_few c.args.slot (length c.of_outputs-gone.result.now) c.take_in.new.came)
     c.pass-crossed.ensures.many (is.ports ∙ seen) c.pass-crossed.ensures.sent.proposals
     (ap (λ (v : EngineView). v.figures.proposals) c.self.view_is)
 
@@ -127,12 +127,12 @@ all_straight : (g : given.Over) (c : goal.After-count_proposals g) →
     (fabric_of c.self.inside.queues c.self.inside.ranks.states)
     (fabric_of c.self.inside.queues c.pass-crossed.new.ranks.states)
     (taken (known g (goal.at.returns-then-go_straight g c).After-self) c.in_default.ensures.taken).ideal
-    c.of_outputs.result.now (crossings c.args.slot (length c.self.inside.queues.inputs) c.take_in.new.came)
+    c.of_outputs-gone.result.now (crossings c.args.slot (length c.self.inside.queues.inputs) c.take_in.new.came)
 all_straight g c =
     let at = goal.at.returns-then-go_straight g c in
     let begins = known g at.After-self in
     let marks = c.take_in.new.limiter.marks in
-    let is = straight g at.After-of_outputs in
+    let is = straight g at.After-of_outputs-gone in
     let many =
     c.pass-crossed.ensures.many ∙ ap (λ (n : ℕ). length (crossings c.args.slot n c.take_in.new.came)) is.ports in
     whole_straight (taken begins c.in_default.ensures.taken) (lists_room begins marks) is (buffers_room begins marks)
@@ -151,8 +151,8 @@ pub go_straight-requires : goal.go_straight-requires
 go_straight-requires g c =
     let at = goal.at.go_straight-requires g c in came_outputs (taken (known g at.After-self) c.in_default.ensures.taken)
 
-pub of_outputs-requires : goal.of_outputs-requires
-of_outputs-requires g c = search (arith, rules)
+pub of_outputs-gone-requires : goal.of_outputs-gone-requires
+of_outputs-gone-requires g c = search (arith, rules)
 
 pub pass-crossed-requires : goal.pass-crossed-requires
 pass-crossed-requires g c =
@@ -160,10 +160,10 @@ pass-crossed-requires g c =
     let begins = known g at.After-self in
     let seen = ports_seen g at.After-self in
     let marks = c.take_in.new.limiter.marks in
-    let is = straight g at.After-of_outputs in
+    let is = straight g at.After-of_outputs-gone in
     let holds = held_straight (taken begins c.in_default.ensures.taken) (lists_room begins marks) is
     (buffers_room begins marks) begins.running.holds (judged c.take_in.ensures.judged) in
-    let send = can_send g at.After-take_in begins seen c.of_outputs.result.now is.ports
+    let send = can_send g at.After-take_in begins seen c.of_outputs-gone.result.now is.ports
     {x = c.self.inside.figures} refl holds in
     search (arith, rules, begins.running.in_step.counts.inputs)
 
@@ -171,7 +171,7 @@ pub count_proposals-requires : goal.count_proposals-requires
 count_proposals-requires g c =
     let at = goal.at.count_proposals-requires g c in
     let seen = ports_seen g at.After-self in
-    omega (arith, few_proposed g at.After-pass-crossed seen (straight g at.After-of_outputs))
+    omega (arith, few_proposed g at.After-pass-crossed seen (straight g at.After-of_outputs-gone))
 
 pub arrive-requires : goal.arrive-requires
 arrive-requires g c =
@@ -250,7 +250,7 @@ invariant_of-self-then-go_straight g c =
     let at = goal.at.returns-then-go_straight g c in
     let begins = known g at.After-self in
     let done = all_straight g c in
-    let gone = c.of_outputs.result.now in
+    let gone = c.of_outputs-gone.result.now in
     let holds = still_holds (taken begins c.in_default.ensures.taken) gone _ c.self.inside.limiter c.take_in.new.limiter
     c.pass-crossed.new.limiter done.alike begins.running.holds (judged c.take_in.ensures.judged)
     c.pass-crossed.ensures.sent.released in
@@ -263,7 +263,7 @@ returns-then-go_straight g c =
     let slot = c.args.slot in
     let came = c.take_in.new.came in
     let holds = (known g at.After-self).running.holds in
-    let is = straight g at.After-of_outputs in
+    let is = straight g at.After-of_outputs-gone in
     let did = c.pass-crossed.ensures in
     record {
       answer = sym (ap answer_to (sym (asks g at.After-take_in holds) ∙ c.in_default.ensures.taken.ranked));
