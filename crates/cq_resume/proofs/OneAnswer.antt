@@ -9,13 +9,8 @@ use Rattle.cq_state.specs.State.{state_lines, state_text}
 use Rattle.cq_state.specs.StateText.{IsStateFault}
 
 each_clause : (w : Switch) (s : State) → IsSound w s → (k : ℕ) → Clause w s k
-each_clause w s sound (suc zero) = sound.arrivals
-each_clause w s sound (suc (suc zero)) = sound.order
-each_clause w s sound (suc (suc (suc zero))) = sound.slack
-each_clause w s sound (suc (suc (suc (suc zero)))) = sound.packets
-each_clause w s sound (suc (suc (suc (suc (suc zero))))) = sound.flows
 each_clause w s sound (suc (suc (suc (suc (suc (suc zero)))))) = sound.floors
-each_clause w s sound k = tt
+each_clause w s sound k = search rules
 
 module _ (w : Switch) (text : List ℕ) where
   no_fault : (s : State) (line : ℕ) → IsInRange s → state_text s ≡ text → IsStateFault text line → ⊥
@@ -29,25 +24,19 @@ module _ (w : Switch) (text : List ℕ) where
   one_read x y r s = search (arith, rules, have_one_text.one_state)
 
   never_refused : (x : Taken) (r : StateRefusal) → IsRead w text x → IsRefusal w text r → r ≡ refusal.NoMemory
-  never_refused x (refusal.Text line) read fault = absurd (search (arith, rules, no_fault read.state))
-  never_refused x refusal.Shape read other = absurd (search (arith, rules, no_other read.state))
   never_refused x (refusal.Unsound k) read first =
       let same = have_one_text.one_state first.state read.state in
       absurd (search (arith, rules, first.unsound.fails, each_clause w first.state))
   never_refused x refusal.NoMemory read memory = refl
+  never_refused x r read why = absurd (search (arith, rules, no_fault read.state, no_other read.state))
 
   one_refusal : (r s : StateRefusal) → r ≢ refusal.NoMemory → s ≢ refusal.NoMemory → IsRefusal w text r →
       IsRefusal w text s → r ≡ s
   one_refusal (refusal.Text m) (refusal.Text n) some other r s = cc (state_is_exact.one_fault text m n r s)
-  one_refusal (refusal.Text m) refusal.Shape some other r s = absurd (no_fault s.state m s.in_range s.spelled r)
-  one_refusal (refusal.Text m) (refusal.Unsound k) some other r s = absurd (no_fault s.state m s.in_range s.spelled r)
-  one_refusal refusal.Shape (refusal.Text n) some other r s = absurd (no_fault r.state n r.in_range r.spelled s)
-  one_refusal refusal.Shape (refusal.Unsound k) some other r s = absurd (search (rules, no_other s.state))
-  one_refusal (refusal.Unsound j) (refusal.Text n) some other r s = absurd (no_fault r.state n r.in_range r.spelled s)
-  one_refusal (refusal.Unsound j) refusal.Shape some other r s = absurd (search (rules, no_other r.state))
   one_refusal (refusal.Unsound j) (refusal.Unsound k) some other r s =
       search (arith, rules, have_one_text.one_state s.state r.state, cases_lt j k, cases_lt k j)
-  one_refusal r s some other _ _ = search rules
+  one_refusal refusal.Shape refusal.Shape some other r s = refl
+  one_refusal x y some other r s = absurd (search (arith, rules, no_fault, no_other))
 
 pub read_exact : (w : Switch) → IsReadExact w
 read_exact w = record { one_state = one_read w; one_refusal = one_refusal w; never_refused = never_refused w }
