@@ -1,10 +1,10 @@
 -- The fourth clause, of the names that were found, input by input. At each input the cells that arrive before the
--- next slot are those of packets one after another, so that each packet is named whole, or not at all, says it of any
--- two of them; and the packet that began last is that of the last cell. The walk over the cells of one input ends
--- with a mark exactly where each packet that has begun is named whole, or not at all and its output has a limit.
--- Cells of one packet come one behind the other, so each is compared with the one before it. The mark is up where the
--- last cell is not named, which is of the packet that began last.
-use Rattle.cq_resume.proofs.Terms.{common_steps, rules, ◌≡◌, ℕ, ◌<◌, ◌≤◌, eqb, ltb, Bool, true, false, cond, List, [], ◌∷◌, fold, Option, Some, refl, sym, inl, inr, arith, None, ◌==◌, filter, not, AllByRecursion, and_from, and_parts, and_right, cases_Bool, cases_lt, eq-eqb, eqb-true, le-leb, le-ltb, lt-ltb, ltb-true, Arrival, latest, ArePackets, ComeBehind, IsLine, PacketsStand, coming, firsts_before, has_limit, has_name, is_left_out, mark_on, may_come, packet_before, Name, all_of_has, all_from_has, pair_of_has, has_kept, kept_has, Has, EachPair, any_alike}
+-- next slot are those of packets one after another, so that each packet is named whole, or not at all, says of each of
+-- them that it is named as the first one of its packet is; and the packet that began last is that of the last cell.
+-- The walk over the cells of one input ends with a mark exactly where each packet that has begun is named whole, or
+-- not at all and its output has a limit. Cells of one packet come one behind the other, so each is compared with the
+-- one before it. The mark is up where the last cell is not named, which is of the packet that began last.
+use Rattle.cq_resume.proofs.Terms.{common_steps, rules, ◌≡◌, ℕ, ◌<◌, ◌≤◌, eqb, ltb, Bool, true, false, cond, List, [], ◌∷◌, fold, Option, Some, refl, sym, inl, inr, arith, None, ◌==◌, filter, not, and_from, and_parts, and_right, cases_Bool, cases_lt, eq-eqb, eqb-true, le-leb, le-ltb, lt-ltb, ltb-true, Arrival, latest, ArePackets, ComeBehind, IsLine, PacketsStand, coming, firsts_before, has_limit, has_name, is_left_out, mark_on, may_come, packet_before, Name, all_of_has, all_from_has, has_kept, kept_has, Has, any_alike}
 use Rattle.cq_resume.proofs.Coming.{is_between}
 
 -- whether a cell is the first of its packet
@@ -15,10 +15,6 @@ abbrev later_one : Arrival → Arrival → Arrival
 later_one a b = cond (ltb a.slot b.slot) b a
 
 module _ (named : Arrival → Bool) (limited : ℕ → Bool) where
-  -- two cells of one packet are both named, or neither is
-  abbrev pub AlikeIn : Arrival → Arrival → Type 0
-  AlikeIn a b = a.cell.id.packet ≡ b.cell.id.packet → named b ≡ named a
-
   -- a cell that is not named goes to an output that has a limit
   abbrev pub IsAllowed : Arrival → Type 0
   IsAllowed a = named a ≡ false → limited a.cell.output ≡ true
@@ -33,49 +29,45 @@ module _ (named : Arrival → Bool) (limited : ℕ → Bool) where
       (may mark b ≡ true) × (mark_on named limited (not (named b)) line ≡ Some m)
   one_step mark m b line ends = grind (arith, common_steps, cases_Bool)
 
-  -- the cells of each packet are named alike, and all that are not named may be left out
-  pub record Stand (line : List Arrival) : Type 0 where
-    pub alike : EachPair AlikeIn line
-    pub allowed : AllByRecursion IsAllowed line
+  -- each cell is named as the first one of its packet is, and a first one that is not named may be left out
+  abbrev pub AsFirst : List Arrival → Type 0
+  AsFirst line = (f b : Arrival) → Has line f → Has line b → f.cell.id.index ≡ 0 →
+      f.cell.id.packet ≡ b.cell.id.packet → (named b ≡ named f) × IsAllowed f
 
-  -- behind a cell each is of a later packet, or alike
+  -- behind a cell each is of a later packet, or named alike
   behind_alike : (a : Arrival) (line : List Arrival) (m : Bool) → ComeBehind a line →
       mark_on named limited (not (named a)) line ≡ Some m → (b : Arrival) → Has line b →
-      (a.cell.id.packet ≤ b.cell.id.packet) × AlikeIn a b × IsAllowed b
+      (a.cell.id.packet ≤ b.cell.id.packet) × (a.cell.id.packet ≡ b.cell.id.packet → named b ≡ named a) × IsAllowed b
   behind_alike a [] m behind ends b has = absurd has
   behind_alike a (c ∷ line) m behind ends b has = search (rules, one_step, behind_alike c line m behind.1)
 
-  each_alike : (a : Arrival) (line : List Arrival) (m : Bool) → ComeBehind a line →
-      mark_on named limited (not (named a)) line ≡ Some m → EachPair AlikeIn (a ∷ line)
-  each_alike a [] m behind ends = (tt, tt)
-  each_alike a (b ∷ line) m behind ends =
-      search (arith, rules, all_from_has (AlikeIn a), behind_alike a (b ∷ line) m, one_step, each_alike b line m)
+  as_first_on : (a : Arrival) (line : List Arrival) (m : Bool) → ComeBehind a line → IsAllowed a →
+      mark_on named limited (not (named a)) line ≡ Some m → AsFirst (a ∷ line)
+  as_first_on a [] m behind may_be ends f b first second begins packet = search (arith, rules)
+  as_first_on a (c ∷ line) m behind may_be ends f b first second begins packet =
+      search (arith, rules, behind_alike a (c ∷ line) m, one_step, as_first_on c line m behind.1)
 
   pub line_stands : (line : List Arrival) (m : Bool) → IsLine line → mark_on named limited false line ≡ Some m →
-      Stand line
-  line_stands [] m is ends = record { alike = tt; allowed = tt }
-  line_stands (a ∷ line) m is ends =
-      search (arith, rules, each_alike a line m, one_step, all_from_has IsAllowed, behind_alike a line m)
+      AsFirst line
+  line_stands [] m is ends = λ f b first. absurd first
+  line_stands (a ∷ line) m is ends = search (arith, rules, as_first_on a line m, one_step)
 
   -- ## The last first cell
 
   -- behind a cell that is named as the last first one: the mark is up where the last first one then is not named
   last_first : (all : List Arrival) (f a : Arrival) (line : List Arrival) (m : Bool) → ComeBehind a line →
-      ((c : Arrival) → Has line c → Has all c) → Has all f → f.slot ≤ a.slot → named a ≡ named f →
-      mark_on named limited (not (named a)) line ≡ Some m →
-      Has all (fold later_one f (filter is_first line)) × (m ≡ not (named (fold later_one f (filter is_first line))))
-  last_first all f a [] m behind among there le same ends = (there, (let P : m ≡ not (named f) = cc in P))
-  last_first all f a (b ∷ line) m behind among there le same ends =
+      ((c : Arrival) → Has line c → Has all c) → Has all f → f.cell.id.index ≡ 0 → f.slot ≤ a.slot →
+      named a ≡ named f → mark_on named limited (not (named a)) line ≡ Some m →
+      let g = fold later_one f (filter is_first line) in
+      Has all g × (g.cell.id.index ≡ 0) × (m ≡ not (named g))
+  last_first all f a [] m behind among there begins le same ends = (there, begins, cc)
+  last_first all f a (b ∷ line) m behind among there begins le same ends =
       let on = λ (g : Arrival). last_first all g b line m behind.1 (λ c has. among c (inr has)) in
-      grind (arith, common_steps, on f, on b)
+      grind (arith, common_steps, on f, on b, eqb-true)
 
   -- ## A walk that stops
 
-  -- where each cell of a packet is as its first one is, a walk ends: behind a cell with the first one of its packet
-  abbrev AsFirst : List Arrival → Type 0
-  AsFirst line = (f b : Arrival) → Has line f → Has line b → f.cell.id.index ≡ 0 →
-      f.cell.id.packet ≡ b.cell.id.packet → (named b ≡ named f) × IsAllowed f
-
+  -- where each cell is named as the first one of its packet is, a walk ends
   walk_ends : (all : List Arrival) → AsFirst all → (f a : Arrival) (line : List Arrival) → ComeBehind a line →
       ((c : Arrival) → Has line c → Has all c) → Has all f → f.cell.id.index ≡ 0 →
       f.cell.id.packet ≡ a.cell.id.packet → f.cell.output ≡ a.cell.output → named a ≡ named f →
@@ -137,23 +129,16 @@ module _ (limits : List (Option ℕ)) (ports next : ℕ) (came : List Arrival) (
   to_packet a b has input packet early = grind (arith, common_steps, has_kept, and_from, eq-eqb, lt-ltb)
 
   abbrev pub LineStands : ℕ → Type 0
-  LineStands i = Stand (has_name names) (has_limit limits) (coming i 0 next came)
-
-  -- two cells of one packet are named alike
-  alike_there : (i : ℕ) → LineStands i → (a b : Arrival) → Has (coming i 0 next came) a →
-      Has (coming i 0 next came) b → a.cell.id.packet ≡ b.cell.id.packet → has_name names b ≡ has_name names a
-  alike_there i stand a b first second packet = grind (arith, common_steps, pair_of_has, AlikeIn)
+  LineStands i = AsFirst (has_name names) (has_limit limits) (coming i 0 next came)
 
   -- where all inputs stand so do all packets
   pub packets_stand : ((i : ℕ) → i < ports → LineStands i) → PacketsStand limits next came names
   packets_stand stand =
-      all_from_has _ came (λ a has begins early. let alike = alike_there a.cell.id.input in
-      search (arith, rules, in_packet a, alike, cases_Bool (has_name names a), all_of_has, to_line, all_from_has))
+      all_from_has _ came (λ a has begins early. let line = stand a.cell.id.input in
+      search (arith, rules, line, in_packet a, cases_Bool (has_name names a), all_of_has, to_line, all_from_has))
 
   -- and the other way
-  pub as_first : PacketsStand limits next came names → (i : ℕ) (f b : Arrival) → Has (coming i 0 next came) f →
-      Has (coming i 0 next came) b → f.cell.id.index ≡ 0 → f.cell.id.packet ≡ b.cell.id.packet →
-      (has_name names b ≡ has_name names f) × IsAllowed (has_name names) (has_limit limits) f
+  pub as_first : PacketsStand limits next came names → (i : ℕ) → LineStands i
   as_first stand i f b first second begins packet =
       search (arith, rules, in_line i, all_of_has, to_packet f f, to_packet f b)
 
@@ -172,10 +157,10 @@ module _ (limits : List (Option ℕ)) (ports next : ℕ) (came : List Arrival) (
       by (a ∷ rest) is line ends =
           let step = one_step (has_name names) (has_limit limits) false m a rest ends in
           let its = last_first (has_name names) (has_limit limits) (a ∷ rest) a a rest m line.1 (λ c has. inr has)
-          (inl refl) (omega arith) refl step.1 in
+          (inl refl) line.0 (omega arith) refl step.1 in
           let g = fold later_one a (filter is_first rest) in
           let there : Has (coming i 0 next came) g = rw is its.0 in
           let g_in = in_line i g there in
           let any = any_alike (has_name names) (has_name names g) (packet_before came next g) g
-          (search (rules, to_packet)) (search (arith, rules, in_packet g, to_line, alike_there i stand g)) in
+          (search (rules, to_packet)) (search (arith, rules, in_packet g, to_line, stand g)) in
           grind (arith, common_steps, eq-eqb)
