@@ -5,7 +5,7 @@
 -- is counted among all buffered cells; and what is named is the same. Of any two names of one flow the one that
 -- arrived first leaves first. What a sound state comes to is said of found cells too. Where a step of judging fails it
 -- names the first clause that fails, since those before it are known; and a state is sound of which all are known.
-use Rattle.cq_resume.proofs.Terms.{common_steps, Option, arith, rules, ◌≡◌, ◌<◌, ◌↔◌, ◌⊎◌, eqb, Bool, true, false, List, [], ◌∷◌, length, map, refl, ◌∙◌, ℕ, ap, All, IsPermutation, filter, AllByRecursion, AllZip, list_any-IsPermutation, sum_by-IsPermutation, Arrival, Queued, IsTally, input_told, sent_told, AreFound, IsWholePacket, PacketsStand, TalliesUp, has_name, names_of, IsFound, AllNamed, AreWholePackets, NoneNamed, HasLimit, Switch, is_named, named_in, packet_before, buffer_told, fabric_told, Gone, Name, Tally, State, length-filter, departed, figures_at_input, Found, Seen, ◌++◌, get_or, ◌≤◌, AllPairs, cases_order, map-append, All-permutation, IsPermutation-sym, IsBefore, FlowsStand, IsGone, IsNameBefore, IsTold, InOneFlow, Leaves, LeavesEarlier, sent_name, waiting_name, IsFoundBefore, IsListedBefore, IsNoLaterInput, IsGoneBefore, IsTimely, StandsBelow, StandBelow, AreOrdered, AreArrivals, KeepArrivalOrder, OfOneFlow, AreBelowFloors, IsBelowFloor, StandInOrder, is_ahead, queued_in, output_of, Named, Sent, All-from_recursion, Option, recursion_from_All, machines_of, None, Some, inl, inr, ◌-◌, zero, suc, take, ◌+◌, filter_map, slice_get, cases_Bool, cases_eq, cases_lt, eq-eqb, eqb-true, get_or_past, map-id, get_or-map-range_with_len, length-map-range_with_len, is_for, cushion_of, input, SlackStands, cushion_in, thread_in, HaveSlack, list_told, queued_of, length-map, Scheduled, AreCellsFor, AreNamesFor, HaveRoom, IsCellFor, IsFirstOfTwo, AreFoundIn, IsForPorts, Clause, IsFirstOf, IsFirstUnsound, IsSound, switch_of, CanTakeUp, ports_of, Tables, machine_of, IsInRange, IsNamed, below_more, below_none, all_weaker, all_both, all_front, all_back, of_images, Setup, has_at, has_there, all_of_has, all_has, has_all, has_left, has_right, has_cases, has_image, image_has, pair_of_has, Has, each_pair, all_pairs, pairs_right, pairs_cross, EachPair, pairs_of_images, most_ports, StateRefusal, err_from_is_err_and}
+use Rattle.cq_resume.proofs.Terms.{common_steps, Option, arith, rules, ◌≡◌, ◌<◌, ◌↔◌, ◌⊎◌, eqb, Bool, true, false, List, [], length, map, refl, ◌∙◌, ℕ, ap, All, IsPermutation, filter, AllByRecursion, AllZip, list_any-IsPermutation, sum_by-IsPermutation, Arrival, Queued, IsTally, input_told, sent_told, AreFound, IsWholePacket, PacketsStand, TalliesUp, has_name, names_of, IsFound, AllNamed, AreWholePackets, NoneNamed, HasLimit, Switch, is_named, named_in, packet_before, buffer_told, fabric_told, Gone, Name, Tally, State, length-filter, departed, figures_at_input, Found, Seen, ◌++◌, get_or, ◌≤◌, AllPairs, cases_order, map-append, All-permutation, IsPermutation-sym, IsBefore, FlowsStand, IsGone, IsNameBefore, IsTold, InOneFlow, Leaves, LeavesEarlier, sent_name, waiting_name, IsFoundBefore, IsListedBefore, IsNoLaterInput, IsGoneBefore, IsTimely, StandsBelow, StandBelow, AreOrdered, AreArrivals, KeepArrivalOrder, OfOneFlow, AreBelowFloors, IsBelowFloor, StandInOrder, is_ahead, queued_in, output_of, Named, Sent, All-from_recursion, Option, recursion_from_All, machines_of, None, Some, inl, inr, ◌+◌, filter_map, slice_get, cases_Bool, cases_lt, eqb-true, get_or_past, map-id, get_or-map-range_with_len, length-map-range_with_len, is_for, cushion_of, input, SlackStands, cushion_in, HaveSlack, list_told, queued_of, length-map, Scheduled, AreCellsFor, AreNamesFor, HaveRoom, IsCellFor, IsFirstOfTwo, AreFoundIn, IsForPorts, Clause, IsFirstOf, IsFirstUnsound, IsSound, switch_of, CanTakeUp, ports_of, Tables, machine_of, IsInRange, IsNamed, below_more, below_none, all_weaker, all_both, all_front, all_back, of_images, Setup, has_at, has_there, all_of_has, all_has, has_all, has_left, has_right, has_cases, has_image, image_has, pair_of_has, Has, each_pair, all_pairs, pairs_right, pairs_cross, EachPair, pairs_of_images, most_ports, StateRefusal, err_from_is_err_and, kept_has}
 use Rattle.cq_resume.proofs.Zipped.{zip_by, same_mapped, IsOf, names_zip, sifted, told_facts, zip_both, zip_has, zip_mate, pairs_alike, all_alike, each_right, one_for, Differ}
 use Rattle.cq_resume.proofs.Cut.{filter_both}
 use Rattle.cq_resume.specs.Sound.{IsBufferedBefore, IsSentBefore}
@@ -42,35 +42,8 @@ same_ahead : (came : List Arrival) (next : ℕ) (c d : Named) (q r : Queued) →
     IsTold came next d r → (is_ahead c d ≡ true) ↔ IsBefore q r
 same_ahead came next c d q r first second = grind (arith, common_steps, told_facts)
 
--- ## Cells of one input among all
-
-module _ (i : ℕ) where
-  abbrev of_input : Queued → Bool
-  of_input q = eqb q.key.input i
-
-  -- where a cell that has so many of its input ahead stands among all
-  at_thread : (xs : List Queued) (thread : ℕ) (c : Queued) → slice_get (filter of_input xs) thread ≡ Some c →
-      (place : ℕ) × (slice_get xs place ≡ Some c) × (c.key.input ≡ i)
-      × (length (filter of_input (take place xs)) ≡ thread)
-  at_thread [] thread c is = absurd (let P : ⊥ = cc in P)
-  at_thread (x ∷ xs) thread c is = elim (cases_Bool (of_input x)) [
-    | inl own ↦ elim (cases_eq thread 0) [
-      | inl none ↦ search (arith, rules, eqb-true)
-      | inr some ↦
-          let more : suc (thread - 1) ≡ thread = omega arith in
-          let rest = at_thread xs (thread - 1) c (let at = rw (← more) at is in grind (arith, common_steps)) in
-          (suc rest.0, rest.1, rest.2, (grind (arith, common_steps)))
-    ]
-    | inr other ↦
-        let rest = at_thread xs thread c (grind (arith, common_steps)) in
-        (suc rest.0, rest.1, rest.2, (grind (arith, common_steps)))
-  ]
-
-  at_place : (xs : List Queued) (place : ℕ) (c : Queued) → slice_get xs place ≡ Some c → c.key.input ≡ i →
-      slice_get (filter of_input xs) (length (filter of_input (take place xs))) ≡ Some c
-  at_place [] place c is own = absurd (let P : ⊥ = cc in P)
-  at_place (x ∷ xs) zero c is own = grind (arith, common_steps, eq-eqb)
-  at_place (x ∷ xs) (suc place) c is own = grind (arith, common_steps, at_place xs place c)
+abbrev of_input : ℕ → Queued → Bool
+of_input i q = eqb q.key.input i
 
 -- ## The fabric that is told of
 
@@ -270,15 +243,16 @@ module _ (w : Switch) (s : State) (f : Found) (found : IsFound w.came s f) where
       (outputs : AllByRecursion (λ q. q.cell.output < s.head.ports) f.listed.items) where
     pub slack_alike : HaveSlack w s ↔ SlackStands f.listed.items f.buffered.items
     slack_alike = (
-      (λ have place t is.
-          let has = has_there f.listed.items place t is in
-          let enough = have t.key.input (length (thread_in f.listed.items place t.key.input)) t in
-          grind (arith, common_steps, input_is, cushion_is, all_of_has, at_place t.key.input f.listed.items place)),
-      (λ stands i thread c is.
+      (λ have i ahead c is.
+          let has = kept_has (of_input i) f.listed.items c (has_there _ ahead c is) in
+          let enough = have i ahead c in
+          grind (arith, common_steps, input_is, cushion_is, all_of_has, eqb-true)),
+      (λ stands i ahead c is.
           let split = cases_lt i s.head.ports in
-          let it = at_thread i f.listed.items thread c (search (arith, rules, input_is, no_input)) in
-          let has = has_there f.listed.items it.0 c it.1 in
-          let enough = stands it.0 c it.1 in grind (arith, common_steps, cushion_is, all_of_has)),
+          let there : slice_get (filter (of_input i) f.listed.items) ahead ≡ Some c =
+          search (arith, rules, input_is, no_input) in
+          let has = kept_has (of_input i) f.listed.items c (has_there _ ahead c there) in
+          let enough = stands i ahead c there in grind (arith, common_steps, cushion_is, all_of_has)),
     )
 
   -- ## Names

@@ -8,7 +8,7 @@
 -- stand by input and then by slot. It is compared with the last one of its flow, for which a place is kept. And how
 -- many cells stand ahead of each in its input's list, counted on from one cell to the next. Where an input begins,
 -- none stands ahead, since the cells before it are of earlier inputs.
-use Rattle.cq_resume.proofs.Terms.{common_steps, rules, ◌≡◌, ◌≢◌, ℕ, ◌+◌, ◌-◌, ◌<◌, ◌≤◌, ◌⊎◌, ◌↔◌, Bool, true, false, List, length, map, get_or, set, replicate, Option, None, Some, refl, inl, inr, arith, ltb, ◌*◌, IfSome, ◌&&◌, AllPairs, AllByRecursion, cases_eq, cases_lt, and_from, lt-ltb, get_or-replicate, get_or-set_other, get_or-set_same, get_or_default, get_or_past, length-replicate, get_or_read, begins_at, FlowsStand, IsNameBefore, Leaves, IsBefore, Queued, Name, length-append, slice_get, ne_eqb, get_or-take, SlackStands, cushion_in, thread_in, filter_more, get_or_from_slice_get, slice_get-get_or, key_laws, most_classes, All-from_recursion, zero, suc, AllAdjacentBelow, all_weaker}
+use Rattle.cq_resume.proofs.Terms.{common_steps, rules, ◌≡◌, ◌≢◌, ℕ, ◌+◌, ◌-◌, ◌<◌, ◌≤◌, ◌⊎◌, ◌↔◌, Bool, true, false, List, length, map, get_or, set, replicate, Option, None, Some, refl, inl, inr, arith, ltb, ◌*◌, IfSome, ◌&&◌, AllPairs, AllByRecursion, cases_eq, cases_lt, and_from, lt-ltb, get_or-replicate, get_or-set_other, get_or-set_same, get_or_default, get_or_past, length-replicate, get_or_read, begins_at, FlowsStand, IsNameBefore, Leaves, IsBefore, Queued, Name, length-append, slice_get, ne_eqb, get_or-take, SlackStands, cushion_in, thread_in, filter_more, slice_get-get_or, key_laws, most_classes, All-from_recursion, zero, suc, AllAdjacentBelow, all_weaker, [], ◌∷◌, ◌++◌, take, filter, eqb, append-nil, eqb-true, cases_Bool, eq-eqb}
 use Rattle.cq_resume.specs.Neighbours.{IsOfNeighbours}
 use Rattle.cq_base.proofs.Each.{one_there}
 use Rattle.cq_resume.proofs.Cut.{none_kept}
@@ -189,12 +189,24 @@ module _ (ports : ℕ) (xs : List Name)
 
 -- ## Threads
 
+-- a cell that passes a test stands, among those that do, behind as many as pass it before its place
+own_at : (p : Queued → Bool) (xs : List Queued) (n : ℕ) (c : Queued) → slice_get xs n ≡ Some c → p c ≡ true →
+    slice_get (filter p xs) (length (filter p (take n xs))) ≡ Some c
+own_at p [] n c is own = absurd (let P : ⊥ = cc in P)
+own_at p (x ∷ xs) zero c is own = grind (arith, common_steps)
+own_at p (x ∷ xs) (suc n) c is own = grind (arith, common_steps, own_at p xs n c)
+
+-- what stands in a list with one more behind it
+push_cases : (xs : List Queued) (y : Queued) (n : ℕ) (c : Queued) → slice_get (xs ++ y ∷ []) n ≡ Some c →
+    (slice_get xs n ≡ Some c) ⊎ ((n ≡ length xs) × (y ≡ c))
+push_cases [] y n c is = grind (arith, common_steps)
+push_cases (x ∷ xs) y n c is = grind (arith, common_steps, push_cases xs y)
+
 -- the cells before a place have slack, and so many of them are of the input of the one before it
 pub record Threads (listed buffered : List Queued) (n thread : ℕ) : Type 0 where
   pub counted : (d : Queued) → thread ≡ length (thread_in listed n (get_or listed (n - 1) d).key.input)
   pub few : thread ≤ n
-  pub stand : (place : ℕ) (t : Queued) → place < n → slice_get listed place ≡ Some t →
-      length (thread_in listed place t.key.input) < length (cushion_in buffered t)
+  pub stand : SlackStands (take n listed) buffered
 
 module _ {listed buffered : List Queued} {n thread now : ℕ} (e : Queued) {begun : Bool}
     (known : Threads listed buffered n thread)
@@ -206,8 +218,21 @@ module _ {listed buffered : List Queued} {n thread now : ℕ} (e : Queued) {begu
 
   -- one cell more, or one that has too little
   pub threads_next : now < cushion → Threads listed buffered (n + 1) (now + 1)
-  threads_next less =
-      grind (arith, common_steps, now_counted, get_or_default, filter_more, length-append, get_or_from_slice_get)
+  threads_next less = record {
+    counted = grind (arith, common_steps, now_counted, get_or_default, filter_more, length-append);
+    few = grind (arith, common_steps, known.few, at.ways);
+    stand = λ i ahead c is.
+        let p : Queued → Bool = λ q. eqb q.key.input i in
+        let more = rw (filter_more p listed n e at.inside) at is in
+        grind (arith, common_steps, now_counted, push_cases, known.stand i ahead c, append-nil, eqb-true, cases_Bool);
+  }
 
   pub threads_stop : cushion ≤ now → (false ≡ true) ↔ SlackStands listed buffered
-  threads_stop short = grind (arith, common_steps, now_counted, slice_get-get_or, at)
+  threads_stop short =
+      let here = get_or listed n e in
+      let its : Queued → Bool = λ q. eqb q.key.input here.key.input in
+      let own = own_at its listed n here (slice_get-get_or listed n e at.inside) (eq-eqb _ _ refl) in
+      let counted = now_counted in
+      let few = λ (stands : SlackStands listed buffered).
+      stands here.key.input (length (thread_in listed n here.key.input)) here own in
+      ((λ no. absurd (let P : ⊥ = cc in P)), (λ stands. absurd (let less = few stands in omega (arith, counted))))

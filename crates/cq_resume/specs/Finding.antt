@@ -128,10 +128,11 @@ cushion_in buffered t = filter (λ o. o.cell.output == t.cell.output && is_befor
 abbrev pub thread_in : List Queued → ℕ → ℕ → List Queued
 thread_in listed place input = filter (λ o. o.key.input == input) (take place listed)
 
--- there are more cells in the cushion than ahead in the list
+-- of each cell in the list of an input there are more in the cushion than ahead in that list
 abbrev pub SlackStands : List Queued → List Queued → Type 0
-SlackStands listed buffered = (place : ℕ) (t : Queued) → slice_get listed place ≡ Some t →
-    length (thread_in listed place t.key.input) < length (cushion_in buffered t)
+SlackStands listed buffered =
+    (input ahead : ℕ) (t : Queued) → slice_get (filter (λ o. o.key.input == input) listed) ahead ≡ Some t →
+    ahead < length (cushion_in buffered t)
 
 -- ## Flows
 

@@ -1,4 +1,4 @@
-use Rattle.cq_resume.proofs.Terms.{slice_get_within, common_steps, rules, arith, Queued}
+use Rattle.cq_resume.proofs.Terms.{take_all, common_steps, rules, arith, Queued}
 use Rattle.cq_resume.proofs.Lanes.{At, threads_next, threads_stop}
 use Rattle.cq_resume.proofs.slack.have_slack.Goals.{After-cushion_of-cushion}
 use Rattle.cq_resume.proofs.slack.have_slack.Goals as goal
@@ -19,4 +19,6 @@ returns-then-cushion-thread c =
     search (arith, rules, threads_stop, here (goal.at.returns-then-cushion-thread c).After-cushion_of-cushion)
 
 pub returns : goal.returns
-returns c = grind (arith, common_steps, slice_get_within, c.places.invariant.stand)
+returns c =
+    let all = rw (take_all c.places.at c.args.listed.now (omega arith)) at c.places.invariant.stand in
+    search (arith, rules)
