@@ -397,6 +397,9 @@ module _ (t : Tables) (c : Scheduled) (s : State) (f : Found) (k : AreFoundIn t 
           let all = two_more (switch_of t c) s 5 packets_known _ _ (flows_is stand.0) floors leave in
           search (arith, rules, all 2, all 3, all 4, all 5, all 6)
 
+-- what is asked of a state whose cells are to be found
+pub ruleset judge_finds = (length-map, inputs_low)
+
 -- what a found state is judged by
 pub ruleset judge_asks = (outputs_low, few_ports, names_for, ports_are, cells_for, err_from_is_err_and)
 

@@ -106,6 +106,7 @@ fn judge_found(
 
 /// The cells that a state of this shape names, and what those come to that it does not name. It is refused for the
 /// first clause that does not hold.
+#[tactic(auto, using(crate::proofs::Judging::judge_finds))]
 pub fn judge(
     alloc: Global,
     state: &State,
