@@ -8,7 +8,6 @@ pub mod FabricOpening
 pub mod FabricSteps
 pub mod OnceASlot
 pub mod ResumedCounts
-pub mod NamedFlow
 pub mod ResumedWhole
 pub mod Steps
 pub mod OfPackets

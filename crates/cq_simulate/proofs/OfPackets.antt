@@ -1,7 +1,7 @@
 -- What arrives at an input are its packets, one after another, each from its first cell to its last. Cell 0 of a
 -- packet is its first cell and no other is, and the next packet has the next number. At what is no input nothing
 -- arrives.
-use Rattle.cq_simulate.proofs.Terms.{get_or_past, common_steps, rules, cond, filter, filter-append, Bool, ◌≡◌, ℕ, zero, suc, ◌+◌, ◌<◌, ◌≤◌, List, [], ◌∷◌, ◌++◌, length, map, refl, arith, flat_map, range_with_len, cases_lt, ne_eqb, Arrival, arriving, traffic_of, Cell, cells_above, at_input, traffic_is, arrivals, arrivals_at, arrivals_of, cell_of, cells, IsTraffic, come_in_order, AreOfPackets, cells_at, Captured, AreTables, ports_of, Tables, arrivals_for, map-append, true, AllByRecursion, flat_map-append, ◌&&◌, ◌==◌, Departure, came_in_flow, is_from, packet_at, packets_of, route, LeftInOrder, LeftInPackets, of_packet, filter_none, all_weaker, filter_both, filter_agree, cases_eq, min}
+use Rattle.cq_simulate.proofs.Terms.{get_or_past, common_steps, rules, cond, filter, filter-append, Bool, ◌≡◌, ℕ, zero, suc, ◌+◌, ◌<◌, ◌≤◌, List, [], ◌∷◌, ◌++◌, length, map, refl, arith, flat_map, range_with_len, cases_lt, ne_eqb, Arrival, arriving, traffic_of, Cell, cells_above, at_input, traffic_is, arrivals, arrivals_at, arrivals_of, cell_of, cells, IsTraffic, come_in_order, AreOfPackets, cells_at, Captured, AreTables, ports_of, Tables, arrivals_for, map-append, true, flat_map-append, ◌&&◌, ◌==◌, Departure, came_in_flow, is_from, packet_at, packets_of, route, LeftInOrder, LeftInPackets, of_packet, filter_none, all_weaker, filter_both, filter_agree, cases_eq, min}
 use Rattle.std.proofs.lemmas.Simd.{map-map}
 use Rattle.cq_simulate.proofs.Runnable.{later_rise}
 use Rattle.cq_simulate.proofs.Tallies.{one_is}
@@ -57,6 +57,9 @@ module _ (ports classes : ℕ) (came : List Arrival) (traffic : IsTraffic ports 
   none_from a zero = refl
   none_from a (suc n) = grind (arith, common_steps, arrivals_for ports classes came a traffic, none_from (a + 1) n)
 
+  pub none_at : filter (is_from i) came ≡ []
+  none_at = search (rules, traffic, filter_none, all_weaker (IsInRange ports classes), ne_eqb)
+
 pub packets_come : (t : Tables) (captures : List (List Captured)) (input : ℕ) → AreTables t →
     length captures ≡ ports_of t.setup → AreOfPackets 0 (cells_at input (traffic_of (arrivals t captures)))
 unfolding traffic_of
@@ -99,12 +102,6 @@ module _ (t : Tables) (captures : List (List Captured)) (input : ℕ) where
   parts_of gs [] = refl
   parts_of gs (k ∷ ks) = grind (arith, common_steps, by_packet, flat_map-append, parts_of gs ks)
 
-  -- none comes to what is no input
-  pub none_at : (ports classes : ℕ) (came : List Arrival) → AllByRecursion (IsInRange ports classes) came →
-      ports ≤ input →
-      filter (is_from input) came ≡ []
-  none_at ports classes came all past = search (rules, filter_none, all_weaker, ne_eqb)
-
   -- of the cells that come to the input those of a flow
   abbrev in_flow : ℕ → ℕ → Cell → Bool
   in_flow c j cell = cell.output == j && cell.class == c
@@ -119,6 +116,9 @@ module _ (t : Tables) (captures : List (List Captured)) (input : ℕ) where
     comes : filter (is_from input) (arrivals t captures) ≡ arrivals_at t captures input
     unfolding arrivals_at
     comes = grind (arith, common_steps, at_input, none_at, traffic_is, get_or_past, cases_lt)
+
+    pub line_packets : AreOfPackets 0 (map (λ (x : Arrival). x.cell) (filter (is_from input) (arrivals t captures)))
+    line_packets = rw comes (at_line t captures input)
 
     pub flow_is : (c j : ℕ) → came_in_flow input c j (arrivals t captures)
         ≡ flat_map (packet_cells t captures input) (packets_in c j)

@@ -2,13 +2,235 @@
 -- state says was sent, and then what waits in it, are the arrivals that it names, in their order. What waits leaves
 -- first, as it does from the list of the ideal switch beside it, and then what is admitted of what comes. A packet
 -- that the state names is named with all its cells, and goes on as it began.
-use Rattle.cq_simulate.proofs.Terms.{rules, ◌≡◌, ℕ, ◌+◌, ◌<◌, ◌≤◌, Bool, not, List, [], ◌∷◌, ◌++◌, length, filter, Option, refl, ap, ◌∙◌, ⊎_elim, arith, common_steps, All, AllByRecursion, cases_lt, append_assoc, map-append, take_all, filter-append, get_or-map-range_with_len, Arrival, Cell, traffic_is, arrivals, schedule_of, IsTraffic, come_in_order, comes_at_input, AreOfClasses, present, flow_came, no_port, is_of_flow, of_flow, shown, is_run_of, comes_from, line_at, rest_of, Marked, arriving_from, IsRunnable, came_in_flow, comes_in_flow, left_in_flow, departures_of, IdealState, LimitedRan, AreOfPackets, cells_at, agrees_of, empty_together, Agrees, Fabric, ideal_of, LimitedRunsAlike, LimitedFabricRun, LimitedRecord, admissions_in, slots_in, gone_in, Captured, list_of, IsInputBest, machine_at, firsts_at, frozen_told, is_refused, latest, marks_told, sent_told, taken_of, IsResumed, Kept, RunsOn, IsSound, HasShape, Switch, switch_of, fabric_told, is_named, named_in, Taken, EachPair, GoesOn, goes_on, AreTables, classes_of, ports_of, Tables, openings_of, LeaveInOrder, LeaveWhole, LeftInOrder, CanBeTakenUp, IsInRange, State, slots_fit, all_filter, all_in_range, class_in_slot, none_came, flow_on, whole_on, StandAt, stand_in, best_act_alike, most_ports, filter_both, filter_agree, of_images}
+use Rattle.cq_simulate.proofs.Terms.{common_steps, rules, map-append, ◌≡◌, ℕ, ◌<◌, Bool, true, false, List, [], ◌∷◌, ◌++◌, length, map, filter, Option, Some, refl, sym, ap, ◌∙◌, arith, ◌⊎◌, ◌+◌, ◌≤◌, not, cond, fold, ◌&&◌, ◌==◌, All, slice_index_or, nat_lt, if◌then◌else◌, AllByRecursion, AllPairs, and_from, and_parts, cases_lt, eq-eqb, eqb-true, lt-ltb, ltb-true, cases_eq, cond-false, cond-true, le-ltb, ne_eqb, Arrival, IsBefore, Departure, Queued, IsLater, IsTraffic, comes_in_flow, leaves_in_flow, left_in_flow, is_kind, shown, HasWaited, Stands, line_at, rest_of, Agrees, Fabric, ideal_of, list_of, departure_of, sent_told, firsts_at, is_refused, latest, IsSound, OfOneFlow, IsBelowFloor, AllNamed, AreWholePackets, NoneNamed, HasShape, Switch, HasLimit, arriving_cell, class_of, fabric_told, is_ahead, is_named, key_of, named_in, output_of, queued_in, queued_of, packet_before, EachPair, each_pair, buffer_is, comes, found_at, in_buffer, in_list, in_order, is_cell_of, its_output, its_slot, list_is, of_traffic, ports_are, queued_differ, queued_named, some_cell, Has, all_from_has, all_of_has, has_cases, has_image, has_kept, has_left, has_right, image_has, kept_has, pair_of_has, IsInRange, Sent, State, NoLater, all_weaker, Machine, machine_at, AreOfPackets, key_laws, HasFor, all_has, looked_up, pairs_kept, pairs_kept_with, pairs_looked_up, pairs_with, Named, any_has, has_any, any_alike, pairs_mapped, pairs_joined, has_looked_up, same_pairs, filter_none, filter_all, ⊎_elim, append_assoc, take_all, filter-append, get_or-map-range_with_len, Cell, traffic_is, arrivals, schedule_of, comes_at_input, AreOfClasses, present, flow_came, no_port, is_of_flow, of_flow, is_run_of, comes_from, Marked, arriving_from, IsRunnable, came_in_flow, departures_of, IdealState, LimitedRan, cells_at, agrees_of, empty_together, LimitedRunsAlike, LimitedFabricRun, LimitedRecord, admissions_in, slots_in, gone_in, Captured, IsInputBest, frozen_told, marks_told, taken_of, IsResumed, Kept, RunsOn, switch_of, Taken, GoesOn, goes_on, AreTables, ports_of, Tables, openings_of, LeaveInOrder, LeaveWhole, LeftInOrder, CanBeTakenUp, slots_fit, all_filter, all_in_range, class_in_slot, none_came, flow_on, whole_on, StandAt, stand_in, best_act_alike, most_ports, filter_both, filter_agree, of_images}
+use Rattle.std.proofs.lemmas.Simd.{map-map}
 use Rattle.cq_ideal.proofs.RestAtInput.{cells_of}
-use Rattle.cq_simulate.proofs.NamedFlow.{line_rises, told_flow, stands_there, IsEarlier, early_of, is_taken, packets_behind, parted_at, taken_before, taken_behind, next_after}
-use Rattle.cq_simulate.proofs.OfPackets.{as_packets, none_at, none_from, packets_come}
+use Rattle.cq_simulate.proofs.OfPackets.{as_packets, line_packets, none_at, none_from}
 use Rattle.cq_simulate.proofs.Runnable.{right_classes, runnable}
 use Rattle.cq_simulate.proofs.TakenUp.{machines_many}
 use Rattle.cq_simulate.proofs.Tallies.{filter_images, filter_same}
+
+-- Of each flow the cells that a sound state names, those that were sent and then those that wait, are the arrivals
+-- that it names before its next slot, in their order. Both lists rise by the slots in which their cells arrived, and
+-- have the same cells: of a flow there arrives one cell in a slot at most.
+-- What waits for an output in a sound state stands there as in a run: in the order of the keys, each cell with the
+-- level of its class and a rank below the floor, and each arrived in an earlier slot.
+
+-- Which packets of an input a run that goes on from a sound state has taken. Of those that began before the next slot
+-- the state says it, with one answer for all cells that arrived; of the others the run does. Where a packet goes on
+-- over the slot both say the same: it is the last that began, and the mark of the input is up exactly where the state
+-- does not name it.
+
+-- The arrivals at one input, packet after packet, and a part of them. The number of a packet is no less than those of
+-- the packets ahead of it, and the first cell of each is there. And the last of some arrivals, by slot, is no earlier
+-- than any of them.
+
+abbrev pub packet : Arrival → ℕ
+packet a = a.cell.id.packet
+
+-- the number from which packets begin behind these cells
+unfoldable pub next_after : ℕ → List Arrival → ℕ
+next_after n [] = n
+next_after n (a ∷ line) = next_after (packet a + 1) line
+
+-- both parts are of packets, the second from there on
+pub of_parts : (n : ℕ) (xs ys : List Arrival) → AreOfPackets n (cells_of (xs ++ ys)) →
+    AreOfPackets n (cells_of xs) × AreOfPackets (next_after n xs) (cells_of ys)
+unfolding next_after
+of_parts n [] ys are = (tt, are)
+of_parts n (x ∷ xs) ys are = let rest = of_parts (packet x + 1) xs ys are.1 in ((are.0, rest.0), rest.1)
+
+-- no number is below that from which they begin, and each is below that from which the next one begins
+pub within : (m n : ℕ) (xs : List Arrival) → m ≤ n → AreOfPackets n (cells_of xs) →
+    (n ≤ next_after n xs) × AllByRecursion (λ a. (m ≤ packet a + 1) × (packet a + 1 ≤ next_after n xs)) xs
+unfolding next_after
+within m n [] le are = (omega arith, tt)
+within m n (x ∷ xs) le are = grind (arith, common_steps, within m (packet x + 1) xs)
+
+-- slots and packets rise together
+abbrev pub Rises : Arrival → Arrival → Type 0
+Rises x y = (x.slot < y.slot) × (packet x ≤ packet y)
+
+pub both_rise : (n : ℕ) (xs : List Arrival) → EachPair (λ x y. x.slot < y.slot) xs → AreOfPackets n (cells_of xs) →
+    EachPair Rises xs
+both_rise n [] rising are = tt
+both_rise n (x ∷ xs) rising are =
+    grind (arith, common_steps, within (packet x + 1), all_from_has, all_of_has, both_rise (packet x + 1) xs rising.1)
+
+-- each of another packet than the one that goes on is of one that begins: its first cell is there
+pub begun : (n : ℕ) (xs : List Arrival) → AreOfPackets n (cells_of xs) → (a : Arrival) → Has xs a →
+    (packet a + 1 ≡ n → ⊥) →
+    (f : Arrival) × Has xs f × (f.cell.id.index ≡ 0) × (packet f ≡ packet a)
+begun n [] are a has other = absurd has
+begun n (x ∷ xs) are a has other = search (arith, rules, eqb-true, cases_eq, begun (packet x + 1) xs are.1 a)
+
+-- ## The last by slot
+
+abbrev later_one : Arrival → Arrival → Arrival
+later_one a b = if nat_lt a.slot b.slot then b else a
+
+pub record IsLatest (xs : List Arrival) (g : Arrival) : Type 0 where
+  pub has : Has xs g
+  pub after : (y : Arrival) → Has xs y → y.slot ≤ g.slot
+
+same_slot : {x y : Arrival} → x ≡ y → x.slot ≡ y.slot
+same_slot same = ap (λ (a : Arrival). a.slot) same
+
+latest_on : (x : Arrival) (xs : List Arrival) → IsLatest (x ∷ xs) (fold later_one x xs)
+latest_on x [] = grind (arith, common_steps, same_slot)
+latest_on x (z ∷ zs) =
+    let it = latest_on (later_one x z) zs in
+    grind (arith, common_steps, same_slot, lt-ltb, le-ltb, cases_lt, it.after (later_one x z))
+
+pub latest_is : (xs : List Arrival) (y : Arrival) → Has xs y → (g : Arrival) × (latest xs ≡ Some g) × IsLatest xs g
+latest_is [] y has = absurd has
+latest_is (x ∷ xs) y has = (fold later_one x xs, refl, latest_on x xs)
+
+-- ## Before a slot, and from it on
+
+abbrev pub is_early : ℕ → Arrival → Bool
+is_early next a = nat_lt a.slot next
+
+abbrev pub early_of : ℕ → List Arrival → List Arrival
+early_of next line = filter (is_early next) line
+
+abbrev pub IsEarlier : Arrival → Arrival → Type 0
+IsEarlier a b = a.slot < b.slot
+
+pub parted_at : (next : ℕ) (line : List Arrival) → EachPair IsEarlier line →
+    line ≡ early_of next line ++ rest_of next line
+parted_at next [] rising = refl
+parted_at next (a ∷ line) rising =
+    search (rules, lt-ltb, all_weaker, filter_none, filter_all, le-ltb, cases_lt, parted_at next line rising.1)
+
+-- ## By number
+
+module _ (named : Arrival → Bool) (taken : ℕ → Bool) where
+  -- whether a packet is named, if one of these cells is of it, and otherwise whether it is taken
+  unfoldable pub named_or_taken : List Arrival → ℕ → Bool
+  named_or_taken [] p = taken p
+  named_or_taken (a ∷ line) p = cond (packet a == p) (named a) (named_or_taken line p)
+
+  pub as_named : (line : List Arrival) →
+      ((a b : Arrival) → Has line a → Has line b → packet a ≡ packet b → named a ≡ named b) → (b : Arrival) →
+      Has line b → named_or_taken line (packet b) ≡ named b
+  unfolding named_or_taken
+  as_named [] alike b has = absurd has
+  as_named (a ∷ line) alike b has = search (rules, cond-true, eq-eqb, cond-false, ne_eqb, cases_eq, as_named line)
+
+  pub as_taken : (line : List Arrival) (p : ℕ) →
+      ((a : Arrival) → Has line a → packet a ≡ p → named a ≡ taken p) → named_or_taken line p ≡ taken p
+  unfolding named_or_taken
+  as_taken [] p same = refl
+  as_taken (a ∷ line) p same = grind (arith, common_steps, as_taken line p)
+
+-- ## What a sound state says
+
+module _ (w : Switch) (s : State) (i : ℕ) where
+  abbrev pub line : List Arrival
+  line = line_at i w.came
+
+  abbrev pub before : List Arrival
+  before = early_of s.head.next line
+
+  abbrev pub behind : List Arrival
+  behind = rest_of s.head.next line
+
+  abbrev pub is_told : Arrival → Bool
+  is_told a = is_named (named_in s) a
+
+  -- the number from which packets begin from the slot on
+  abbrev pub begin_from : ℕ
+  begin_from = next_after 0 before
+
+  module _ (whole : AreWholePackets w s) (rising : EachPair IsEarlier line) (packets : AreOfPackets 0 (cells_of line))
+    where
+      packets_parted : AreOfPackets 0 (cells_of before) × AreOfPackets begin_from (cells_of behind)
+      packets_parted = of_parts 0 before behind (rw (parted_at s.head.next line rising) at packets)
+
+      pub packets_behind : AreOfPackets begin_from (cells_of behind)
+      packets_behind = packets_parted.1
+
+      -- what an arrival of the first part is
+      record OfLine (a : Arrival) : Type 0 where
+        pub came : Has w.came a
+        pub input : a.cell.id.input ≡ i
+        pub early : a.slot < s.head.next
+
+      of_line : (a : Arrival) → Has before a → OfLine a
+      of_line a has = grind (arith, common_steps, kept_has, eqb-true, ltb-true)
+
+      -- a cell of the same packet that came before the slot is among those of which the state is asked
+      in_packet : (f a : Arrival) → OfLine f → OfLine a → packet f ≡ packet a →
+          Has (packet_before w.came s.head.next f) a
+      in_packet f a first of same = search (rules, has_kept, and_from, a.cell.id.input, packet, eq-eqb, lt-ltb)
+
+      -- and all of those are named, or none is
+      abbrev OneAnswer : Arrival → Type 0
+      OneAnswer f = (a : Arrival) → Has (packet_before w.came s.head.next f) a → is_told a ≡ is_told f
+
+      one_answer : (f : Arrival) → Has before f → f.cell.id.index ≡ 0 → OneAnswer f
+      one_answer f has begins =
+          let first = of_line f has in
+          let all = packet_before w.came s.head.next f in
+          let said = all_has (λ (a : Arrival). a.cell.id.index ≡ 0 → a.slot < s.head.next
+          → AllNamed s (packet_before w.came s.head.next a)
+          ⊎ (NoneNamed s (packet_before w.came s.head.next a) × HasLimit w.limits a.cell.output)) w.came f whole
+          first.came
+          begins first.early in
+          let is = λ (yes_ : Bool). all_has (λ (b : Arrival). is_told b ≡ yes_) all in
+          grind (arith, common_steps, is true, is false, in_packet f f first first)
+
+      pub alike : (a b : Arrival) → Has before a → Has before b → packet a ≡ packet b → is_told a ≡ is_told b
+      alike a b first second same =
+          let it = begun 0 before packets_parted.0 a first (λ none. omega arith) in
+          search (arith, rules, one_answer it.0, of_line, in_packet)
+
+      rise : EachPair Rises before
+      rise = both_rise 0 before (pairs_kept IsEarlier (is_early s.head.next) line rising) packets_parted.0
+
+      of_first : (a : Arrival) → Has (firsts_at w.came s i) a → Has before a × (a.cell.id.index ≡ 0)
+      of_first a has = grind (arith, common_steps, kept_has, and_parts, eqb-true, ltb-true, has_kept)
+
+      -- the packet that goes on is named exactly where the mark is down
+      pub mark_says : (a : Arrival) → Has before a → packet a + 1 ≡ begin_from →
+          not (is_refused w.came s (latest (firsts_at w.came s i))) ≡ is_told a
+      mark_says a has last =
+          let it = begun 0 before packets_parted.0 a has (λ none. omega arith) in
+          let f = it.0 in
+          let head = of_line f it.1 in
+          let there : Has (firsts_at w.came s i) f = search (arith, rules, has_kept, and_from, eq-eqb, lt-ltb) in
+          let found = latest_is (firsts_at w.came s i) f there in
+          let g = found.0 in
+          let first = of_first g found.2.has in
+          let high = all_of_has _ before g (within 0 0 before (omega arith) packets_parted.0).1 first.0 in
+          let low : packet f ≤ packet g = search (arith, rules, packet, pair_of_has, rise, found.2.after f there) in
+          search (arith, rules, any_alike is_told (is_told g), of_line, in_packet, one_answer g, alike g a)
+
+      -- ## Together
+
+      module _ (taken : ℕ → Bool)
+          (goes_on : (p : ℕ) → p + 1 ≡ begin_from →
+          taken p ≡ not (is_refused w.came s (latest (firsts_at w.came s i)))) where
+        abbrev pub is_taken : ℕ → Bool
+        is_taken = named_or_taken is_told taken before
+
+        pub taken_before : AllByRecursion (λ a. is_taken (packet a) ≡ is_told a) before
+        taken_before = grind (arith, common_steps, all_from_has, packet, as_named, alike)
+
+        pub taken_behind : AllByRecursion (λ b. is_taken (packet b) ≡ taken (packet b)) behind
+        taken_behind =
+            let high = within 0 0 before (omega arith) packets_parted.0 in
+            search (arith, rules, within begin_from, packets_behind, all_from_has, all_of_has, as_taken, mark_says)
+
+-- ## Arrivals that rise by slot
+
+arrival_is : (a b : Arrival) → a.slot ≡ b.slot → a.cell ≡ b.cell → a ≡ b
+arrival_is a b e g = λ k. record { slot = e k; cell = g k }
+
+-- the arrivals at an input rise
+pub line_rises : (came : List Arrival) → AllPairs IsLater came → (i : ℕ) → EachPair IsEarlier (line_at i came)
+line_rises came later i = search (arith, rules, pairs_kept_with IsLater IsEarlier, each_pair, eqb-true)
 
 -- ## Cells of arrivals
 
@@ -21,216 +243,407 @@ no_first : (xs ys : List Cell) → xs ++ ys ≡ [] → xs ≡ []
 no_first [] ys none = refl
 no_first (x ∷ xs) ys none = absurd (let P : ⊥ = cc in P)
 
--- ## A run that goes on
+-- ## One flow
 
-module _ (t : Tables) (captures : List (List Captured)) (are : AreTables t) (many : length captures ≡ ports_of t.setup)
-    (s : State) (in_range : IsInRange s) (shape : HasShape (switch_of t (schedule_of t captures)) s)
-    (sound : IsSound (switch_of t (schedule_of t captures)) s) (kept : Kept)
-    (resumed : IsResumed (switch_of t (schedule_of t captures)) (taken_of (switch_of t (schedule_of t captures)) s)
-    kept) where
-  abbrev pub w : Switch
-  w = switch_of t (schedule_of t captures)
+-- the arrival of a queued cell
+abbrev pub as_arrival : Queued → Arrival
+as_arrival q = record { slot = q.key.slot; cell = q.cell }
 
-  abbrev pub came : List Arrival
-  came = arrivals t captures
+none_later : (xs : List Queued) → EachPair IsBefore xs → EachPair NoLater xs
+none_later [] rising = tt
+none_later (x ∷ xs) rising = grind (arith, common_steps, all_weaker, key_laws.one_way, none_later xs rising.1)
 
-  abbrev pub ports : ℕ
-  ports = ports_of t.setup
+module _ (w : Switch) (s : State) (in_range : IsInRange s) (shape : HasShape w s) (sound : IsSound w s)
+    (traffic : IsTraffic (length w.machines) w.classes w.came) where
+  abbrev f : Fabric
+  f = fabric_told w.came s
 
-  abbrev pub next : ℕ
+  abbrev next : ℕ
   next = s.head.next
 
-  abbrev pub f : Fabric
-  f = fabric_told came s
+  abbrev names : List Named
+  names = named_in s
 
-  comes_as : IsTraffic ports (classes_of t.setup) came
-  comes_as = traffic_is t captures are many
-
-  traffic : IsTraffic (length w.machines) w.classes came
-  traffic = rw (machines_many t) comes_as
-
-  runs : IsRunnable w.machines ports (openings_of t.setup) came
-  runs = runnable t.setup came are.setup comes_as
-
-  -- ## Both switches
+  abbrev named : Arrival → Bool
+  named a = is_named names a
 
   goes : GoesOn w (frozen_told w s)
   goes = goes_on w s in_range shape sound traffic
-
-  many_are : (length f.inputs ≡ ports) × (length f.ranks ≡ ports)
-  unfolding frozen_told fabric_told
-  many_are = (goes.ports.lists ∙ machines_many t, goes.ports.ranks ∙ machines_many t)
 
   agrees : Agrees next f (ideal_of f)
   unfolding frozen_told fabric_told
   agrees = agrees_of next f goes.sound
 
-  abbrev start : Marked Fabric
-  start = record { state = f; marks = marks_told came s }
+  module _ (i c j : ℕ) where
+    abbrev t : Named → Option Queued
+    t n = queued_of w.came n
 
-  abbrev beside : Marked IdealState
-  beside = record { state = ideal_of f; marks = marks_told came s }
+    abbrev pub there : List Queued
+    there = list_of (ideal_of f).lists j
 
-  abbrev rs : List LimitedRecord
-  rs = resumed.records
+    -- a cell that waits for an output is named, and its name tells it
+    pub waits_there : (q : Queued) → Has there q →
+        (n : Named) × Has (queued_in s) n × (t n ≡ Some q) × (q.cell.output ≡ j)
+    waits_there q has =
+        let buffered = in_buffer w s in_range shape sound traffic in
+        search (arith, rules, buffered, has_left, has_right, agrees.same, in_list w s in_range shape sound traffic)
 
-  abbrev slots : List (List (Option Cell))
-  slots = arriving_from came next (length rs)
+    abbrev leaves : Departure → Bool
+    leaves d = leaves_in_flow i c j d
 
-  runs_on : RunsOn w next start rs resumed.end
-  unfolding frozen_told fabric_told
-  runs_on = resumed.runs
+    -- the cells of the flow that were sent, and those that wait
+    abbrev gone : List Queued
+    gone = map (λ (d : Departure). d.queued) (filter leaves (sent_told w.came s))
 
-  fabric_runs : LimitedFabricRun IsInputBest w.limits w.machines next slots start rs resumed.end
-  fabric_runs = rw (take_all (length rs) rs (omega arith)) at runs_on.after
+    abbrev waiting : List Queued
+    waiting = filter (is_kind i c) there
 
-  alike : LimitedRunsAlike w.limits w.machines next slots beside rs resumed.end
-  alike = (best_act_alike w.limits w.machines).run next (classes_of t.setup) slots start resumed.end beside rs
-      (record { states = agrees; marks = refl }) (search (arith, rules, many_are, slots_fit, comes_as)) fabric_runs
+    -- a named cell of the flow
+    record InFlow (n : Named) (q : Queued) : Type 0 where
+      pub is : t n ≡ Some q
+      pub output : q.cell.output ≡ j
+      pub kind : is_kind i c q ≡ true
 
-  abbrev ran : LimitedRan
-  ran = record { admissions = admissions_in rs; gone = gone_in (slots_in rs); after = alike.after }
+    sent_in_flow : (d : Sent) (x : Departure) → departure_of w.came d ≡ Some x → leaves x ≡ true →
+        InFlow d.cell x.queued
+    sent_in_flow d x is passes = grind (arith, common_steps, and_parts, x.output, is_kind, eqb-true)
 
-  over : All (λ cells. cells ≡ []) alike.after.state.lists
-  over = (empty_together (next + length slots) _ _ alike.agrees.states).0 runs_on.empty
+    was_sent : (q : Queued) → Has gone q → (d : Sent) × Has s.sent d × InFlow d.cell q
+    was_sent q has = grind (arith, common_steps, image_has, kept_has, looked_up, sent_in_flow)
 
-  stand : AllByRecursion (StandAt 0) slots
-  unfolding arriving_from
-  stand = stand_in came next (length rs)
+    waits : (q : Queued) → Has waiting q → (n : Named) × Has (queued_in s) n × InFlow n q
+    waits q has = search (rules, kept_has, is_kind, waits_there)
 
-  of_classes : (j : ℕ) → AllByRecursion (λ cells. AreOfClasses (machine_at w.machines j) j (present cells)) slots
-  unfolding arriving_from
-  of_classes j = all_in_range (λ cells. AreOfClasses (machine_at w.machines j) j (present cells)) came next
-      (length rs) (class_in_slot w.machines ports j came most_ports refl runs.for_switch)
+    -- what its name is
+    name_in_flow : (n : Named) (q : Queued) → InFlow n q →
+        (n.input ≡ i) × (output_of w.came n ≡ j) × (class_of w.came n ≡ c)
+    name_in_flow n q of =
+        search (arith, rules, of_traffic w s in_range shape sound traffic n q of.is, its_output, eqb-true)
 
-  -- ## At one input
+    one_flow : (m n : Named) (q r : Queued) → InFlow m q → InFlow n r → OfOneFlow w.came m n
+    one_flow m n q r first second = let a = name_in_flow m q first in search (arith, rules, name_in_flow n r second)
 
-  module _ (i : ℕ) where
-    abbrev line : List Arrival
-    line = line_at i came
+    slot_is : (n : Named) (q : Queued) → InFlow n q → q.key.slot ≡ n.slot
+    slot_is n q of = its_slot w s in_range shape sound traffic n q of.is
 
-    abbrev early : List Arrival
-    early = early_of next line
+    -- ## They rise
 
-    abbrev late : List Arrival
-    late = rest_of next line
+    abbrev Earlier : Queued → Queued → Type 0
+    Earlier q r = q.key.slot < r.key.slot
 
-    abbrev named : Arrival → Bool
-    named a = is_named (named_in s) a
+    -- of two departures of the flow
+    abbrev EarlierThere : Departure → Departure → Type 0
+    EarlierThere x y = leaves x ≡ true → leaves y ≡ true → Earlier x.queued y.queued
 
-    no_line : ports ≤ i → line ≡ []
-    no_line past = none_at t captures i ports (classes_of t.setup) came comes_as.in_range past
+    abbrev InTurn : Sent → Sent → Type 0
+    InTurn d e = OfOneFlow w.came d.cell e.cell → d.cell.slot < e.cell.slot
 
-    -- all its cells are those of packets, and those that come from the slot on are the late ones
-    line_is : AreOfPackets 0 (cells_of line) × (cells_at i slots ≡ cells_of late)
+    gone_rise : EachPair Earlier gone
+    gone_rise =
+        let turn = pairs_looked_up (departure_of w.came) InTurn EarlierThere in
+        let kept = pairs_kept_with EarlierThere (λ (x y : Departure). Earlier x.queued y.queued) leaves in
+        search (arith, rules, pairs_mapped, kept, turn, sent_in_flow, one_flow, slot_is, each_pair)
+
+    -- of two that wait the first arrived first
+    abbrev Ahead : Named → Named → Type 0
+    Ahead a b = OfOneFlow w.came a b → a.slot < b.slot → is_ahead a b ≡ true
+
+    ahead : (a b : Named) → Has (queued_in s) a → Has (queued_in s) b → Ahead a b
+    ahead a b first second =
+        all_has (Ahead a) (queued_in s) b
+        (all_has (λ (m : Named). All (Ahead m) (queued_in s)) (queued_in s) a sound.flows.queued first) second
+
+    one_name : (a b : Named) → Has (queued_in s) a → Has (queued_in s) b → a.slot ≡ b.slot → a.input ≡ b.input → a ≡ b
+    one_name a b first second slots inputs = grind (arith, common_steps, pair_of_has, queued_differ)
+
+    waits_earlier : (q r : Queued) → Has waiting q → Has waiting r → IsBefore q r → Earlier q r
+    waits_earlier q r first second before =
+        let a = waits q first in
+        let b = waits r second in
+        let low = slot_is a.0 q a.2 in
+        let high = slot_is b.0 r b.2 in
+        let back : r.key.slot < q.key.slot → IsBefore r q = λ less. search (arith, rules, in_order, ahead, one_flow) in
+        let same : q.key.slot ≡ r.key.slot → q ≡ r = λ slots.
+        let inputs = (name_in_flow a.0 q a.2).0 ∙ sym (name_in_flow b.0 r b.2).0 in
+        let names = one_name a.0 b.0 a.1 b.1 (omega arith) inputs in cc in
+        grind (arith, common_steps, back, same, cases_lt, key_laws.one_way, key_laws.never_itself)
+
+    waiting_rise : EachPair Earlier waiting
+    waiting_rise =
+        let rise = pairs_with IsBefore Earlier (λ (q : Queued). Has waiting q) in
+        search (arith, rules, rise, waits_earlier, all_from_has, pairs_kept IsBefore, agrees.rising)
+
+    -- what was sent arrived before what waits
+    abbrev After : Named → Named → Type 0
+    After m n = OfOneFlow w.came m n → m.slot < n.slot
+
+    sent_earlier : (q r : Queued) → Has gone q → Has waiting r → Earlier q r
+    sent_earlier q r first second =
+        let a = was_sent q first in
+        let all = all_has (λ (d : Sent). All (After d.cell) (queued_in s)) s.sent a.0 sound.flows.after a.1 in
+        search (arith, rules, one_flow, slot_is, all_has (After a.0.cell) (queued_in s), waits r)
+
+    told_rise : EachPair IsEarlier (map as_arrival (gone ++ waiting))
+    told_rise = search (rules, pairs_mapped, IsEarlier, pairs_joined, gone_rise, waiting_rise, sent_earlier)
+
+    -- ## They are the named arrivals
+
+    -- the arrivals of the flow before the slot, of which these are named
+    abbrev pub told : List Arrival
+    told = filter named (filter (comes_in_flow i c j) (before w s i))
+
+    record IsOne (x : Arrival) : Type 0 where
+      pub came : Has w.came x
+      pub early : x.slot < next
+      pub flow : comes_in_flow i c j x ≡ true
+      pub own : named x ≡ true
+
+    abbrev is_name_of : Arrival → Named → Bool
+    is_name_of x n = n.slot == x.slot && n.input == x.cell.id.input
+
+    one_of_names : (n : Named) (q : Queued) → Has names n → InFlow n q → IsOne (as_arrival q)
+    one_of_names n q has of =
+        let it = found_at w.came n.slot n.input q.cell (is_cell_of w.came n q of.is).arrives in
+        let slot = slot_is n q of in
+        search (arith, rules, comes w s in_range shape sound traffic n has, and_from, is_kind, eq-eqb, any_has)
+
+    to_told : (x : Arrival) → IsOne x → Has told x
+    to_told x one = search (rules, and_parts, x.cell.output, x.cell.id.input, x.cell.class, has_kept, lt-ltb)
+
+    from_told : (x : Arrival) → Has told x → IsOne x
+    from_told x has = grind (arith, common_steps, kept_has, early_of, line_at, is_early, ltb-true)
+
+    has_told : (x : Arrival) → Has (map as_arrival (gone ++ waiting)) x → Has told x
+    has_told x has =
+        let image = image_has as_arrival (gone ++ waiting) x has in
+        let q = image.0 in
+        let sent = λ (d : Sent) (has : Has s.sent d). one_of_names d.cell q (has_right (queued_in s) _ d.cell
+        (has_image (λ (d : Sent). d.cell) s.sent d has)) in
+        let named = queued_named w s in_range shape sound traffic in
+        search (arith, rules, to_told, has_cases gone waiting q image.1, was_sent q, sent, waits q, one_of_names, named)
+
+    -- an arrival is the only one of its slot and input
+    one_arrival : (a x : Arrival) → Has w.came a → Has w.came x → a.slot ≡ x.slot → a.cell.id.input ≡ x.cell.id.input →
+        a ≡ x
+    one_arrival a x first second slots inputs = grind (arith, common_steps, pair_of_has IsLater w.came a x, each_pair)
+
+    -- where the cell of a name stands
+    among_gone : (n : Named) (q : Queued) → InFlow n q → Has (map (λ (d : Sent). d.cell) s.sent) n → Has gone q
+    among_gone n q of has =
+        let image = image_has (λ (d : Sent). d.cell) s.sent n has in
+        let x : Departure = record { slot = image.0.slot; output = q.cell.output; queued = q } in
+        let own : leaves x ≡ true = search (arith, rules, and_from, eq-eqb) in
+        let there = has_looked_up (departure_of w.came) s.sent image.0 x image.1 (search (arith, rules)) in
+        has_image (λ (y : Departure). y.queued) (filter leaves (sent_told w.came s)) x (has_kept leaves _ x there own)
+
+    among_waiting : (n : Named) (q : Queued) → InFlow n q → HasFor f j q → Has waiting q
+    among_waiting n q of stands = let all = agrees in grind (arith, common_steps, has_kept, is_kind)
+
+    among_listed : (n : Named) (q : Queued) → InFlow n q → Has s.listed n → Has waiting q
+    among_listed n q of has =
+        let low = of_traffic w s in_range shape sound traffic n q of.is in
+        let list = list_is w s in_range shape sound traffic n.input (omega arith) in
+        let kept = has_kept (λ (m : Named). m.input == n.input) s.listed n has (eq-eqb n.input n.input refl) in
+        let there = has_looked_up t _ n q kept of.is in search (arith, rules, among_waiting)
+
+    among_buffered : (n : Named) (q : Queued) → InFlow n q → Has s.buffered n → Has waiting q
+    among_buffered n q of has =
+        let low = of_traffic w s in_range shape sound traffic n q of.is in
+        search (arith, rules, has_kept, has_looked_up, buffer_is, among_waiting)
+
+    is_there : (x : Arrival) → Has told x → Has (map as_arrival (gone ++ waiting)) x
+    is_there x has =
+        let one = from_told x has in
+        let (n, has_name, same_name) = has_any (is_name_of x) names one.own in
+        let some = some_cell (arriving_cell w.came n) (comes w s in_range shape sound traffic n has_name).1 in
+        let same = one_arrival (found_at w.came n.slot n.input some.0 some.1).arrival x in
+        let q : Queued = record { cell = x.cell; key = key_of n } in
+        let of : InFlow n q = search (arith, rules, and_parts, eqb-true, is_kind, same) in
+        let is = has_image as_arrival (gone ++ waiting) q in
+        search (arith, rules, is, arrival_is, has_right, among_listed, among_buffered, has_cases, has_left, among_gone)
+
+    told_rises : EachPair IsEarlier told
+    told_rises = grind (arith, common_steps, pairs_kept, IsEarlier, early_of, line_at, is_early, line_rises)
+
+    -- what was sent of the flow, and then what waits of it
+    pub told_flow : left_in_flow i c j (sent_told w.came s) ++ shown i c there ≡ cells_of told
+    told_flow = search (rules, same_pairs, told_rise, told_rises, has_told, is_there, cells_of, map-append, map-map)
+
+    -- ## How they stand
+
+    module _ (inside : j < length w.machines) (classes : (machine_at w.machines j).classes ≡ w.classes) where
+      abbrev pub m : Machine
+      m = machine_at w.machines j
+
+      has_waited : (q : Queued) → Has there q → HasWaited m (slice_index_or s.ranks j []) s.head.next 0 q
+      has_waited q has =
+          let it = waits_there q has in
+          let n = it.0 in
+          let floor = all_has (IsBelowFloor w s) (queued_in s) n sound.floors it.1 in
+          let early = comes w s in_range shape sound traffic n (queued_named w s in_range shape sound traffic n it.1) in
+          search (arith, rules, of_traffic w s in_range shape sound traffic n q, is_cell_of w.came n q it.2)
+
+      pub stands_there : Stands m (slice_index_or (ideal_of f).ranks j []) s.head.next 0 there
+      unfolding fabric_told
+      stands_there =
+          let all = agrees in search (rules, ports_are, Stands, none_later, all_from_has, HasWaited, has_waited)
+
+  -- ## A run that goes on
+
+  module _ (ports : ℕ) (openings : List (List ℕ)) (as_many : length w.machines ≡ ports) (few : ports ≤ most_ports)
+      (runs : IsRunnable w.machines ports openings w.came)
+      (classes : (j : ℕ) → j < ports → (machine_at w.machines j).classes ≡ w.classes)
+      (packets : (i : ℕ) → AreOfPackets 0 (cells_of (line_at i w.came))) (kept : Kept)
+      (resumed : IsResumed w (taken_of w s) kept) where
+    many_are : (length f.inputs ≡ ports) × (length f.ranks ≡ ports)
+    unfolding frozen_told fabric_told
+    many_are = (goes.ports.lists ∙ as_many, goes.ports.ranks ∙ as_many)
+
+    abbrev start : Marked Fabric
+    start = record { state = f; marks = marks_told w.came s }
+
+    abbrev beside : Marked IdealState
+    beside = record { state = ideal_of f; marks = marks_told w.came s }
+
+    abbrev rs : List LimitedRecord
+    rs = resumed.records
+
+    abbrev slots : List (List (Option Cell))
+    slots = arriving_from w.came next (length rs)
+
+    runs_on : RunsOn w next start rs resumed.end
+    unfolding frozen_told fabric_told
+    runs_on = resumed.runs
+
+    fabric_runs : LimitedFabricRun IsInputBest w.limits w.machines next slots start rs resumed.end
+    fabric_runs = rw (take_all (length rs) rs (omega arith)) at runs_on.after
+
+    ideal_alike : LimitedRunsAlike w.limits w.machines next slots beside rs resumed.end
+    ideal_alike = (best_act_alike w.limits w.machines).run next w.classes slots start resumed.end beside rs
+        (record { states = agrees; marks = refl }) (search (arith, rules, many_are, slots_fit, traffic)) fabric_runs
+
+    abbrev ran : LimitedRan
+    ran = record { admissions = admissions_in rs; gone = gone_in (slots_in rs); after = ideal_alike.after }
+
+    over : All (λ cells. cells ≡ []) ideal_alike.after.state.lists
+    over = (empty_together (next + length slots) _ _ ideal_alike.agrees.states).0 runs_on.empty
+
+    stand : AllByRecursion (StandAt 0) slots
     unfolding arriving_from
-    line_is = ⊎_elim (λ (inside : i < ports). (
-      rw (come_in_order i (omega arith) came runs.rise) at (packets_come t captures i are many),
-      comes_from i (omega arith) came next (length rs) runs.rise runs_on.all_came,
-    )) (search (arith, rules, no_line, none_from, comes_as)) (cases_lt i ports)
+    stand = stand_in w.came next (length rs)
 
-    rises : EachPair IsEarlier line
-    rises = line_rises came comes_as.one_by_one i
+    of_classes : (j : ℕ) → AllByRecursion (λ cells. AreOfClasses (machine_at w.machines j) j (present cells)) slots
+    unfolding arriving_from
+    of_classes j = all_in_range (λ cells. AreOfClasses (machine_at w.machines j) j (present cells)) w.came next
+        (length rs) (class_in_slot w.machines ports j w.came most_ports refl runs.for_switch)
 
-    abbrev begin : ℕ
-    begin = next_after 0 early
+    -- ## At one input
 
-    late_packets : AreOfPackets begin (cells_at i slots)
-    late_packets = rw line_is.1 (packets_behind w s i sound.packets rises line_is.0)
+    module _ (i : ℕ) where
+      no_line : ports ≤ i → line w s i ≡ []
+      no_line past = none_at (length w.machines) w.classes w.came traffic i (omega arith)
 
-    -- what is taken of the packets that come
-    abbrev taken : ℕ → Bool
-    taken = (whole_on w.limits w.machines next slots beside ran alike.ran stand over i begin late_packets).is_taken
+      -- those that come from the slot on are the late ones
+      late_are : cells_at i slots ≡ cells_of (behind w s i)
+      unfolding arriving_from
+      late_are = ⊎_elim (λ inside. comes_from i inside w.came next (length rs) runs.rise runs_on.all_came)
+          (λ past. search (arith, rules, no_line, none_from, traffic)) (cases_lt i most_ports)
 
-    goes_as_marked : (p : ℕ) → p + 1 ≡ begin → taken p ≡ not (is_refused came s (latest (firsts_at came s i)))
-    unfolding next_after
-    goes_as_marked p last = ⊎_elim (λ (inside : i < ports).
-        search (arith, rules, machines_many, whole_on, stand, over, late_packets, get_or-map-range_with_len))
-        (search (arith, rules, no_line)) (cases_lt i ports)
+      rises : EachPair IsEarlier (line w s i)
+      rises = line_rises w.came traffic.one_by_one i
 
-    -- and of all packets
-    abbrev takes : ℕ → Bool
-    takes = is_taken w s i sound.packets rises line_is.0 taken goes_as_marked
+      late_packets : AreOfPackets (begin_from w s i) (cells_at i slots)
+      late_packets = rw late_are (packets_behind w s i sound.packets rises (packets i))
 
-    abbrev taken_cell : Cell → Bool
-    taken_cell cell = taken cell.id.packet
+      -- what is taken of the packets that come
+      abbrev taken : ℕ → Bool
+      taken = (whole_on w.limits w.machines next slots beside ran ideal_alike.ran stand over i (begin_from w s i)
+          late_packets).is_taken
 
-    abbrev takes_cell : Cell → Bool
-    takes_cell cell = takes cell.id.packet
+      goes_as_marked : (p : ℕ) → p + 1 ≡ begin_from w s i →
+          taken p ≡ not (is_refused w.came s (latest (firsts_at w.came s i)))
+      unfolding next_after
+      goes_as_marked p last = ⊎_elim (λ (inside : i < ports).
+          search (arith, rules, whole_on, stand, over, late_packets, get_or-map-range_with_len))
+          (search (arith, rules, no_line)) (cases_lt i ports)
 
-    module _ (c j : ℕ) where
-      abbrev flow : Arrival → Bool
-      flow = comes_in_flow i c j
+      -- and of all packets
+      abbrev takes : ℕ → Bool
+      takes = is_taken w s i sound.packets rises (packets i) taken goes_as_marked
 
-      abbrev told : List Arrival
-      told = filter named (filter flow early)
+      abbrev taken_cell : Cell → Bool
+      taken_cell cell = taken cell.id.packet
 
-      abbrev later : List Cell
-      later = cells_of (filter flow late)
+      abbrev takes_cell : Cell → Bool
+      takes_cell cell = takes cell.id.packet
 
-      abbrev first_left : List Cell
-      first_left = left_in_flow i c j (sent_told came s)
+      module _ (c j : ℕ) where
+        abbrev its_flow : Arrival → Bool
+        its_flow = comes_in_flow i c j
 
-      abbrev waits : List Cell
-      waits = shown i c (list_of (ideal_of f).lists j)
+        abbrev later : List Cell
+        later = cells_of (filter its_flow (behind w s i))
 
-      early_taken : filter takes_cell (cells_of (filter flow early)) ≡ cells_of told
-      early_taken =
-          let told = taken_before w s i sound.packets rises line_is.0 taken goes_as_marked in
-          search (rules, filter_images, filter_same, all_filter, told)
+        early_taken : filter takes_cell (cells_of (filter its_flow (before w s i))) ≡ cells_of (told i c j)
+        early_taken =
+            let all = taken_before w s i sound.packets rises (packets i) taken goes_as_marked in
+            search (rules, filter_images, filter_same, all_filter, all)
 
-      late_taken : filter takes_cell later ≡ filter taken_cell later
-      late_taken =
-          let all = all_filter _ flow late (taken_behind w s i sound.packets rises line_is.0 taken goes_as_marked) in
-          filter_same takes_cell taken_cell later (of_images (λ (a : Arrival). a.cell) _ (filter flow late) all)
+        late_taken : filter takes_cell later ≡ filter taken_cell later
+        late_taken =
+            let all = taken_behind w s i sound.packets rises (packets i) taken goes_as_marked in
+            search (rules, filter_same, of_images, all_filter, all)
 
-      takes_parts : filter takes_cell (came_in_flow i c j came) ≡ cells_of told ++ filter taken_cell later
-      takes_parts =
-          let parts = parted_at next line rises in
-          grind (arith, common_steps, flow_at, map-append, filter-append, cells_of, early_taken, late_taken)
+        takes_parts : filter takes_cell (came_in_flow i c j w.came) ≡ cells_of (told i c j) ++ filter taken_cell later
+        takes_parts =
+            let parts = parted_at next (line w s i) rises in
+            grind (arith, common_steps, flow_at, map-append, filter-append, cells_of, early_taken, late_taken)
 
-      flow_late : flow_came i c j slots ≡ later
-      unfolding of_flow
-      flow_late = rw (comes_at_input i c j slots stand, line_is.1) (filter_images (is_of_flow i c j) _ late)
+        flow_late : flow_came i c j slots ≡ later
+        unfolding of_flow
+        flow_late = rw (comes_at_input i c j slots stand, late_are) (filter_images (is_of_flow i c j) _ (behind w s i))
 
-      -- ## What left
+        -- ## What left
 
-      left_is : left_in_flow i c j kept.sent ≡ first_left ++ left_in_flow i c j (departures_of next ran.gone)
-      unfolding frozen_told
-      left_is = grind (arith, common_steps, filter-append, map-append)
+        left_is : left_in_flow i c j kept.sent ≡ left_in_flow i c j (sent_told w.came s)
+            ++ left_in_flow i c j (departures_of next ran.gone)
+        unfolding frozen_told
+        left_is = grind (arith, common_steps, filter-append, map-append)
 
-      told_first : first_left ++ waits ≡ cells_of told
-      told_first = told_flow w s in_range shape sound traffic agrees j i c
+        at_port : j < ports → left_in_flow i c j kept.sent ≡ filter takes_cell (came_in_flow i c j w.came)
+        at_port inside =
+            let together = agrees in
+            let all = many_are in
+            let ranks = ap (λ (l : List (List ℕ)). length l) agrees.ranks in
+            let parts = append_assoc (left_in_flow i c j (sent_told w.came s)) (shown i c (there i c j))
+            (filter taken_cell (flow_came i c j slots)) in
+            let flow = flow_on w.limits w.machines next slots beside ran ideal_alike.ran stand over i (begin_from w s i)
+            late_packets c j (runs.machines j inside) (omega arith) (omega arith)
+            (stands_there i c j (omega arith) (classes j inside)) (of_classes j) in
+            cc (left_is, flow, parts, told_flow i c j, flow_late, takes_parts)
 
-      at_port : j < ports → left_in_flow i c j kept.sent ≡ filter takes_cell (came_in_flow i c j came)
-      at_port inside =
-          let together = agrees in
-          let as_many = machines_many t in
-          let all = many_are in
-          let ranks = ap (λ (l : List (List ℕ)). length l) agrees.ranks in
-          let rest = filter taken_cell (flow_came i c j slots) in
-          let flow = flow_on w.limits w.machines next slots beside ran alike.ran stand over i begin late_packets c j
-          (runs.machines j inside) (omega arith) (omega arith)
-          (stands_there w s in_range shape sound traffic agrees j (omega arith) (right_classes t.setup j inside))
-          (of_classes j) in
-          cc (left_is, flow, append_assoc first_left waits rest, told_first, flow_late, takes_parts)
+        elsewhere : ports ≤ j → left_in_flow i c j kept.sent ≡ filter takes_cell (came_in_flow i c j w.came)
+        elsewhere past =
+            let lists = agrees.ports in
+            let all = many_are in
+            let none = none_came w.machines ports i c j w.came runs.for_switch past in
+            let ideal_runs = is_run_of w.limits w.machines next slots beside ran ideal_alike.ran in
+            let none_left = no_port w.machines i c j _ next (ideal_of f) _ ideal_runs (omega arith) in
+            grind (arith, common_steps, left_is, takes_parts, told_flow i c j, no_first)
 
-      elsewhere : ports ≤ j → left_in_flow i c j kept.sent ≡ filter takes_cell (came_in_flow i c j came)
-      elsewhere past =
-          let lists = agrees.ports in
-          let all = many_are in
-          let none = none_came w.machines ports i c j came runs.for_switch past in
-          let ideal_runs = is_run_of w.limits w.machines next slots beside ran alike.ran in
-          let none_left = no_port w.machines i c j _ next (ideal_of f) _ ideal_runs (omega arith) in
-          grind (arith, common_steps, left_is, takes_parts, told_first, no_first)
-
-    pub in_order : LeftInOrder came i kept.sent
-    in_order = record { is_taken = takes; left = λ c j. search (arith, rules, at_port, elsewhere, cases_lt) }
+      pub leaves_in_order : LeftInOrder w.came i kept.sent
+      leaves_in_order = record { is_taken = takes; left = λ c j. search (arith, rules, at_port, elsewhere, cases_lt) }
 
 pub resumed_in_order : (t : Tables) (captures : List (List Captured)) (from : Taken) (kept : Kept) → AreTables t →
     length captures ≡ ports_of t.setup → CanBeTakenUp (switch_of t (schedule_of t captures)) from →
     IsResumed (switch_of t (schedule_of t captures)) from kept → LeaveInOrder (arrivals t captures) kept.sent
-resumed_in_order t captures from kept are many up resumed = grind (arith, common_steps, in_order)
+resumed_in_order t captures from kept are many up resumed =
+    let come = traffic_is t captures are many in
+    let runs = runnable t.setup (arrivals t captures) are.setup come in
+    let it = up.comes in
+    leaves_in_order (switch_of t (schedule_of t captures)) up.state it.in_range it.shape it.sound
+    (rw (machines_many t) come) (ports_of t.setup) (openings_of t.setup) (machines_many t) (omega arith) runs
+    (right_classes t.setup) (λ i. line_packets t captures i are many) kept (rw it.told at resumed)
 
 pub resumed_whole : (t : Tables) (captures : List (List Captured)) (from : Taken) (kept : Kept) → AreTables t →
     length captures ≡ ports_of t.setup → CanBeTakenUp (switch_of t (schedule_of t captures)) from →
