@@ -13,13 +13,6 @@ use Rattle.cq_simulate.proofs.OfPackets.{flow_is, packet_cells, parts_of}
 -- packets. So each cell is the next of the packet that is open, or the first of one where none is; and at the last
 -- cell of a packet all its pieces are together, which are its frame.
 
--- ## What a cell carries
-
--- the bytes of cell i of a frame
-abbrev pub piece_of : List ℕ → ℕ → ℕ → List ℕ
-piece_of frame cell_bytes index =
-    take (min cell_bytes (length frame - index * cell_bytes)) (drop (index * cell_bytes) frame)
-
 -- ## One packet after another
 
 module _ (t : Tables) (captures : List (List Captured)) (input : ℕ) (some : 0 < t.cell_bytes) where
@@ -30,7 +23,9 @@ module _ (t : Tables) (captures : List (List Captured)) (input : ℕ) (some : 0 
   abbrev pieces : ℕ → ℕ → List ℕ
   pieces k m = take (m * t.cell_bytes) (frame k)
 
-  pieces_more : (k m : ℕ) → pieces k (m + 1) ≡ pieces k m ++ piece_of (frame k) t.cell_bytes m
+  -- and those with the next cell's, which is as long, or what is left of the frame
+  pieces_more : (k m : ℕ) → pieces k (m + 1) ≡ pieces k m ++ take
+      (min t.cell_bytes (length (frame k) - m * t.cell_bytes)) (drop (m * t.cell_bytes) (frame k))
   pieces_more k m =
       let next : (m + 1) * t.cell_bytes ≡ m * t.cell_bytes + t.cell_bytes = omega arith in
       grind (arith, common_steps, length-drop, take_min, take-add)
