@@ -15,8 +15,7 @@ abbrev pub bit : Bool → ℕ
 bit b = cond b 1 0
 
 pub some_one : (o : Option Cell) → bit (is_some o) ≡ one_if o
-some_one None = refl
-some_one (Some cell) = refl
+some_one o = search (arith, rules)
 
 module _ (i : ℕ) where
   pub from_here : (came : List Arrival) (slot n : ℕ) →

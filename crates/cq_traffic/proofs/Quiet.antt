@@ -1,6 +1,6 @@
 -- Stretches of slots in which no cell arrives. No cell comes before the next arrival, so up to it there is nothing that
 -- comes at any input.
-use Rattle.cq_traffic.proofs.Terms.{fill_by_all, sym, length-replicate, get_or-replicate, rules, ◌≡◌, ℕ, zero, suc, ◌+◌, ◌<◌, ◌≤◌, List, [], ◌∷◌, replicate, Option, Some, None, refl, ◌∙◌, arith, min, unwrap_or, AllByRecursion, cases_lt, ne_eqb, no_arrivals, Arrival, arriving, arriving_at, end_of, arriving_is, arriving_from, common_steps, all_weaker, most_ports}
+use Rattle.cq_traffic.proofs.Terms.{fill_by_all, sym, length-replicate, get_or-replicate, rules, ◌≡◌, ℕ, zero, suc, ◌+◌, ◌<◌, ◌≤◌, List, [], ◌∷◌, replicate, Option, None, refl, ◌∙◌, arith, min, unwrap_or, AllByRecursion, cases_lt, ne_eqb, no_arrivals, Arrival, arriving, arriving_at, end_of, arriving_is, arriving_from, common_steps, all_weaker, most_ports}
 use Rattle.cq_cells.specs.NextArrival.{ArrivesIn, IsNextArrival}
 use Rattle.cq_traffic.specs.Stretch.{IsQuiet, IsQuietUntil}
 
@@ -33,31 +33,21 @@ ends_before (a ∷ came) slot all = grind (arith, common_steps, ends_before came
 
 pub until_next : (came : List Arrival) (slot : ℕ) (next : Option ℕ) → IsNextArrival came slot next →
     IsQuietUntil came slot (unwrap_or next slot)
-until_next came slot None all = search (arith, rules, ends_before)
-until_next came slot (Some next) is = search (arith, rules, before_end)
+until_next came slot next is = search (arith, rules, ends_before, before_end)
 
--- up to a slot that is no later than the next arrival none arrives
-pub none_up_to : (came : List Arrival) (slot n : ℕ) (next : Option ℕ) → IsNextArrival came slot next →
-    n ≤ unwrap_or next n → (t : ℕ) → slot ≤ t → t < n → arriving came t ≡ no_arrivals
-none_up_to came slot n None all le t from to = search (arith, rules, none_arrive, all_weaker)
-none_up_to came slot n (Some next) is le t from to = search (arith, rules, none_arrive, all_weaker)
+-- up to the next arrival, but no later than the last slot, none arrives
+pub none_up_to : (came : List Arrival) (slot last n : ℕ) (next : Option ℕ) → IsNextArrival came slot next →
+    n ≡ min (unwrap_or next last) last → (t : ℕ) → slot ≤ t → t < n → arriving came t ≡ no_arrivals
+none_up_to came slot last n next at is t from to = search (arith, rules, none_arrive, all_weaker)
 
--- the next arrival, but no later than the last slot
-pub record IsBeforeBoth (slot last n : ℕ) (next : Option ℕ) : Type 0 where
-  pub late : slot ≤ n
-  pub within : n ≤ last
-  pub no_later : n ≤ unwrap_or next n
-
-pub before_both : (came : List Arrival) (slot last n : ℕ) (next : Option ℕ) → IsNextArrival came slot next →
-    slot ≤ last →
-    n ≡ min (unwrap_or next last) last → IsBeforeBoth slot last n next
-before_both came slot last n next at le is = grind (arith, common_steps)
+pub within_both : (came : List Arrival) (slot last n : ℕ) (next : Option ℕ) → IsNextArrival came slot next →
+    slot ≤ last → n ≡ min (unwrap_or next last) last → (slot ≤ n) × (n ≤ last)
+within_both came slot last n next at le is = grind (arith, common_steps)
 
 -- and where it is before the last, a cell arrives in it
 pub arrives_before : (came : List Arrival) (slot last n : ℕ) (next : Option ℕ) → IsNextArrival came slot next →
     n ≡ min (unwrap_or next last) last → n < last → ArrivesIn n came
-arrives_before came slot last n None all is before = absurd (omega arith)
-arrives_before came slot last n (Some next) at is before = grind (arith, common_steps)
+arrives_before came slot last n next at is before = grind (arith, common_steps)
 
 -- ## What comes in a stretch
 

@@ -1,6 +1,6 @@
 -- What is still to come for one output. Cells that are for it weigh one, and the others nothing: so no more cells come
 -- for an output than there are arrivals for it.
-use Rattle.cq_traffic.proofs.Terms.{common_steps, ◌≡◌, ℕ, zero, suc, ◌+◌, ◌≤◌, cond, List, [], ◌∷◌, ◌++◌, map, Option, Some, None, refl, arith, ◌==◌, range_with_len, Cell, Arrival, arriving, enough, traffic_of, number_of, is_to, arriving_from, first_slots, cell_listed, total}
+use Rattle.cq_traffic.proofs.Terms.{common_steps, ◌≡◌, ℕ, zero, suc, ◌+◌, ◌≤◌, cond, List, [], ◌∷◌, ◌++◌, map, Option, refl, arith, ◌==◌, range_with_len, Cell, Arrival, arriving, enough, traffic_of, number_of, is_to, arriving_from, first_slots, cell_listed, total}
 use Rattle.cq_ideal.proofs.FlowCount.{weighed}
 use Rattle.cq_ideal.specs.Ideal.{count_for}
 use Rattle.cq_traffic.proofs.FromInputs.{first_more}
@@ -37,8 +37,7 @@ module _ (j : ℕ) where
   count_for-cons : (o : Option Cell) (cells : List (Option Cell)) →
       count_for j (o ∷ cells) ≡ count_to j (cell_listed o) + count_for j cells
   unfolding count_to
-  count_for-cons None cells = omega arith
-  count_for-cons (Some cell) cells = omega arith
+  count_for-cons o cells = grind (arith, common_steps)
 
   one_more : (a : Arrival) (came : List Arrival) →
       number_of (is_to j) came + count_to j (a.cell ∷ []) ≤ number_of (is_to j) (a ∷ came)
