@@ -1,5 +1,5 @@
 use Rattle.cq_simulate.proofs.Terms.{ap, is_err, ◌+◌, ◌-◌, ◌≤◌, false, ◌∙◌, arith, rules, sym, err_from_is_err_and}
-use Rattle.cq_simulate.proofs.FabricSteps.{Stands, can_run_here, crossing_first, fault_here, left_here, next_here, part_rests, part_stands}
+use Rattle.cq_simulate.proofs.FabricSteps.{Stands, can_run_here, fault_here, left_here, next_here, part_rests, part_stands}
 use Rattle.cq_simulate.proofs.parted_run.run_before.Given as given
 use Rattle.cq_simulate.proofs.parted_run.run_before.Goals as goal
 use Rattle.cq_simulate.proofs.parted_run.run_before.Goals.{After-arrivals-arrivals}
@@ -14,9 +14,6 @@ stands : (g : given.Over) (c : After-arrivals-arrivals g) →
 stands g c = search (arith, rules, part_stands, part_rests, c.skip-slot.ensures.told, c.skip-slot.ensures.idle)
 
 -- ## The loop
-
-pub slots-init : goal.slots-init
-slots-init g c = search (arith, rules, crossing_first)
 
 pub slot-requires : goal.slot-requires
 slot-requires g c =
