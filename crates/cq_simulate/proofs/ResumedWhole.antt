@@ -401,14 +401,12 @@ module _ (w : Switch) (s : State) (in_range : IsInRange s) (shape : HasShape w s
     abbrev is_name_of : Arrival → Named → Bool
     is_name_of x n = n.slot == x.slot && n.input == x.cell.id.input
 
-    one_of_names : (n : Named) (q : Queued) → Has names n → InFlow n q → IsOne (as_arrival q)
+    one_of_names : (n : Named) (q : Queued) → Has names n → InFlow n q → Has told (as_arrival q)
     one_of_names n q has of =
         let it = found_at w.came n.slot n.input q.cell (is_cell_of w.came n q of.is).arrives in
         let slot = slot_is n q of in
-        search (arith, rules, comes w s in_range shape sound traffic n has, and_from, is_kind, eq-eqb, any_has)
-
-    to_told : (x : Arrival) → IsOne x → Has told x
-    to_told x one = search (rules, and_parts, x.cell.output, x.cell.id.input, x.cell.class, has_kept, lt-ltb)
+        let all = comes w s in_range shape sound traffic n has in
+        search (arith, rules, all, and_from, and_parts, is_kind, eq-eqb, any_has, has_kept, lt-ltb)
 
     from_told : (x : Arrival) → Has told x → IsOne x
     from_told x has = grind (arith, common_steps, kept_has, early_of, line_at, is_early, ltb-true)
@@ -420,7 +418,7 @@ module _ (w : Switch) (s : State) (in_range : IsInRange s) (shape : HasShape w s
         let sent = λ (d : Sent) (has : Has s.sent d). one_of_names d.cell q (has_right (queued_in s) _ d.cell
         (has_image (λ (d : Sent). d.cell) s.sent d has)) in
         let named = queued_named w s in_range shape sound traffic in
-        search (arith, rules, to_told, has_cases gone waiting q image.1, was_sent q, sent, waits q, one_of_names, named)
+        search (arith, rules, has_cases gone waiting q image.1, was_sent q, sent, waits q, one_of_names, named)
 
     -- an arrival is the only one of its slot and input
     one_arrival : (a x : Arrival) → Has w.came a → Has w.came x → a.slot ≡ x.slot → a.cell.id.input ≡ x.cell.id.input →
