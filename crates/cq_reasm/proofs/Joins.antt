@@ -1,11 +1,10 @@
 -- What a cell changes of a joiner: what is open of its pair, and nothing else.
-use Rattle.cq_reasm.proofs.Terms.{common_steps, rules, ◌≡◌, ◌≢◌, ◌⊎◌, ℕ, ◌+◌, ◌*◌, ◌<◌, true, arith, List, set, get_or, Option, None, Some, sym, div-mul-add, get_or-set_other, Open, cells_taken, JoinerView, IsNext, IsOtherPair, open_at, with_open, open_after}
+use Rattle.cq_reasm.proofs.Terms.{common_steps, rules, ◌≡◌, ◌≢◌, ◌⊎◌, ℕ, ◌+◌, ◌*◌, ◌<◌, true, arith, List, set, get_or, Option, None, div-mul-add, get_or-set_other, Open, cells_taken, JoinerView, IsNext, IsOtherPair, open_at, with_open, open_after}
 use Rattle.cq_base.specs.declared.cell.Cell.{Cell}
 
 -- as many cells were taken as stand before it in its packet
 pub taken_before : (o : Option Open) (cell : Cell) → IsNext o cell → cells_taken o ≡ cell.id.index
-taken_before None cell h = sym h
-taken_before (Some p) cell h = h.1
+taken_before o cell h = grind (arith, common_steps)
 
 -- what is open of a pair stands at its place
 pub open_is : (inputs classes : ℕ) (packets : List (Option Open)) (joiner : JoinerView) (input class place : ℕ) →

@@ -1,7 +1,7 @@
 -- The cells of whole packets are taken one after another. At each cell before the last one the packet stays open,
 -- with this cell's piece behind the others, so the next cell is the next of the packet. The last one gives the
 -- packet, and closes it, so the first cell of the packet behind it is the next.
-use Rattle.cq_reasm.proofs.Terms.{rules, ◌≡◌, ℕ, ◌+◌, List, [], ◌∷◌, ◌++◌, Option, None, Some, refl, sym, ap, ◌∙◌, arith, append_assoc, common_steps, flat_map, append-nil, Open, bytes_taken, with_piece, IsNext, Piece}
+use Rattle.cq_reasm.proofs.Terms.{rules, ◌≡◌, ℕ, ◌+◌, List, [], ◌∷◌, ◌++◌, Option, None, Some, refl, arith, append_assoc, common_steps, flat_map, append-nil, Open, bytes_taken, with_piece, IsNext, Piece}
 use Rattle.cq_reasm.specs.declared.joiner.Joined.{Joined}
 use Rattle.cq_reasm.specs.Whole.{IsCellOf, AreCellsFrom, cells_in, AreNext, given, open_after_all, WholeAreTaken}
 
@@ -13,19 +13,16 @@ IsOpenAt (Some p) packet index = (p.packet ≡ packet) × (p.taken ≡ index)
 module _ (input class packet : ℕ) where
   is_next : (was : Option Open) (index : ℕ) (x : Piece) → IsOpenAt was packet index →
       IsCellOf input class packet index x → IsNext was x.cell
-  is_next None index x o h = h.at_index ∙ sym o
-  is_next (Some p) index x o h = (o.0 ∙ sym h.of_packet, o.1 ∙ sym h.at_index)
+  is_next was index x o h = grind (arith, common_steps)
 
   one_more : (was : Option Open) (index : ℕ) (x : Piece) → IsOpenAt was packet index →
       IsCellOf input class packet index x →
       IsOpenAt (Some (with_piece was x.cell.id.packet x.bytes)) packet (index + 1)
-  one_more None index x o h = (h.of_packet, omega (arith, o))
-  one_more (Some p) index x o h = (o.0, ap (λ n. n + 1) o.1)
+  one_more was index x o h = grind (arith, common_steps)
 
   bytes_more : (was : Option Open) (number : ℕ) (bytes rest : List ℕ) →
       bytes_taken (Some (with_piece was number bytes)) ++ rest ≡ bytes_taken was ++ (bytes ++ rest)
-  bytes_more None number bytes rest = refl
-  bytes_more (Some p) number bytes rest = append_assoc p.body bytes rest
+  bytes_more was number bytes rest = search (arith, rules, append_assoc)
 
   -- the cells of a packet from one on, and others behind them
   record Rest (was : Option Open) (xs later : List Piece) : Type 0 where

@@ -18,16 +18,14 @@ seen_at_one f g xs p x d y e h =
     let long = length-map xs f in
     ext_get_or y (map g (set xs p x)) (set (map f xs) p y) (seen ∙ sym (length-set (map f xs) p y ∙ long))
     (λ q inside. let here = read_map g (set xs p x) q d y (omega (arith, seen, length-set xs p x)) in
-    let there = λ (lt : q < length xs). read_map f xs q d y lt in
-    grind (arith, common_steps, here, there, get_or-set_same, get_or-set_other, cases_eq q p, h q))
+    grind (arith, common_steps, here, read_map f xs q d y, get_or-set_same, get_or-set_other, cases_eq q p, h q))
 
 -- ## What is seen at a place
 
 -- what two slabs have under a key is seen alike
 seen_alike : (old new : Slab OpenPacket) (k : Option ℕ) → ((key : ℕ) → k ≡ Some key → get new key ≡ get old key) →
     packet_under old k ≡ packet_under new k
-seen_alike old new None h = refl
-seen_alike old new (Some key) h = let e = h key refl in cc
+seen_alike old new k h = grind (arith, common_steps, h)
 
 -- in a table of empty places no packet is open
 pub seen_empty : (packets : Slab OpenPacket) (places : ℕ) →
@@ -84,16 +82,14 @@ module _ (old new : Slab OpenPacket) (keys : List (Option ℕ)) (seen : List (Op
     grown_now : (number : ℕ) (piece : List ℕ) → option_map (grown piece) (packet_under old (Some key))
         ≡ Some (with_piece (get_or seen place None) number piece)
     grown_now number piece =
-        let there = table.present place key at in
-        grind (arith, common_steps, get_or-map (packet_under old) keys place None)
+        grind (arith, common_steps, table.present place, at, get_or-map (packet_under old) keys place None)
 
     pub grown_seen : (number : ℕ) (piece : List ℕ) →
         packet_under new (Some key) ≡ option_map (grown piece) (packet_under old (Some key)) →
         map (packet_under new) keys ≡ set seen place (Some (with_piece (get_or seen place None) number piece))
     grown_seen number piece e =
-        rw (set-get_or keys place None, view) at (seen_at_one (packet_under old) (packet_under new) keys place
-        (get_or keys place None) None _ (ap (packet_under new) at ∙ e ∙ grown_now number piece)
-        (λ q l ne. seen_elsewhere q ne))
+        let there = seen_at_one (packet_under old) (packet_under new) keys place (get_or keys place None) None in
+        search (arith, rules, there, set-get_or, view, at, grown_now, seen_elsewhere)
 
     -- what is left in the slab stands where it stood
     left_at : get_or keys place None ≡ Some key → get new key ≡ None → (k : ℕ) → ContainsKey new k →
