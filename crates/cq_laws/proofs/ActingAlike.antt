@@ -3,9 +3,9 @@
 use Rattle.cq_laws.proofs.Terms.{arith, rules, ℕ, List, Option, AllByRecursion, Cell, Machine, Marked, AreForPorts, IsInputBest, IsStable, ActAlikeFromEmptyWithoutLimits, ActAlikeWithoutLimits, Fabric, LimitedFabricRun, LimitedRecord, empty_limited_fabric, empty_limited, ActAlike, ActAlikeFromEmpty, LimitedRunsAlike}
 use Rattle.cq_laws.proofs.InputBest.{stable_too, stable_limited_too}
 use Rattle.cq_laws.proofs.LimitedSlots.{same_limited_slot, same_limited_fault}
-use Rattle.cq_laws.proofs.LimitedWhole.{begin, same_limited_run, same_limited_stop}
+use Rattle.cq_laws.proofs.LimitedWhole.{begin, same_limited_run, same_limited_stop, limited_empty_agree, limited_run_slack}
 use Rattle.cq_laws.proofs.OneSlot.{same_slot, same_fault}
-use Rattle.cq_laws.proofs.WholeRuns.{empty_agree, same_run, same_stop, traffic_for_empty}
+use Rattle.cq_laws.proofs.WholeRuns.{empty_agree, same_run, same_stop, traffic_for_empty, run_slack}
 
 module _ (limits : List (Option ℕ)) (ms : List Machine) where
   pub stable_act_alike : ActAlike IsStable limits ms
@@ -56,3 +56,9 @@ module _ (ms : List Machine) where
         stop = λ ports class_count ranks traffic rs fault come. alike.stop 0 class_count traffic _ _ rs fault
             (empty_agree ports ranks) (traffic_for_empty ports ranks class_count traffic come);
       }
+
+pub ruleset best_alike =
+    (best_act_alike, best_act_alike_from_empty, best_alike_without_limits, best_alike_from_empty_without_limits)
+
+pub ruleset any_alike =
+    (stable_act_alike, limited_run_slack, limited_empty_agree, stable_alike_without_limits, run_slack, empty_agree)

@@ -1,7 +1,7 @@
 -- Whole runs with limits, slot by slot from states that agree, and the runs without limits that they are: those of
 -- the arrivals that the ideal switch admits, which are those that the fabric admits.
 use Rattle.cq_laws.proofs.Recorded.{recorded}
-use Rattle.cq_laws.proofs.Terms.{common_steps, rules, ◌≡◌, ℕ, ◌+◌, List, [], ◌∷◌, length, Option, Err, refl, arith, AllByRecursion, Cell, TagFault, Machine, IdealState, AreForPorts, Partners, IsStable, FabricRun, FabricStops, Fabric, LimitedRecord, LimitedFabricRun, LimitedFabricStops, admissions_in, slots_in, empty_limited_fabric, HasSlack, limited_run, admitted_traffic, empty_limited, run_step, run_fault, admitted_step, admitted_are, Orders, LimitedAgrees, LimitedRunsAlike, AreJudged, Marked}
+use Rattle.cq_laws.proofs.Terms.{common_steps, rules, ◌≡◌, ℕ, ◌+◌, List, [], ◌∷◌, length, Option, Err, refl, arith, AllByRecursion, Cell, TagFault, Machine, IdealState, AreForPorts, Partners, IsStable, FabricRun, FabricStops, Fabric, LimitedRecord, LimitedFabricRun, LimitedFabricStops, admissions_in, slots_in, empty_limited_fabric, HasSlack, limited_run, admitted_traffic, empty_limited, run_step, run_fault, admitted_step, admitted_are, Orders, LimitedAgrees, LimitedRunsAlike, AreJudged, Marked, whole_packets}
 use Rattle.cq_laws.proofs.LimitedSlots.{same_admission, same_limited_fault, same_limited_slot, limited_ports_kept, limited_slack_arrived}
 use Rattle.cq_laws.proofs.WholeRuns.{empty_agree, traffic_for_empty}
 
@@ -86,3 +86,5 @@ pub begin : (limits : List (Option ℕ)) (ms : List Machine) (class_count ports 
     (traffic : List (List (Option Cell))) → AllByRecursion (AreForPorts ports class_count) traffic →
     Stands limits ms class_count 0 traffic (empty_limited_fabric ports ranks) (empty_limited ports ranks)
 begin limits ms class_count ports ranks traffic come = search (rules, limited_empty_agree, traffic_for_empty)
+
+pub ruleset of_admitted = (recorded, run_through, stop_through, whole_packets, fabric_judged)

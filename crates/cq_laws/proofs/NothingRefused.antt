@@ -1,6 +1,6 @@
 -- Where nothing is refused a slot with limits is the slot without, and no mark moves; so it is with runs. Nothing is
 -- refused where no output has a limit and no mark is up, nor where nothing arrives.
-use Rattle.cq_laws.proofs.Terms.{common_steps, arith, rules, ◌≡◌, ℕ, ◌+◌, Bool, List, [], ◌∷◌, replicate, Option, refl, sym, ap, AllByRecursion, Cell, TagFault, no_arrivals, Machine, Partners, Fabric, FabricRun, FabricStops, SlotRecord, FabricSlot, LimitedRecord, LimitedFabricSlot, LimitedFabricRun, LimitedFabricStops, slots_in, passed, RefusesNone, marked, nothing_refused, none_in, Orders, fabric_held, Marked}
+use Rattle.cq_laws.proofs.Terms.{common_steps, arith, rules, ◌≡◌, ℕ, ◌+◌, Bool, List, [], ◌∷◌, replicate, Option, refl, sym, ap, AllByRecursion, Cell, TagFault, no_arrivals, Machine, Partners, Fabric, FabricRun, FabricStops, SlotRecord, FabricSlot, LimitedRecord, LimitedFabricSlot, LimitedFabricRun, LimitedFabricStops, slots_in, passed, RefusesNone, marked, nothing_refused, none_in, Orders, fabric_held, Marked, none_refused_in}
 
 module _ (MayChoose : Orders → Partners → Type 0) (limits : List (Option ℕ)) (ms : List Machine) (marks : List Bool)
   where
@@ -49,3 +49,5 @@ module _ (MayChoose : Orders → Partners → Type 0) (limits : List (Option ℕ
 
     pub none_come : (count : ℕ) → None_in (replicate count no_arrivals)
     none_come count = search (rules, none_in)
+
+pub ruleset as_before = (run_without, run_with, stop_without, none_refused_in)

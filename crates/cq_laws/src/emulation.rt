@@ -6,6 +6,7 @@ ghost use Rattle.cq_laws.specs.Terms.{Cell, Machine, Marked, empty_limited, AreF
 /// From states that agree, the ideal switch and the fabric with input-best matchings admit, refuse and send the
 /// same in a slot and agree again, or have the same tag fault. So over whole runs, from empty states on, they
 /// send and refuse the same, or stop at the same fault.
+#[tactic(auto, using(crate::proofs::ActingAlike::best_alike))]
 pub fn same_departures()
     ensures limited { (limits : List (Option ℕ)) (ms : List Machine) → ActAlike IsInputBest limits ms }
     ensures limited_runs { (limits : List (Option ℕ)) (ms : List Machine) → ActAlikeFromEmpty IsInputBest limits ms }
@@ -16,6 +17,7 @@ pub fn same_departures()
 
 /// The same with any stable matchings, input-best or not, and from any states that agree; and after the
 /// arrivals of each slot no cell's input thread exceeds its output cushion.
+#[tactic(auto, using(crate::proofs::ActingAlike::any_alike))]
 pub fn any_stable_matching()
     ensures limited { (limits : List (Option ℕ)) (ms : List Machine) → ActAlike IsStable limits ms }
     ensures limited_slack { (limits : List (Option ℕ)) (ms : List Machine) (slot class_count : ℕ)

@@ -31,6 +31,7 @@ pub fn one_whole_run()
 
 /// A run over as many slots as are enough begins with the whole run, and then nothing departs, nothing crosses
 /// and no figure changes.
+#[tactic(auto, using(crate::proofs::EndsTogether::begins_whole))]
 pub fn more_slots_add_nothing()
     ensures { (ms : List Machine) (ports class_count : ℕ) (ranks : List (List ℕ)) (came : List Arrival)
         (rs : List SlotRecord) (g : Fabric) →
