@@ -87,23 +87,3 @@ worked2 = search (arith, rules, at_inputs, nobody_best, nothing_moves)
 pub runs : FabricRun IsInputBest first_come_all 0 three_slots (empty_fabric 3 three_empty) worked_records
     (empty_fabric 3 three_empty)
 runs = (after0, worked0, (after1, worked1, (none_left, worked2, refl)))
-
--- ## What it sends and counts, computed
-
-pub departs : ideal_run first_come_all 0 three_slots (empty_ideal 3 three_empty)
-    ≡ Ok (record { gone = gone_in worked_records; after = empty_ideal 3 three_empty })
-unfolding ideal_run ideal_slot filled all_told is_before
-departs = refl
-
-pub goes_ahead : list_arrived (three [] [] (from_input2 ∷ []) [] [] []) (Some for_output1) (from_input2 ∷ [])
-    ≡ for_output1 ∷ from_input2 ∷ []
-unfolding is_before
-goes_ahead = refl
-
-pub transferred : transfers_of_run worked_records ≡ worked_transfers
-unfolding transfers_of_run transfers_in transfers_of
-transferred = refl
-
-pub measures : figures_of 3 worked_records ≡ worked_figures
-unfolding figures_of input_figures output_figures slacks proposals_in is_before place_in
-measures = refl
