@@ -1,7 +1,7 @@
 -- The figures of all records, with one record more. A sum, a count and a greatest number of a list with one part more
 -- are those of the list and of the part, put together; and so are a least and a greatest that may be none, since it
 -- does not matter which two numbers are compared first.
-use Rattle.cq_laws.proofs.Terms.{common_steps, rules, ◌≡◌, ℕ, zero, suc, ◌+◌, List, [], ◌∷◌, ◌++◌, map, refl, sym, ap, ◌∙◌, append_assoc, arith, max, min, fold, replicate, range_with_len, enumerate_from, flat_map, reduce, append-nil, map_push, flat_map-append, fold-append, sum_by_push, filter_map-append, Figures, SlotRecord, proposals_in, input_figures, output_figures, figures_of, either_by, input_after, output_after, figures_after, no_figures}
+use Rattle.cq_laws.proofs.Terms.{common_steps, rules, ◌≡◌, ℕ, zero, suc, ◌+◌, List, [], ◌∷◌, ◌++◌, map, refl, sym, ap, ◌∙◌, append_assoc, arith, max, fold, replicate, range_with_len, enumerate_from, flat_map, reduce, append-nil, map_push, flat_map-append, fold-append, sum_by_push, filter_map-append, Figures, SlotRecord, proposals_in, input_figures, output_figures, figures_of, either_by, input_after, output_after, figures_after, no_figures}
 
 -- ## Lists with one part more
 
@@ -17,9 +17,6 @@ module _ (f : ℕ → ℕ → ℕ) (assoc : (a b c : ℕ) → f (f a b) c ≡ f 
   pub reduce-append : (xs ys : List ℕ) → reduce f (xs ++ ys) ≡ either_by f (reduce f xs) (reduce f ys)
   reduce-append [] ys = refl
   reduce-append (x ∷ xs) ys = grind (arith, common_steps, append-nil, fold-append, fold-front)
-
-pub min_assoc : (a b c : ℕ) → min (min a b) c ≡ min a (min b c)
-min_assoc a b c = omega arith
 
 -- a list by index, changed at each index
 map-enumerate : {X : Type 0} (f new : ℕ → X) (g : ℕ → X → X) → ((i : ℕ) → new i ≡ g i (f i)) → (n k : ℕ) →
@@ -38,7 +35,7 @@ input_more : (rs : List SlotRecord) (r : SlotRecord) (i : ℕ) →
     input_figures (rs ++ r ∷ []) i ≡ input_after r i (input_figures rs i)
 unfolding input_figures input_after
 input_more rs r i =
-    search (arith, rules, sum_by_push, map_push, fold-append, reduce-append, min_assoc, flat_map-append, append-nil)
+    search (arith, rules, sum_by_push, map_push, fold-append, reduce-append, flat_map-append, append-nil)
 
 output_more : (rs : List SlotRecord) (r : SlotRecord) (j : ℕ) →
     output_figures (rs ++ r ∷ []) j ≡ output_after r j (output_figures rs j)

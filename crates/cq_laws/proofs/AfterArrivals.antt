@@ -2,7 +2,7 @@
 -- they come, which all differ: so no key is twice. Each older cell for the same output in the list has slack 1 at
 -- least, so where it is more urgent than the new cell it stands below the new cell's cushion: so the insertion keeps
 -- the order. And the cells for each output are those that were there and those that came for it.
-use Rattle.cq_laws.proofs.Terms.{common_steps, rules, ◌≡◌, ◌≢◌, ℕ, ◌+◌, ◌<◌, ◌⊎◌, List, length, Option, Some, None, ap, subst, arith, same_Some, Key, Cell, Queued, Machine, Fabric, input, buffer, IsAmong, IsFabric, cushion_of, came_to, list_arrived, Arrives, HasSlack, KeepsOrder, keeps_order_arrival, list_of, HasFor, all_from_has}
+use Rattle.cq_laws.proofs.Terms.{common_steps, rules, ◌≡◌, ◌≢◌, ℕ, ◌+◌, ◌<◌, ◌⊎◌, List, length, Option, Some, None, ap, arith, same_Some, Key, Cell, Queued, Machine, Fabric, input, buffer, IsAmong, IsFabric, cushion_of, came_to, list_arrived, Arrives, HasSlack, KeepsOrder, keeps_order_arrival, HasFor, all_from_has}
 use Rattle.cq_laws.proofs.Members.{among_insert, insert_new, insert_old}
 use Rattle.cq_laws.proofs.Cushions.{cushion_rises}
 use Rattle.cq_laws.proofs.Falls.{arrivals_fall}
@@ -28,11 +28,8 @@ module _ (ms : List Machine) (slot : ℕ) (cells : List (Option Cell)) (came : L
   arrived_from : (i : ℕ) (c : Queued) → IsAmong c (input new i) → (came_to came i ≡ Some c) ⊎ IsAmong c (input old i)
   arrived_from i c h = search (arith, rules, among_insert)
 
-  in_buffer : (j : ℕ) (c : Queued) → IsAmong c (buffer new j) → IsAmong c (buffer old j)
-  in_buffer j c h = subst (λ b. IsAmong c (list_of b j)) arrive.buffers h
-
   pub arrived_fabric : IsFabric old → IsFabric new
-  arrived_fabric fabric = search (rules, fabric.outputs, arrived_from, fabric.own, in_buffer)
+  arrived_fabric fabric = search (rules, fabric.outputs, arrived_from, fabric.own)
 
   module _ (sound : Sound slot old) (slack : HasSlack 1 old) where
     -- a cell that came has the key of no older one
@@ -46,13 +43,13 @@ module _ (ms : List Machine) (slot : ℕ) (cells : List (Option Cell)) (came : L
         (λ s x at out lt. search (arith, rules, cushion_rises x.key n.key (buffer old x.cell.output) lt))
 
     pub arrived_sound : Sound (slot + 1) new
-    arrived_sound = search (arith, rules, same_Some, new_old, arrived_fabric, arrived_from, in_buffer, ordered)
+    arrived_sound = search (arith, rules, same_Some, new_old, arrived_fabric, arrived_from, ordered)
 
     pub arrived_slack : HasSlack 0 new
     arrived_slack i t c at = grind (arith, common_steps, arrivals_fall ms slot cells came old new arrive i t c at)
 
     pub arrived_has : (j : ℕ) (c : Queued) → HasFor new j c → HasFor old j c ⊎ CameFor came j c
-    arrived_has j c h = search (rules, arrived_from, in_buffer)
+    arrived_has j c h = search (rules, arrived_from)
 
     pub has_arrived : (j : ℕ) (c : Queued) → HasFor old j c ⊎ CameFor came j c → HasFor new j c
     has_arrived j c h = search (arith, rules, insert_new, insert_old)

@@ -1,14 +1,11 @@
 -- What departures keep: they take the first cell out of each buffer, and nothing else changes.
-use Rattle.cq_laws.proofs.Terms.{rules, ◌≡◌, ℕ, ◌+◌, List, [], ◌∷◌, length, Option, ap, ◌∙◌, subst, arith, drop, common_steps, length-map, Queued, Machine, Fabric, input, buffer, IsAmong, IsFabric, Departs, HasSlack, IsRising, rests, list_of, take-append-drop, has_right}
+use Rattle.cq_laws.proofs.Terms.{rules, ◌≡◌, ℕ, ◌+◌, List, [], ◌∷◌, Option, ap, ◌∙◌, arith, drop, common_steps, length-map, Queued, Machine, Fabric, buffer, IsAmong, IsFabric, Departs, HasSlack, IsRising, list_of, take-append-drop, has_right}
 use Rattle.cq_laws.proofs.Falls.{departures_fall, rest_of}
 use Rattle.cq_laws.proofs.Sound.{Sound}
 
 pub rising_rest : (xs : List Queued) → IsRising xs → IsRising (drop 1 xs)
 rising_rest [] r = tt
 rising_rest (x ∷ xs) r = r.1
-
-pub length_rests : (lists : List (List Queued)) → length (rests lists) ≡ length lists
-length_rests lists = length-map lists (λ xs. drop 1 xs)
 
 module _ (ms : List Machine) (gone : List (Option Queued)) (slot : ℕ) (old new : Fabric)
     (depart : Departs ms gone old new) where
@@ -18,15 +15,11 @@ module _ (ms : List Machine) (gone : List (Option Queued)) (slot : ℕ) (old new
   was_crossed : (j : ℕ) (c : Queued) → IsAmong c (buffer new j) → IsAmong c (buffer old j)
   was_crossed j c h = grind (arith, common_steps, sent_buffer j, has_right, take-append-drop 1 (buffer old j))
 
-  same_input : (i : ℕ) (c : Queued) → IsAmong c (input new i) → IsAmong c (input old i)
-  same_input i c h = subst (λ l. IsAmong c (list_of l i)) depart.inputs h
-
   pub sent_fabric : IsFabric old → IsFabric new
-  sent_fabric fabric =
-      search (rules, length_rests, fabric.outputs, same_input, fabric.own, was_crossed, sent_buffer, rising_rest)
+  sent_fabric fabric = search (rules, length-map, fabric.outputs, fabric.own, was_crossed, sent_buffer, rising_rest)
 
   pub sent_sound : Sound slot old → Sound slot new
-  sent_sound sound = search (arith, rules, sent_fabric, same_input, was_crossed)
+  sent_sound sound = search (arith, rules, sent_fabric, was_crossed)
 
   pub sent_slack : (n : ℕ) → HasSlack (1 + n) old → HasSlack n new
   sent_slack n slack i t c at = grind (arith, common_steps, departures_fall ms gone old new depart i t c at)

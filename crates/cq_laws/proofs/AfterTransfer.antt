@@ -140,8 +140,5 @@ module _ (slot : ℕ) (old new : Fabric) (m : Partners) (sound : Sound slot old)
   pub moved_sound : Sound slot new
   moved_sound = search (arith, rules, moved_fabric, moved_apart, has_before, each_pair_left, was_waiting moves.moves)
 
-  pub moved_has : (j : ℕ) (c : Queued) → HasFor new j c → HasFor old j c
-  moved_has = has_before old new m sound.fabric sound.order sound.apart stable moves
-
   pub moved : Moved slot old new
-  moved = search (rules, has_after, moved_sound, matching_rises, slack_risen, moved_has)
+  moved = search (rules, has_after, has_before, moved_sound, matching_rises, slack_risen)

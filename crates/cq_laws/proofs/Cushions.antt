@@ -1,7 +1,7 @@
 -- Cushions. A cell more in a buffer raises by one the cushion of each less urgent key and lowers none, and a cell
 -- less lowers a cushion by one at most. A cushion that is not 0 shows a more urgent cell, and a greater key has no
 -- smaller cushion.
-use Rattle.cq_laws.proofs.Terms.{rules, ◌≡◌, ℕ, ◌+◌, ◌<◌, ◌≤◌, Bool, true, false, List, [], ◌∷◌, ap, arith, common_steps, cond_both, cases_Bool, Key, Queued, IsAmong, is_before, put, cushion, key_laws}
+use Rattle.cq_laws.proofs.Terms.{◌≡◌, ℕ, ◌+◌, ◌<◌, ◌≤◌, Bool, true, false, List, [], ◌∷◌, ap, arith, common_steps, cond_both, cases_Bool, Key, Queued, IsAmong, is_before, put, cushion, key_laws}
 
 -- 1 where the test holds
 abbrev pub bit : Bool → ℕ
@@ -17,10 +17,6 @@ bit_false b e = ap bit e
 pub cushion_cons : (k : Key) (x : Queued) (xs : List Queued) →
     cushion k (x ∷ xs) ≡ bit (is_before x.key k) + cushion k xs
 cushion_cons k x xs = grind (arith, common_steps, cond_both, bit_true, bit_false)
-
--- a cell taken from the front
-pub cushion_tail : (k : Key) (x : Queued) (xs : List Queued) → cushion k (x ∷ xs) ≤ 1 + cushion k xs
-cushion_tail k x xs = search (arith, rules, cushion_cons)
 
 pub cushion_put : (k : Key) (c : Queued) (xs : List Queued) →
     cushion k (put c xs) ≡ bit (is_before c.key k) + cushion k xs

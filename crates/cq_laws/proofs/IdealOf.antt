@@ -3,7 +3,7 @@
 -- of their keys, one after the other, each new one is before or behind every other, so the list rises, and it has the
 -- same members. So the lists made of the cells that the fabric has for each output rise and have these cells: that is
 -- agreement. And two lists that rise and have the same members are one list.
-use Rattle.cq_laws.proofs.Terms.{flat_map, common_steps, rules, ◌≡◌, ◌≢◌, ℕ, ◌≤◌, List, [], ◌∷◌, length, sym, ◌∙◌, ⊎_elim, arith, zero, suc, filter, cases_lt, eqb-true, eq-eqb, ext_get_or, get_or_past, get_or-map-range_with_len, length-map-range_with_len, Queued, IdealState, Agrees, Fabric, IsAmong, IsFabric, buffer, ListsKeepOrder, IsBefore, IsRising, KeysDiffer, KeepsOrder, is_for, list_of, IsSoundFabric, ideal_of, in_order, cells_for, HasFor, has_cases, has_left, has_right, has_kept, kept_has, all_of_has, none_had, all_from_has, same_pairs, pairs_joined, pairs_kept_with}
+use Rattle.cq_laws.proofs.Terms.{flat_map, common_steps, rules, ◌≡◌, ◌≢◌, ℕ, List, [], ◌∷◌, length, sym, ◌∙◌, ⊎_elim, arith, zero, suc, filter, cases_lt, eqb-true, eq-eqb, ext_get_or, get_or_past, get_or-map-range_with_len, length-map-range_with_len, Queued, IdealState, Agrees, Fabric, IsAmong, IsFabric, buffer, ListsKeepOrder, IsBefore, IsRising, KeysDiffer, KeepsOrder, is_for, list_of, IsSoundFabric, ideal_of, in_order, cells_for, HasFor, has_cases, has_left, has_right, has_kept, kept_has, all_of_has, none_had, all_from_has, same_pairs, pairs_joined, pairs_kept_with}
 use Rattle.cq_laws.proofs.Members.{among_put, put_new, put_old, rising_put}
 use Rattle.cq_laws.proofs.Sound.{apart_from, not_before_itself, Apart, never_both}
 
@@ -69,30 +69,22 @@ rising_in_order [] differ = tt
 rising_in_order (x ∷ xs) differ = rising_put x (in_order xs) (rising_in_order xs differ.1) (λ d h.
     all_of_has (λ (y : Queued). x.key ≢ y.key) xs d differ.0 (among_in_order d xs h))
 
--- ## The cells of a fabric for an output
-
--- there are none for what is no output
-none_past : (f : Fabric) → IsFabric f → (j : ℕ) (c : Queued) → length f.inputs ≤ j → HasFor f j c → ⊥
-none_past f fabric j c past h = search (arith, rules, fabric.outputs, get_or_past)
-
 -- ## The ideal switch of these cells
-
-ports_of : (f : Fabric) → length (ideal_of f).lists ≡ length f.inputs
-unfolding ideal_of
-ports_of f = length-map-range_with_len (λ j. in_order (cells_for j f)) 0 (length f.inputs)
 
 list_is : (f : Fabric) → IsFabric f → (j : ℕ) → list_of (ideal_of f).lists j ≡ in_order (cells_for j f)
 unfolding ideal_of
 list_is f fabric j = ⊎_elim (λ inside. grind (arith, common_steps, get_or-map-range_with_len)) (λ past.
-    let none = none_had (cells_for j f) (λ c h. none_past f fabric j c past (from_cells j f c h)) in
-    grind (arith, none, ports_of f, get_or_past (ideal_of f).lists j [])) (cases_lt j (length f.inputs))
+    -- there are none for what is no output
+    let none = none_had (cells_for j f) (λ c h.
+    search (arith, rules, from_cells j f c h, fabric.outputs, get_or_past)) in
+    grind (arith, none, length-map-range_with_len, get_or_past (ideal_of f).lists j [])) (cases_lt j (length f.inputs))
 
 pub agrees_of : (slot : ℕ) (f : Fabric) → IsSoundFabric slot f → Agrees slot f (ideal_of f)
 unfolding ideal_of
 agrees_of slot f sound =
-    let apart = apart_from f sound.differ in
-    let rise = rising_in_order in
-    search (arith, rules, ports_of, list_is, rise, cells_differ, from_cells, among_in_order, in_order_among, to_cells)
+    let apart = apart_from f sound.differ in let rise = rising_in_order in
+    let size = length-map-range_with_len (λ j. in_order (cells_for j f)) 0 (length f.inputs) in
+    search (arith, rules, size, list_is, rise, cells_differ, from_cells, among_in_order, in_order_among, to_cells)
 
 pub sound_from : (slot : ℕ) (f : Fabric) (ideal : IdealState) → Agrees slot f ideal → IsSoundFabric slot f
 sound_from slot f ideal agrees = grind (arith, common_steps)

@@ -1,13 +1,13 @@
 -- The least slack of a whole run, slot by slot.
 use Rattle.cq_laws.proofs.Terms.{rules, ◌≡◌, ℕ, suc, ◌+◌, ◌<◌, List, [], ◌∷◌, length, Option, Some, None, refl, arith, common_steps, min, fold, slice_get, option_and_then, filter_map, replicate, AllByRecursion, reduce, cons_option, length-replicate, Cell, Figures, Machine, AreForPorts, IdealState, IsStable, Fabric, empty_fabric, SlotRecord, FabricRun, Agrees, least_slack, HasMoreSlack, InputFigures, empty_ideal, either_by, figures_of, figures_after, no_figures, slack_on_arrival}
-use Rattle.cq_laws.proofs.AddingUp.{reduce-append, min_assoc, figures_fold}
+use Rattle.cq_laws.proofs.AddingUp.{reduce-append, figures_fold}
 use Rattle.cq_laws.proofs.OneSlot.{same_slot}
 use Rattle.cq_laws.proofs.WholeRuns.{empty_agree, no_place, traffic_for_empty}
 use Rattle.cq_laws.proofs.LeastSlack.{least_after, by_arrivals, more_after}
 
 reduce-cons : (o : Option ℕ) (xs : List ℕ) → reduce min (cons_option o xs) ≡ either_by min o (reduce min xs)
 reduce-cons None xs = refl
-reduce-cons (Some n) xs = reduce-append min min_assoc (n ∷ []) xs
+reduce-cons (Some n) xs = reduce-append min (λ a b c. omega arith) (n ∷ []) xs
 
 module _ (ms : List Machine) (class_count : ℕ) where
   least_run : (slot : ℕ) (traffic : List (List (Option Cell))) (f g : Fabric) (ideal : IdealState)

@@ -91,8 +91,7 @@ module _ (ms : List Machine) (slot class_count : ℕ) (cells : List (Option Cell
   slot_rises i t c at =
       let two = (second ms slot class_count cells f g ideal r agrees come step).rises i t c at in
       let between = departures_fall ms r.gone r.filled r.sent step.depart i two.before c two.stood in
-      let one = (first ms slot class_count cells f g ideal r agrees come step).rises i between.before c between.stood in
-      record { before = one.before; stood = one.stood; risen = omega arith }
+      search (arith, rules, (first ms slot class_count cells f g ideal r agrees come step).rises i between.before c)
 
   -- from the arrivals to those of the next slot
   pub never_falls : (cells' : List (Option Cell)) (came' : List (Option Queued)) (next : Fabric) →

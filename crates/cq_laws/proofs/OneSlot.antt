@@ -2,13 +2,13 @@
 -- after the arrivals, 1 after the first transfer, 0 after the departures, and 1 again after the second transfer.
 -- After the first transfer each cell that still waits at an input has slack 1, so it comes after a cell that its
 -- output has: the ideal list covers the buffer, both send the same cell, and the states agree again.
-use Rattle.cq_laws.proofs.Terms.{rules, ◌≡◌, ℕ, ◌+◌, ◌↔◌, List, length, Option, Err, sym, ap, ◌∙◌, inl, inr, ⊎_elim, arith, drop, zero, suc, ◌⊎◌, [], ◌∷◌, refl, common_steps, Cell, Queued, TagFault, Machine, AreForPorts, IsStable, Fabric, input, buffer, IsAmong, HasSlack, SlotRecord, FabricSlot, Partners, Agrees, IsWholeFabric, ListsKeepOrder, EachIsWhole, Arrives, Transfers, Departs, Key, IsBefore, IsRising, put_all, filled, fronts, rests, all_told, ideal_slot, list_of, HasFor, SendsAlike, slice_get, length-map-range_with_len, length-filled, ranks_kept, all_of_has, stands_at, ranking, orders_of, IdealState}
+use Rattle.cq_laws.proofs.Terms.{rules, ◌≡◌, ℕ, ◌+◌, ◌↔◌, List, length, Option, Err, sym, ap, ◌∙◌, inl, inr, ⊎_elim, arith, drop, zero, suc, ◌⊎◌, [], ◌∷◌, refl, common_steps, Cell, Queued, TagFault, Machine, AreForPorts, IsStable, Fabric, input, buffer, IsAmong, HasSlack, SlotRecord, FabricSlot, Partners, Agrees, IsWholeFabric, ListsKeepOrder, EachIsWhole, Arrives, Transfers, Departs, Key, IsBefore, IsRising, put_all, filled, fronts, rests, all_told, ideal_slot, list_of, HasFor, SendsAlike, slice_get, length-map-range_with_len, length-filled, ranks_kept, all_of_has, stands_at, ranking, orders_of, IdealState, length-map}
 use Rattle.cq_laws.proofs.Cushions.{cushion_has}
 use Rattle.cq_laws.proofs.Falls.{rest_of}
 use Rattle.cq_laws.proofs.Sound.{Sound, apart_from, early_from, differ_from, all_before, Apart, never_both, not_before_itself, same_first}
 use Rattle.cq_laws.proofs.AfterArrivals.{Keyed, arrived_sound, arrived_slack, arrived_has, has_arrived, arrived_fabric}
 use Rattle.cq_laws.proofs.AfterTransfer.{Moved, moved, moved_fabric}
-use Rattle.cq_laws.proofs.AfterDepartures.{sent_sound, sent_slack, sent_buffer, length_rests, rising_rest, sent_fabric}
+use Rattle.cq_laws.proofs.AfterDepartures.{sent_sound, sent_slack, sent_buffer, rising_rest, sent_fabric}
 use Rattle.cq_laws.proofs.Came.{keyed_from}
 use Rattle.cq_laws.proofs.IdealLists.{among_put_all, put_all_keeps, put_all_new, rising_put_all, list_after}
 
@@ -159,7 +159,7 @@ module _ (ms : List Machine) (slot class_count : ℕ) (cells : List (Option Cell
       let sound = second.sound in
       let sent = first.slack 0 slack_arrived in
       let slack = second.slack 0 (sent_slack ms r.gone (slot + 1) r.filled r.sent step.depart 0 sent) in
-      let ports = length_rests lists ∙ as_many ∙ sym ports_kept in
+      let ports = length-map lists (λ (xs : List Queued). drop 1 xs) ∙ as_many ∙ sym ports_kept in
       let agree : Agrees (slot + 1) f' after =
       search (arith, rules, same_gone, rest_of, rising_rest, full_rises, after_same, differ_from, all_before) in
       search (arith, rules, after, same_gone)

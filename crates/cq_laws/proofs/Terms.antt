@@ -1,5 +1,5 @@
 -- The words of this crate's proofs that stand elsewhere, each passed on from its place.
-pub use Rattle.cq_base.proofs.Library.{All, AllByRecursion, Bool, Err, List, None, Ok, Option, Some, [], ap, append-nil, append_assoc, arith, cases_Bool, cases_eq, cases_lt, common_steps, cond, cond_both, cons_option, drop, enumerate_from, eq-eqb, eqb-true, ext_get_or, false, filter, filter_map, filter_map-append, find, flat_map, flat_map-append, fold, fold-append, get_or-map-range_with_len, get_or-set_other, get_or-set_same, get_or_default, get_or_past, inl, inr, insert, is_some, length, length-append, length-enumerate_from, length-map, length-map-range_with_len, length-replicate, length-take-le, list_any, map, map-append, map_push, max, min, ne_eqb, option_and_then, option_map, position_or_len, range_with_len, reduce, refl, replicate, rules, same_Some, set, slice_get, slice_get-get_or, subst, suc, sum_by-replicate, sum_by_push, sym, take, take-append-drop, take_all, true, true≢false, zero, ℕ, ⊎_elim, ◌++◌, ◌+◌, ◌-◌, ◌<◌, ◌==◌, ◌↔◌, ◌∙◌, ◌∷◌, ◌≡◌, ◌≢◌, ◌≤◌, ◌⊎◌}
+pub use Rattle.cq_base.proofs.Library.{All, AllByRecursion, Bool, Err, List, None, Ok, Option, Some, [], ap, append-nil, append_assoc, arith, cases_Bool, cases_eq, cases_lt, common_steps, cond, cond_both, cons_option, drop, enumerate_from, eq-eqb, eqb-true, ext_get_or, false, filter, filter_map, filter_map-append, find, flat_map, flat_map-append, fold, fold-append, get_or-map-range_with_len, get_or-set_other, get_or-set_same, get_or_default, get_or_past, inl, inr, insert, is_some, length, length-append, length-enumerate_from, length-map, length-map-range_with_len, length-replicate, length-take-le, list_any, map, map-append, map_push, max, min, ne_eqb, option_and_then, option_map, position_or_len, range_with_len, reduce, refl, replicate, rules, same_Some, set, slice_get, slice_get-get_or, suc, sum_by-replicate, sum_by_push, sym, take, take-append-drop, take_all, true, true≢false, zero, ℕ, ⊎_elim, ◌++◌, ◌+◌, ◌-◌, ◌<◌, ◌==◌, ◌↔◌, ◌∙◌, ◌∷◌, ◌≡◌, ◌≢◌, ◌≤◌, ◌⊎◌}
 pub use Rattle.cq_base.proofs.Keys.{key_laws}
 pub use Rattle.cq_base.proofs.Lists.{each_pair_at, each_pair_left, first_here, first_later, first_le, keeps_order_arrival}
 pub use Rattle.cq_base.specs.{Arrivals.arrival_at, Arriving.end_of, declared.figures.InputFigures.InputFigures, declared.key.Key.Key}
@@ -43,7 +43,7 @@ pub use Rattle.cq_laws.specs.Records.{gone_in}
 unfoldable pub use Rattle.cq_laws.specs.Records.{transfers_in, transfers_of_run}
 pub use Rattle.cq_laws.specs.Slack.{ArrivesWithSlack, EachArrivesOrFalls, EachFalls, Falls}
 pub use Rattle.cq_laws.specs.SlotBySlot.{AfterBy, AreAlso, GoOn, HasParts, RunBy, StopBy, WholeBy}
-pub use Rattle.cq_laws.specs.Terms.{ActAlikeFromEmptyWithoutLimits, ActAlikeWithoutLimits, Agrees, AreForPorts, Arrival, Arrives, BeginsWhole, Cell, Departs, EachArrivesOr, EachIsWhole, EachRises, EndsAlike, Fabric, FabricRun, FabricSlot, FabricStops, Figures, FirstsCanCross, FitsList, HasMoreSlack, HasSlack, IdealState, IsAmong, IsEmptyFabric, IsFabric, IsFault, IsForSwitch, IsInputBest, IsLimitedFault, IsOneRun, IsRunOfRecorded, IsStable, IsWholeFabric, LimitedEndsAlike, LimitedFabricRun, LimitedFabricSlot, LimitedFabricStops, LimitedRecord, LimitedWholeRun, ListsKeepOrder, Machine, Marked, Partners, Queued, SlotRecord, TagFault, Transfers, WholeRun, admissions_in, buffer, came_to, cushion_of, empty_fabric, empty_limited_fabric, fabric_admission, first_come_all, for_output1, from_input2, ideal_held, idled_for, input, least_slack, list_arrived, no_arrivals, passed, place_of_arrival, quiet_slots, slots_in, three, three_empty, three_slots, worked_figures, worked_records, worked_transfers}
+pub use Rattle.cq_laws.specs.Terms.{ActAlikeFromEmptyWithoutLimits, ActAlikeWithoutLimits, Agrees, AreForPorts, Arrival, Arrives, BeginsWhole, Cell, Departs, EachArrivesOr, EachIsWhole, EachRises, EndsAlike, Fabric, FabricRun, FabricSlot, FabricStops, Figures, FirstsCanCross, FitsList, HasMoreSlack, HasSlack, IdealState, IsAmong, IsEmptyFabric, IsFabric, IsFault, IsForSwitch, IsInputBest, IsLimitedFault, IsOneRun, IsRunOfRecorded, IsStable, IsWholeFabric, LimitedEndsAlike, LimitedFabricRun, LimitedFabricSlot, LimitedFabricStops, LimitedRecord, LimitedWholeRun, ListsKeepOrder, Machine, Marked, Partners, Queued, SlotRecord, TagFault, Transfers, WholeRun, admissions_in, buffer, came_to, cushion_of, empty_fabric, empty_limited_fabric, fabric_admission, first_come_all, for_output1, from_input2, ideal_held, idled_for, input, least_slack, list_arrived, no_arrivals, passed, place_of_arrival, quiet_slots, slots_in, three, three_empty, three_slots, worked_records}
 pub use Rattle.cq_base.proofs.Putting.{length_put}
 pub use Rattle.cq_base.proofs.Each.{all_front}
 pub use Rattle.cq_base.specs.{declared.cell.Transfer.Transfer, declared.figures.OutputFigures.OutputFigures}

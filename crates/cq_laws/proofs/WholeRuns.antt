@@ -52,8 +52,7 @@ all_empty lists none i d inside = get_or_default lists i d [] inside ∙ none_ha
 pub empty_together : (slot : ℕ) (f : Fabric) (ideal : IdealState) → Agrees slot f ideal →
     IsEmptyFabric f ↔ IsEmptyIdeal ideal
 empty_together slot f ideal agrees = (
-  λ empty. all_empty ideal.lists (λ j c h.
-      search (arith, rules, none_in f.inputs, none_in f.buffers, (agrees.same j c).0 h)),
+  λ empty. search (arith, rules, all_empty, none_in f.inputs, none_in f.buffers, agrees.same),
   λ empty. record {
     inputs = all_empty f.inputs (λ i c h.
         none_in ideal.lists empty c.cell.output c ((agrees.same c.cell.output c).1 (inl (i, h, refl))));

@@ -1,6 +1,6 @@
 -- That the worked records are the run with input-best matchings: each matching is the one in which the proposals of
 -- its offers end, which is computed, and so is what its transfer moves.
-use Rattle.cq_laws.proofs.Terms.{rules, ◌≡◌, ℕ, zero, suc, ◌<◌, List, [], ◌∷◌, length, Some, None, Ok, refl, arith, set, ◌≢◌, common_steps, replicate, length-replicate, get_or-set_same, get_or-set_other, Queued, first_come_all, Fabric, input, buffer, empty_fabric, came_to, list_arrived, Transfers, SlotRecord, FabricSlot, FabricRun, from_input2, for_output1, three_slots, three, three_empty, worked_records, worked_transfers, worked_figures, put, first_for, without_first, is_before, all_told, ideal_slot, filled, place_in, ports, with_pair, partner_of, orders_of, list_of, ideal_run, empty_ideal, transfers_of, transfers_in, transfers_of_run, gone_in, figures_of, input_figures, output_figures, slacks, proposals_in, none_at, AllByRecursion, input_best-best, are_offers, all_of_has, Partners, IsInputBest}
+use Rattle.cq_laws.proofs.Terms.{rules, ◌≡◌, ℕ, zero, suc, ◌<◌, List, [], ◌∷◌, length, Some, None, refl, arith, set, ◌≢◌, common_steps, replicate, length-replicate, get_or-set_same, get_or-set_other, Queued, first_come_all, Fabric, input, buffer, empty_fabric, came_to, list_arrived, Transfers, SlotRecord, FabricSlot, FabricRun, from_input2, for_output1, three_slots, three, three_empty, worked_records, put, first_for, without_first, is_before, all_told, place_in, ports, with_pair, partner_of, orders_of, list_of, none_at, AllByRecursion, input_best-best, are_offers, all_of_has, Partners, IsInputBest}
 use Rattle.cq_laws.specs.Example.{lone_cell, from_input0, from_input1, slot0, slot1, slot2}
 use Rattle.cq_laws.proofs.QuietSlots.{nobody_best, nothing_moves}
 use Rattle.cq_prefs.specs.LeastFirst.{best, least_free}
