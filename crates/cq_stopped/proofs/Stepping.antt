@@ -56,8 +56,8 @@ most_of_all a (x ∷ xs) = grind (arith, common_steps, sum_by-cons, most_of_all 
 -- ## A slot
 
 module _ (w : Switch) (ranks : List (List ℕ)) (configured : IsConfigured w ranks) where
-  module _ (n : ℕ) (f g : Marked Fabric) (r : LimitedRecord) (ideal : IdealState) (cs : List (List (Option Queued)))
-      (sent : List Departure) (known : Known w n f.state ideal cs sent)
+  module _ {n : ℕ} {f g : Marked Fabric} {r : LimitedRecord} {ideal : IdealState} {cs : List (List (Option Queued))}
+      {sent : List Departure} (known : Known w n f.state ideal cs sent)
       (step : LimitedFabricSlot IsInputBest w.limits w.machines n (arriving w.came n) f r g) where
     -- ## What comes
 
@@ -245,8 +245,7 @@ module _ (w : Switch) (ranks : List (List ℕ)) (configured : IsConfigured w ran
     -- ## How many proposals a slot makes
 
     fewer_wait : waits g.state ≤ waits f.state + many_come - 1
-    fewer_wait =
-        omega (arith, counted w.machines n r.admission.cells ideal _ alike.sent, all_wait, alike.agrees)
+    fewer_wait = omega (arith, counted w.machines n r.admission.cells ideal _ alike.sent, all_wait, alike.agrees)
 
     -- a phase makes no more than the number of ports squared
     proposed_few : sum (proposals_in r.of_slot) ≤ 8192
@@ -311,14 +310,12 @@ module _ (w : Switch) (ranks : List (List ℕ)) (configured : IsConfigured w ran
   unfolding departures_of arriving_from come_count
   run_known zero a end f g [] ideal cs sent known low all is run = grind (arith, common_steps, append-nil)
   run_known (suc m) a end f g (r ∷ rs) ideal cs sent known low all is run =
-      let next = known_next a f run.0 r ideal cs sent known run.1 in
-      let now = now_recorded a f run.0 r ideal cs sent known run.1 (omega arith) (omega arith) in
-      let marks = marks_stay a f run.0 r ideal cs sent known run.1 in
-      let few = few_come a f run.0 r ideal cs sent known run.1 in
-      let less = fewer_wait a f run.0 r ideal cs sent known run.1 in
-      let made = slot_proposed a f run.0 r ideal cs sent known run.1 in
+      let few = few_come known run.1 in
+      let less = fewer_wait known run.1 in
+      let next = known_next known run.1 in
       let rest = run_known m (a + 1) end run.0 g rs _ _ _ next low (omega arith) (omega arith) run.2 in
-      search (arith, rules, append_assoc, rest, now, sum_by-append)
+      let made = slot_proposed known run.1 in
+      search (arith, rules, append_assoc, rest, now_recorded known run.1, marks_stay known run.1, sum_by-append)
   run_known _ a end f g _ ideal cs sent known low all is run = absurd run
 
   -- nothing is known of the empty fabric but that
