@@ -1,7 +1,7 @@
 -- The departures and the transfers of a run: what a slot adds to the departures, at each output the cell that it sent,
 -- if it sent one; that those of a slot stand in order, by output; what is asked of transfers; and the figures that are
 -- read off the departures.
-use Rattle.cq_stopped.proofs.Terms.{list_any, filter_none, ◌≡◌, ℕ, zero, suc, ◌+◌, ◌<◌, List, [], ◌∷◌, ◌++◌, Option, Some, None, refl, arith, rules, length, map, ◌-◌, Bool, false, eq-eqb, ne_eqb, and_parts, cases_lt, eqb-true, common_steps, map-append, get_or_past, length-map, filter-append, sum_by-cons, AllByRecursion, range_with_len, cons_option, enumerate_from, ◌==◌, filter, slice_index_or, count_by, filter_map, is_some, option_map, Arrival, Departure, Queued, Transfer, listed, slots_of, departures_of, departures_from, departures_in, SlotRecord, LimitedRecord, slots_in, figures_of, input_figures, output_figures, sent_by, wait_at, came_to, gone_in, EachPair, Differ, all_from_has, Has, has_image, has_kept, kept_has, AreApart, no_more, pairs_kept, figures_told, input_told, output_told, sent_told, seen_as, IsTransferBefore, named_in, Named, State, has_number, AreNumbered, IsMoved, range_rises, any_has, has_any, Figures, InputFigures, Seen, true}
+use Rattle.cq_stopped.proofs.Terms.{list_any, filter_none, ◌≡◌, ℕ, zero, suc, ◌+◌, ◌<◌, List, [], ◌∷◌, ◌++◌, Option, Some, None, refl, arith, rules, length, map, ◌-◌, Bool, false, eq-eqb, ne_eqb, and_parts, cases_lt, eqb-true, common_steps, map-append, get_or_past, length-map, filter-append, sum_by-cons, AllByRecursion, range_with_len, cons_option, enumerate_from, ◌==◌, filter, slice_index_or, count_by, filter_map, is_some, option_map, Departure, Queued, Transfer, listed, departures_of, departures_from, departures_in, SlotRecord, LimitedRecord, slots_in, output_figures, sent_by, wait_at, came_to, gone_in, EachPair, Differ, all_from_has, Has, has_image, has_kept, kept_has, AreApart, no_more, pairs_kept, input_told, output_told, seen_as, IsTransferBefore, Named, State, has_number, AreNumbered, IsMoved, range_rises, any_has, has_any, InputFigures, Seen, true}
 use Rattle.cq_stopped.proofs.Joined.{pairs_in}
 use Rattle.cq_stopped.proofs.Ran.{DepartsBefore, left_at, came_in, came_of, is_name_at}
 
@@ -128,21 +128,10 @@ module _ (names : List Named) (rs : List LimitedRecord) (differ : EachPair Diffe
       (search (arith, rules, all_from_has, has_any, named_at, kept_has comes, and_parts, has_kept, eqb-true)) in
       omega (arith, came_count (came_of rs) i 0 rs (λ t k e. let same : t ≡ k = omega arith in rw same refl))
 
--- ## Together
+-- ## All inputs
 
-inputs_same : (st : State) (f : ℕ → InputFigures) (a n : ℕ) → ((i : ℕ) → input_told st i (seen_as (f i)) ≡ f i) →
+pub inputs_same : (st : State) (f : ℕ → InputFigures) (a n : ℕ) → ((i : ℕ) → input_told st i (seen_as (f i)) ≡ f i) →
     map (λ (x : ℕ × Seen). input_told st x.0 x.1) (enumerate_from a (map seen_as (map f (range_with_len a n))))
     ≡ map f (range_with_len a n)
 inputs_same st f a zero each = refl
 inputs_same st f a (suc n) each = grind (arith, common_steps, inputs_same st f (a + 1) n each)
-
-module _ (came : List Arrival) (st : State) (rs : List LimitedRecord) (numbered : AreNumbered 0 (slots_in rs))
-    (differ : EachPair Differ (named_in st))
-    (named_at : (t i : ℕ) → list_any (is_name_at t i) (named_in st) ≡ is_some (came_in (came_of rs) t i))
-    (x : Figures) (ports : ℕ) (figures : x ≡ figures_of ports (slots_in rs))
-    (slots : (figures_of ports (slots_in rs)).slots ≡ slots_of (departures_of 0 (gone_in (slots_in rs))))
-    (sent : sent_told came st ≡ departures_of 0 (gone_in (slots_in rs))) where
-  pub figures_are : st.head.ports ≡ ports → st.head.proposals ≡ x.proposals → st.head.most ≡ x.most →
-      st.inputs ≡ map seen_as x.inputs → x ≡ figures_told came st
-  unfolding figures_told figures_of input_figures
-  figures_are many proposals most inputs = search (arith, rules, inputs_same, names_counted, output_same)

@@ -19,7 +19,7 @@ pub use Rattle.cq_ideal.proofs.FlowRank.{after_input_ok, only_ok, present}
 pub use Rattle.cq_ideal.proofs.FlowSlot.{Served, listed, served}
 pub use Rattle.cq_ideal.specs.Admission.{Marked, held_after, mark_after, mark_at, marks_after, unless}
 unfoldable pub use Rattle.cq_ideal.specs.Admission.{admission}
-pub use Rattle.cq_ideal.specs.{Ending.slots_of, IdealRun.empty_ideal}
+pub use Rattle.cq_ideal.specs.{IdealRun.empty_ideal}
 unfoldable pub use Rattle.cq_ideal.specs.Ending.{arriving_from}
 unfoldable pub use Rattle.cq_ideal.specs.IdealRun.{departures_of}
 pub use Rattle.cq_ideal.specs.IdealSlot.{IdealState, departures_from, filled, put_all}
@@ -63,7 +63,7 @@ pub use Rattle.cq_resume.specs.declared.taken.Taken.{Taken}
 pub use Rattle.cq_stopped.specs.Stopped.{AreRecorded, CanBeTakenUp, StoppedRunsAreSound, told_state}
 pub use Rattle.cq_audit.proofs.Noted.{FitsLine, range_rises, written_in_run}
 pub use Rattle.cq_base.proofs.Each.{all_both, all_weaker, few_kept, of_images, all_give, all_made, filter_all, filter_none}
-pub use Rattle.cq_base.specs.{declared.cell.TagFault.TagFault, declared.figures.Figures.Figures, declared.figures.InputFigures.InputFigures, declared.key.Key.Key, declared.setup.ClassRow.ClassRow, declared.setup.Kind.Kind, declared.setup.Kind.TheVariants.FirstCome, declared.setup.Kind.TheVariants.Fair}
+pub use Rattle.cq_base.specs.{declared.cell.TagFault.TagFault, declared.figures.InputFigures.InputFigures, declared.key.Key.Key, declared.setup.ClassRow.ClassRow, declared.setup.Kind.Kind, declared.setup.Kind.TheVariants.FirstCome, declared.setup.Kind.TheVariants.Fair}
 pub use Rattle.cq_pcap.specs.Captured.{Captured}
 pub use Rattle.cq_cells.proofs.{Packets.few_by}
 pub use Rattle.cq_cells.specs.NextArrival.{ArrivesIn}

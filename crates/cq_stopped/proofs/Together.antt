@@ -10,7 +10,7 @@ use Rattle.cq_resume.proofs.Cut.{filter_both}
 use Rattle.cq_resume.proofs.Joining.{parts_join as join}
 use Rattle.cq_resume.proofs.OneAnswer.{read_exact}
 use Rattle.cq_stopped.proofs.Configured.{least_of, AreLow, IsConfigured, configured}
-use Rattle.cq_stopped.proofs.Lined.{figures_are, AreMoved}
+use Rattle.cq_stopped.proofs.Lined.{AreMoved, inputs_same, names_counted, output_same}
 use Rattle.cq_stopped.proofs.Ran.{Known, came_in, came_of}
 use Rattle.cq_stopped.proofs.Standing.{is_of_one, state_sized, states_many, fabric_same, sent_same, arrivals_are, named_at, below_floors, keep_order, stand_in_order, has_shape, slack_kept}
 use Rattle.cq_stopped.proofs.Stepping.{none_first, most_of_all, IsRecordedWithin, Ended, known_first, run_known}
@@ -195,12 +195,14 @@ module _ (w : Switch) (ranks : List (List ℕ)) (configured : IsConfigured w ran
   -- ## It comes to what was left
 
   figures_same : at.frozen.figures ≡ figures_told w.came st
-  unfolding state_of
+  unfolding state_of figures_told figures_of input_figures
   figures_same =
       let once = each_pair Differ (named_in st) (arrivals_are at known).once in
       let run = recorded IsInputBest w.limits w.machines 0 _ _ _ rs runs in
       let in_slots = slots_of_figures IsInputBest w.machines ports _ _ _ (slots_in rs) run in
-      search (arith, rules, sent_same, known, figures_are, named_at, came_of, figures_are_of, limited_numbered)
+      let numbered = limited_numbered w.limits w.machines 0 _ _ _ rs runs in
+      let counted = names_counted (named_in st) rs once (named_at at known) in
+      search (arith, rules, sent_same at known, known, inputs_same, counted, output_same, figures_are_of)
 
   taken_same : at ≡ taken_of w st
   unfolding frozen_told state_of
