@@ -35,5 +35,4 @@ module _ (limits : List (Option ℕ)) (ms : List Machine) (ports class_count : �
 pub one_limited_whole : (limits : List (Option ℕ)) (ms : List Machine) (came : List Arrival) (start g h : Marked Fabric)
     (rs ss : List LimitedRecord) → LimitedWholeRun IsInputBest limits ms came start rs g →
     LimitedWholeRun IsInputBest limits ms came start ss h → (rs ≡ ss) × (g ≡ h)
-one_limited_whole limits ms came start g h rs ss w v = one_whole (LimitedFabricSlot IsInputBest limits ms)
-    (only_limited_run ms limits).run (λ (f : Marked Fabric). IsEmptyFabric f.state) came start rs ss g h w v
+one_limited_whole limits ms = one_whole (LimitedFabricSlot IsInputBest limits ms) (only_limited_run ms limits).run _

@@ -53,12 +53,12 @@ module _ {S R : Type 0} (Step : ℕ → List (Option Cell) → S → R → S →
   module _ (one : (slot : ℕ) (traffic : List (List (Option Cell))) (f g h : S) (rs ss : List R) →
       RunBy Step slot traffic f rs g → RunBy Step slot traffic f ss h → (rs ≡ ss) × (g ≡ h)) (IsEmpty : S →
       Type 0) (came : List Arrival) (start : S) where
-    no_longer : (rs ss : List R) (g h : S) → WholeBy Step IsEmpty came start rs g →
+    no_longer : (g h : S) (rs ss : List R) → WholeBy Step IsEmpty came start rs g →
         WholeBy Step IsEmpty came start ss h → length rs ≤ length ss
-    no_longer rs ss g h w v = ⊎_elim (λ (lt : length ss < length rs).
+    no_longer g h rs ss w v = ⊎_elim (λ (lt : length ss < length rs).
         search (arith, rules, reach came start rs (length ss) (length rs) g, run_of_whole came start rs IsEmpty g w))
         (λ ge. ge) (cases_lt (length ss) (length rs))
 
-    pub one_whole : (rs ss : List R) (g h : S) → WholeBy Step IsEmpty came start rs g →
+    pub one_whole : (g h : S) (rs ss : List R) → WholeBy Step IsEmpty came start rs g →
         WholeBy Step IsEmpty came start ss h → (rs ≡ ss) × (g ≡ h)
-    one_whole rs ss g h w v = grind (arith, common_steps, no_longer, run_of_whole)
+    one_whole g h rs ss w v = grind (arith, common_steps, no_longer, run_of_whole)

@@ -4,5 +4,4 @@ use Rattle.cq_laws.proofs.Parted.{one_whole}
 use Rattle.cq_laws.proofs.ending.one_whole_run.Goals as goal
 
 pub returns : goal.returns
-returns c = λ ms came start g h rs ss w v.
-    one_whole (FabricSlot IsInputBest ms) (only_run ms).run IsEmptyFabric came start rs ss g h w v
+returns c = λ ms. one_whole (FabricSlot IsInputBest ms) (only_run ms).run IsEmptyFabric
