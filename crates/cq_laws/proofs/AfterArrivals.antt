@@ -25,11 +25,8 @@ CameFor came j c = (k : ℕ) × (came_to came k ≡ Some c) × (c.cell.output �
 
 module _ (ms : List Machine) (slot : ℕ) (cells : List (Option Cell)) (came : List (Option Queued)) (old new : Fabric)
     (arrive : Arrives ms slot cells came old new) (keyed : Keyed slot (length old.inputs) came) where
-  arrived_from : (i : ℕ) (c : Queued) → IsAmong c (input new i) → (came_to came i ≡ Some c) ⊎ IsAmong c (input old i)
-  arrived_from i c h = search (arith, rules, among_insert)
-
   pub arrived_fabric : IsFabric old → IsFabric new
-  arrived_fabric fabric = search (rules, fabric.outputs, arrived_from, fabric.own)
+  arrived_fabric fabric = search (rules, fabric.outputs, among_insert, fabric.own)
 
   module _ (sound : Sound slot old) (slack : HasSlack 1 old) where
     -- a cell that came has the key of no older one
@@ -43,13 +40,13 @@ module _ (ms : List Machine) (slot : ℕ) (cells : List (Option Cell)) (came : L
         (λ s x at out lt. search (arith, rules, cushion_rises x.key n.key (buffer old x.cell.output) lt))
 
     pub arrived_sound : Sound (slot + 1) new
-    arrived_sound = search (arith, rules, same_Some, new_old, arrived_fabric, arrived_from, ordered)
+    arrived_sound = search (arith, rules, same_Some, new_old, arrived_fabric, among_insert, ordered)
 
     pub arrived_slack : HasSlack 0 new
     arrived_slack i t c at = grind (arith, common_steps, arrivals_fall ms slot cells came old new arrive i t c at)
 
     pub arrived_has : (j : ℕ) (c : Queued) → HasFor new j c → HasFor old j c ⊎ CameFor came j c
-    arrived_has j c h = search (rules, arrived_from)
+    arrived_has j c h = search (arith, rules, among_insert)
 
     pub has_arrived : (j : ℕ) (c : Queued) → HasFor old j c ⊎ CameFor came j c → HasFor new j c
     has_arrived j c h = search (arith, rules, insert_new, insert_old)

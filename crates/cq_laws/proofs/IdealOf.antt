@@ -31,15 +31,12 @@ module _ (j : ℕ) where
   at_waits [] i c h e = absurd h
   at_waits (cells ∷ lists) i c h e = grind (arith, common_steps, has_left, has_kept, eq-eqb, has_right, at_waits lists)
 
-  filter_rises : (xs : List Queued) → KeepsOrder xs → IsRising (filter (is_for j) xs)
-  filter_rises xs order = pairs_kept_with _ IsBefore (is_for j) (search (arith, rules, eqb-true)) xs order
-
   waits_differ : (lists : List (List Queued)) → ((i : ℕ) → KeepsOrder (list_of lists i)) →
       ((i k : ℕ) (c d : Queued) → IsAmong c (list_of lists i) → IsAmong d (list_of lists k) → c.key ≡ d.key → i ≡ k) →
       KeysDiffer (waits lists)
   waits_differ [] order apart = tt
   waits_differ (cells ∷ lists) order apart = pairs_joined _ (filter (is_for j) cells) (waits lists)
-      (differ_rising (filter (is_for j) cells) (filter_rises cells (order zero)))
+      (differ_rising _ (pairs_kept_with _ IsBefore (is_for j) (search (arith, rules, eqb-true)) cells (order zero)))
       (waits_differ lists (λ i. order (suc i)) (λ i k c d a b e. omega (arith, apart (suc i) (suc k) c d a b e)))
       (λ c d l r e. let at = waits_at lists d r in
       omega (arith, apart zero (suc at.0) c d (kept_has (is_for j) cells c l).0 at.1 e))

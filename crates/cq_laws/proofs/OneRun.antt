@@ -3,7 +3,7 @@
 -- buffer is after it, as does a departure. So each state of a slot is one, and by induction the states and records of
 -- a run.
 pub use Rattle.cq_prefs.proofs.InputOrder.{outputs_at}
-use Rattle.cq_laws.proofs.Terms.{common_steps, arith, rules, ◌≡◌, ℕ, List, [], ◌∷◌, length, Option, Some, refl, sym, ◌∙◌, ⊎_elim, ◌+◌, ext_get_or, Cell, Queued, TagFault, Machine, Marked, Fabric, Arrives, Transfers, Departs, SlotRecord, FabricSlot, IsFault, IsOneRun, LimitedRecord, LimitedFabricSlot, IsLimitedFault, fabric_admission, partner_of, HasCellFor, list_of, orders_of, RunBy, StopBy, is_output_order, one_input_best, Partners, IsStable, IsInputBest}
+use Rattle.cq_laws.proofs.Terms.{common_steps, arith, rules, ◌≡◌, ℕ, List, [], ◌∷◌, Option, Some, refl, sym, ◌∙◌, ⊎_elim, ◌+◌, ext_get_or, Cell, Queued, TagFault, Machine, Marked, Fabric, Arrives, Transfers, Departs, SlotRecord, FabricSlot, IsFault, IsOneRun, LimitedRecord, LimitedFabricSlot, IsLimitedFault, fabric_admission, partner_of, HasCellFor, list_of, orders_of, RunBy, StopBy, is_output_order, one_input_best, Partners, IsStable, IsInputBest}
 use Rattle.cq_laws.proofs.Rises.{sender}
 
 -- ## Where a state and what arrives leave no choice in a slot, they leave none in a run
@@ -42,18 +42,11 @@ module _ {S R : Type 0} (Step : ℕ → List (Option Cell) → S → R → S →
     pub one_of_each : IsOneRun Step Fault
     one_of_each = record { slot = no.slot; run = run_once; stop = stop_once; never_both = run_or_stop }
 
-same_fabric : (a b : Fabric) → a.inputs ≡ b.inputs → a.buffers ≡ b.buffers → a.ranks ≡ b.ranks → a ≡ b
-same_fabric a b e f g = λ k. record { inputs = e k; buffers = f k; ranks = g k }
-
-same_lists_at : (as' bs : List (List Queued)) → length as' ≡ length bs → ((i : ℕ) → list_of as' i ≡ list_of bs i) →
-    as' ≡ bs
-same_lists_at as' bs n h = ext_get_or [] as' bs n (λ i _. h i)
-
 -- ## One state after each phase
 
 pub one_arrival : (ms : List Machine) (slot : ℕ) (cells : List (Option Cell)) (c d : List (Option Queued))
     (old a b : Fabric) → Arrives ms slot cells c old a → Arrives ms slot cells d old b → (c ≡ d) × (a ≡ b)
-one_arrival ms slot cells c d old a b x y = search (arith, rules, same_fabric, same_lists_at)
+one_arrival ms slot cells c d old a b x y = search (arith, rules, ext_get_or [] a.inputs b.inputs)
 
 -- an input that has a partner has a cell for it
 pub offer_of : (lists : List (List Queued)) (m : Partners) → IsStable (orders_of lists) m → (i j : ℕ) →
@@ -64,15 +57,15 @@ offer_of lists m stable i j e =
 pub one_transfer : (m : Partners) (old a b : Fabric) → IsStable (orders_of old.inputs) m → Transfers m old a →
     Transfers m old b → a ≡ b
 one_transfer m old a b stable x y =
-    let buffers = same_lists_at a.buffers b.buffers (x.moves.ports.1 ∙ sym y.moves.ports.1) (λ j. ⊎_elim (λ r.
+    let buffers = ext_get_or [] a.buffers b.buffers (x.moves.ports.1 ∙ sym y.moves.ports.1) (λ j _. ⊎_elim (λ r.
     let f = offer_of old.inputs m stable r.0 j r.1 in
     cc (x.moves.given r.0 j f.0 r.1 f.1, y.moves.given r.0 j f.0 r.1 f.1))
     (λ none. cc (x.moves.kept j none, y.moves.kept j none)) (sender m j)) in
-    search (arith, rules, same_fabric, same_lists_at a.inputs b.inputs)
+    search (arith, rules, ext_get_or [] a.inputs b.inputs)
 
 pub one_departure : (ms : List Machine) (u v : List (Option Queued)) (a b c d : Fabric) → a ≡ b → Departs ms u a c →
     Departs ms v b d → (u ≡ v) × (c ≡ d)
-one_departure ms u v a b c d e x y = grind (arith, common_steps, same_fabric)
+one_departure ms u v a b c d e x y = grind (arith, common_steps)
 
 -- ## One slot
 
