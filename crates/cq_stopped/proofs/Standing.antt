@@ -65,10 +65,7 @@ module _ {w : Switch} (at : Taken) {ideal : IdealState} {cs : List (List (Option
   -- one that left
   pub has_left_it : (d : Departure) → Has at.sent d →
       IsKept d.queued × Has (left_at d.queued.cell.output at.sent) d.queued
-  has_left_it d has =
-      let right = right_at d has in
-      let there = left_has at.sent d _ right.own has in
-      search (arith, rules, kept_at d.queued, has_left, left_at d.queued.cell.output at.sent)
+  has_left_it d has = search (arith, rules, right_at d has, left_has at.sent d, kept_at d.queued, has_left, left_at)
 
   -- ## One name
 
@@ -77,18 +74,15 @@ module _ {w : Switch} (at : Taken) {ideal : IdealState} {cs : List (List (Option
       a.cell ≡ b.cell
   same_cell a b one two slot place = grind (arith, common_steps)
 
-  pairs_at : (j : ℕ) → j < length w.machines → EachPair Follows (pool_at j at.sent ideal)
-  pairs_at j inside = (known.lanes j inside).pairs
-
   -- two that wait under one name are one
   same_waiting : (a b : Queued) → Waits a → Waits b → a.key.slot ≡ b.key.slot → a.key.input ≡ b.key.input → a ≡ b
-  same_waiting a b one two slot place = search (rules, Has, pair_of_has, pairs_right, left_at, pairs_at, same_cell)
+  same_waiting a b one two slot place = search (rules, Has, pair_of_has, pairs_right, left_at, known.lanes, same_cell)
 
   -- of what left an output, what waits for it follows
   follows_left : (d : Departure) (q : Queued) → Has at.sent d → Waits q → d.queued.cell.output ≡ q.cell.output →
       Follows d.queued q
   follows_left d q has waits outputs =
-      search (arith, rules, has_left_it d has, pairs_cross Follows, Follows, left_at, pairs_at, Has)
+      search (arith, rules, has_left_it d has, pairs_cross Follows, Follows, left_at, known.lanes, Has)
 
   -- what waits has another name than what left
   differ_left : (d : Departure) (q : Queued) → Has at.sent d → Waits q → Differ (named_as q) (named_as d.queued)
@@ -250,7 +244,7 @@ module _ {w : Switch} (at : Taken) {ideal : IdealState} {cs : List (List (Option
         after = has_all _ (map sent_as at.sent) (λ d has.
             has_all (After d) queued (search (arith, rules, image_has, is_waiting, waits_after)));
         queued = has_all _ queued (λ a first. has_all (Ahead a) queued (search
-            (arith, rules, is_waiting, pairs_right, pairs_at, pair_of_has, pairs_both IsBefore Follows, of_one)));
+            (arith, rules, is_waiting, pairs_right, known.lanes, pair_of_has, pairs_both IsBefore Follows, of_one)));
       }
 
   -- ## The sixth clause: what waits is not above the floor of its class
