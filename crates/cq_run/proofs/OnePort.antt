@@ -1,12 +1,12 @@
 -- A switch of one port sends each cell in the slot in which it comes. Cells come one after another, at most one in a
 -- slot. So no cell waits when a slot begins; the cell that comes is alone in the one list, and leaves.
 -- The departures are the arrivals, and every packet leaves with its last cell, which alone is marked as last.
-use Rattle.cq_run.proofs.Terms.{common_steps, ◌⊎◌, inl, inr, ◌≡◌, ℕ, zero, suc, ◌+◌, ◌<◌, ◌≤◌, Bool, cond, List, [], ◌∷◌, map, replicate, Option, Some, None, Result, Ok, Err, refl, sym, ap, ◌∙◌, ⊎_elim, arith, rules, ◌-◌, ◌*◌, flat_map, ◌==◌, append-nil, AllByRecursion, range_with_len, filter, cases_eq, cond-true, eq-eqb, and_from, Arrival, arriving, arriving_at, end_of, enough, traffic_of, Departure, TagFault, filter-append, arrivals, arrivals_at, arrivals_of, cell_of, cells, cells_of, t0_of, packet_at, start, IsInRange, IsLater, IsTraffic, traffic_is, departures_limited, whole_limited_run, LimitedRan, empty_limited, unlimited, all_weaker, run_as_before, same_sent, Captured, AreTables, classes_of, ports_of, Tables, machines_of, openings_of, ideal_departures, ran_ideal, ends_packet_at, leaving, packets_out, all_leave, as_it_leaves, ne_eqb, Cell, Queued, Machine, after_input, ranking, arriving_is, first_slot, ranked_none, NoLimits, all_slots, before_end, OutPacket, one_is, most_ports}
+use Rattle.cq_run.proofs.Terms.{common_steps, ◌⊎◌, inl, inr, ◌≡◌, ℕ, zero, suc, ◌+◌, ◌<◌, ◌≤◌, Bool, List, [], ◌∷◌, map, replicate, Option, Some, None, Result, Ok, refl, sym, ◌∙◌, ⊎_elim, arith, rules, ◌-◌, ◌*◌, flat_map, ◌==◌, append-nil, AllByRecursion, range_with_len, filter, cases_eq, eq-eqb, and_from, Arrival, arriving, arriving_at, end_of, enough, traffic_of, Departure, TagFault, filter-append, arrivals, arrivals_at, arrivals_of, cell_of, cells, cells_of, t0_of, packet_at, start, IsInRange, IsLater, IsTraffic, traffic_is, departures_limited, whole_limited_run, LimitedRan, empty_limited, unlimited, all_weaker, run_as_before, same_sent, Captured, AreTables, classes_of, ports_of, Tables, machines_of, openings_of, ideal_departures, ran_ideal, ends_packet_at, leaving, packets_out, all_leave, as_it_leaves, ne_eqb, Cell, Queued, Machine, arriving_is, first_slot, ranked_none, NoLimits, all_slots, before_end, OutPacket, one_is, most_ports, EachPair}
 use Rattle.cq_base.proofs.{Each.all_give, Pooled.each_pair}
-use Rattle.cq_base.specs.Items.{EachPair}
+use Rattle.cq_ideal.proofs.{Came.nobody_left, Resting.none_at, Waiting.filled_next}
 use Rattle.cq_ideal.specs.Ending.{arriving_from}
 use Rattle.cq_ideal.specs.IdealRun.{Ran, departures_of, ideal_run, departures_ran, empty_ideal}
-use Rattle.cq_ideal.specs.IdealSlot.{IdealState, Sent, departures_in, filled, fronts, ideal_sends, ideal_slot, put_all, rests}
+use Rattle.cq_ideal.specs.IdealSlot.{IdealState, Sent, departures_in, filled, fronts, ideal_sends, ideal_slot, rests}
 
 -- cells of the one input for the one output, of which each comes later than the one before it, from this slot on
 pub record IsNextFrom (slot : ℕ) (a : Arrival) : Type 0 where
@@ -19,11 +19,6 @@ InTurnFrom slot [] = Unit {0}
 InTurnFrom slot (a ∷ came) = IsNextFrom slot a × InTurnFrom (a.slot + 1) came
 
 -- ## What comes in a slot
-
-all_same : {X : Type 0} (f g : ℕ → X) (a n : ℕ) → ((k : ℕ) → a ≤ k → f k ≡ g k) →
-    map f (range_with_len a n) ≡ map g (range_with_len a n)
-all_same f g a zero e = refl
-all_same f g a (suc n) e = grind (arith, common_steps, all_same f g (a + 1) n)
 
 all_none : (f : ℕ → Option Cell) (a n : ℕ) → ((k : ℕ) → a ≤ k → f k ≡ None) →
     map f (range_with_len a n) ≡ replicate n None
@@ -56,7 +51,8 @@ module _ (inputs : ℕ) (many : suc inputs ≡ most_ports) where
   later_slots : (a : Arrival) (came : List Arrival) (s n : ℕ) → a.slot < s →
       arriving_from (a ∷ came) s n ≡ arriving_from came s n
   unfolding arriving_from
-  later_slots a came s n less = grind (arith, common_steps, all_same, same_later)
+  later_slots a came s zero less = refl
+  later_slots a came s (suc n) less = grind (arith, common_steps, same_later, later_slots a came (s + 1) n)
 
 -- ## One slot
 
@@ -64,17 +60,11 @@ module _ (inputs : ℕ) (many : suc inputs ≡ most_ports) where
 abbrev pub alone : List (List ℕ) → IdealState
 alone ranks = record { lists = [] ∷ []; ranks = ranks }
 
-put_none : (n : ℕ) (xs : List Queued) → put_all 0 (replicate n None) xs ≡ xs
-put_none zero xs = refl
-put_none (suc n) xs = put_none n xs
-
 filled_one : (n : ℕ) (q : Queued) → q.cell.output ≡ 0 → filled (Some q ∷ replicate n None) ([] ∷ []) ≡ (q ∷ []) ∷ []
 unfolding filled
-filled_one n q out = simp (put_none, cond-true, eq-eqb)
-
-filled_none : (n : ℕ) → filled (replicate n None) ([] ∷ []) ≡ [] ∷ []
-unfolding filled
-filled_none n = ap (λ (xs : List Queued). xs ∷ []) (put_none n [])
+filled_one n q out =
+    let none = nobody_left (replicate n None) ((q ∷ []) ∷ []) (λ k p at. cc (none_at n k, at)) in
+    grind (arith, common_steps, filled_next)
 
 module _ (ms : List Machine) (slot : ℕ) (ranks : List (List ℕ)) where
   sends_of : (came : List (Option Queued)) (rs : List (List ℕ)) (lists : List (List Queued)) (sent : Sent) →
@@ -86,19 +76,13 @@ module _ (ms : List Machine) (slot : ℕ) (ranks : List (List ℕ)) where
   none_sent : (n : ℕ) (sent : Sent) → ideal_slot ms slot (replicate n None) (alone ranks) ≡ Ok sent
       → (sent.gone ≡ None ∷ []) × (sent.after ≡ alone sent.after.ranks)
   unfolding ideal_slot
-  none_sent n sent h = grind (arith, common_steps, sends_of, filled_none, ranked_none)
-
-  sends_one : (n : ℕ) (q : Queued) (given : List (List ℕ)) (fault : TagFault) (fits : Bool) (sent : Sent) →
-      q.cell.output ≡ 0 → ideal_sends ms (alone ranks)
-      (cond fits (after_input (Some q) (ranking ms slot 1 (replicate n None) given)) (Err fault)) ≡ Ok sent
-      → (sent.gone ≡ Some q ∷ []) × (sent.after ≡ alone sent.after.ranks)
-  sends_one n q given fault fits sent out h = grind (arith, common_steps, sends_of, filled_one, ranked_none)
+  none_sent n sent h = grind (arith, common_steps, sends_of, nobody_left (replicate n None), none_at, ranked_none)
 
   one_sent : (n : ℕ) (cell : Cell) (sent : Sent) → cell.output ≡ 0 →
       ideal_slot ms slot (Some cell ∷ replicate n None) (alone ranks) ≡ Ok sent
       → (q : Queued) × (q.cell ≡ cell) × (sent.gone ≡ Some q ∷ []) × (sent.after ≡ alone sent.after.ranks)
   unfolding ideal_slot
-  one_sent n cell sent out h = grind (arith, common_steps, sends_one)
+  one_sent n cell sent out h = search (arith, rules, sends_of, filled_one, ranked_none)
 
 -- ## Slot after slot
 
@@ -110,12 +94,6 @@ as_arrival d = record { slot = d.slot; cell = d.queued.cell }
 pub record AreInSlot (came : List Arrival) (sent : List Departure) : Type 0 where
   pub cells : map as_arrival sent ≡ came
   pub output : AllByRecursion (λ d. d.output ≡ 0) sent
-
-in_slot_one : (s : ℕ) (a : Arrival) (q : Queued) (came : List Arrival) (gone : List (List (Option Queued))) →
-    a.slot ≡ s → q.cell ≡ a.cell
-    → AreInSlot came (departures_of (s + 1) gone) → AreInSlot (a ∷ came) (departures_of s ((Some q ∷ []) ∷ gone))
-unfolding departures_of departures_in
-in_slot_one s a q came gone e f h = grind (arith, common_steps)
 
 module _ (ms : List Machine) (inputs : ℕ) (many : suc inputs ≡ most_ports) where
   -- from this slot on these leave in their slots
@@ -137,7 +115,7 @@ module _ (ms : List Machine) (inputs : ℕ) (many : suc inputs ≡ most_ports) w
   -- the first comes in this slot
   busy_slot : (n s : ℕ) (a : Arrival) (came : List Arrival) → a.slot ≡ s → InTurnFrom s (a ∷ came) →
       LeaveFrom (s + 1) came n → LeaveFrom s (a ∷ came) (suc n)
-  unfolding arriving_from
+  unfolding arriving_from departures_of departures_in
   busy_slot n s a came e turn behind ranks ran h =
       let cells = one_comes inputs many s a came e turn in
       let later = later_slots inputs many a came (s + 1) n (omega arith) in
@@ -145,7 +123,7 @@ module _ (ms : List Machine) (inputs : ℕ) (many : suc inputs ≡ most_ports) w
       (rw (cells, later) at h) in
       let is = one_sent ms s ranks inputs a.cell p.sent turn.0.output p.ran_slot in
       let rest = behind p.sent.after.ranks p.second (rw is.3 at p.ran_second) in
-      rw (p.both, is.2) (in_slot_one s a is.0 came p.second.gone e is.1 rest)
+      rw (p.both, is.2) (grind (arith, common_steps))
 
   pub each_in_its_slot : (n s end : ℕ) (came : List Arrival) → InTurnFrom s came →
       AllByRecursion (λ a. a.slot < end) came → end ≤ s + n → LeaveFrom s came n
@@ -167,9 +145,7 @@ module _ (ms : List Machine) (inputs : ℕ) (many : suc inputs ≡ most_ports) w
 in_turn : (classes slot : ℕ) (came : List Arrival) → AllByRecursion (IsInRange 1 classes) came →
     EachPair IsLater came → AllByRecursion (λ a. slot ≤ a.slot) came → InTurnFrom slot came
 in_turn classes slot [] ranges later first = tt
-in_turn classes slot (a ∷ came) ranges later first =
-    let next = all_give (IsLater a) (IsInRange 1 classes) (λ b. a.slot + 1 ≤ b.slot) in
-    search (arith, rules, next, in_turn classes (a.slot + 1) came)
+in_turn classes slot (a ∷ came) ranges later first = search (arith, rules, in_turn classes (a.slot + 1) came, all_give)
 
 ran_ok : (P : List Departure → Type 0) (x : Result Ran TagFault) (sent : List Departure) →
     departures_ran x ≡ Ok sent → ((ran : Ran) → x ≡ Ok ran → P (departures_of 0 ran.gone)) → P sent
