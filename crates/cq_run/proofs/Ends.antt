@@ -2,11 +2,11 @@
 -- status says. Each end has one status, and what the end says of the verdict is what the status says of it. The table
 -- of refusals is used for three facts alone: no refusal has a status of an end that is none, one with the status of
 -- read faults comes only where contents are told, and words are refused only where they are no command.
-use Rattle.cq_run.proofs.Terms.{common_steps, arith, ◌≡◌, ℕ, List, rules, [], ◌∷◌, ◌≢◌, ◌⊎◌, IsTrue, Result, Ok, Err, Option, None, Some, IfSome, MatchOption, Call, Fails, Lasts, Reads, Writes, Contents, Space, Command, Refusal, Halt, Aim, IsJudged, Pace, Uncounted, Plan, known_to, known_by, Reader, Taken, World, IsUntouched, IsCut, IsDone, IsCutAtFile, Rose, Words, Refused, Unread, NoMemory, Emulates, meaning_of, judged, judged_or_words, StatusCauses, Status, ◌+◌, PortRow, captures_from}
+use Rattle.cq_run.proofs.Terms.{common_steps, arith, ◌≡◌, ℕ, List, rules, [], ◌∷◌, ◌≢◌, IsTrue, Result, Ok, Err, Option, None, Some, IfSome, Call, Fails, Lasts, Reads, Writes, Contents, Space, Command, Refusal, Halt, IsJudged, Pace, Plan, known_to, known_by, Reader, Taken, World, IsCut, IsDone, IsCutAtFile, Rose, Words, Refused, Unread, NoMemory, Emulates, meaning_of, judged, judged_or_words, StatusCauses, Status, ◌+◌, PortRow, captures_from}
 use Rattle.cq_run.specs.declared.stop.Stop.{Stop}
 use Rattle.cq_run.specs.declared.stop.Stop.TheVariants.{Cut, Halted}
 use Rattle.cq_run.specs.declared.stop.Unwritten.{Unwritten}
-use Rattle.cq_run.specs.Ending.{CommandEnds, IsPlanned, CallsFor, EndsFor, WhereHalted, status_of}
+use Rattle.cq_run.specs.Ending.{CommandEnds, IsPlanned, EndsFor, WhereHalted, status_of}
 use Rattle.cq_run.proofs.Chain.{fails_after, counts_same, told_any}
 use Rattle.cq_run.proofs.Planned.{known_faults, counts_known}
 use Rattle.cq_base.specs.declared.status.Status.TheVariants as status
@@ -57,34 +57,15 @@ halted_so end e h done cut = grind (arith, common_steps)
 
 -- ## What the status says of such an end
 
--- the table of refusals
-
-not_done_not_cut : (r : Refusal) → ((meaning_of r).status ≢ status.Done) × ((meaning_of r).status ≢ status.WriteFault)
-not_done_not_cut r = grind (arith, common_steps)
-
 -- only the refusal of an input's capture is told before a fault of a name that is read behind it
 outruns_is : (r : Refusal) → IsTrue (meaning_of r).outruns → (meaning_of r).status ≡ status.Capture
 outruns_is r h = grind (arith, common_steps)
-
--- the statuses of answers that may come before such a fault
-abbrev Outruns : Status → Type 0
-Outruns answer = (answer ≡ status.Capture) ⊎ (answer ≡ status.NoMemory)
 
 -- a cut at a file was counted since the start
 cut_rose : (ws : List (List ℕ × List ℕ)) (name : List ℕ) (old new : Space) → IsCutAtFile ws name old new →
     Rose old.faults new.faults
 cut_rose [] name old new h = absurd h
 cut_rose (w ∷ ws) name old new h = grind (arith, common_steps, cut_rose ws name)
-
-module _ (p : Pace) (v : Contents → Result Aim Refusal) (known : Option Contents) (old new : World) where
-  -- What is said of the verdict where contents are known calls for the status of a refusal: it is the verdict, or
-  -- denies what the verdict aims at.
-  halted_causes : (r : Refusal) (P : Contents → Type 0) →
-      ((m : Contents) → P m → CallsFor (v m) (meaning_of r).status) →
-      MatchOption known (IsTrue (meaning_of r).untold) P →
-      Uncounted p (Outruns (meaning_of r).status) old.files.faults new.files.faults → IsUntouched old new →
-      StatusCauses p v known old new (meaning_of r).status
-  halted_causes r P calls h c u = grind (arith, common_steps)
 
 -- Only words that are no command are refused as such. No judgement of contents refuses them: they are judged before any
 -- file is asked for.
@@ -108,14 +89,10 @@ module _ (p : Pace) (a : Reader) (R W : List ℕ → Type 0) (T : Type 0) where
       StatusCauses p (judged a command) (known_to command old.files).told old new (status_of end)
   command_causes command old new (Ok x) h = grind (arith, common_steps)
   command_causes command old new (Err (Halted (Refused r))) h =
-      search (arith, rules, halted_causes, counts_known, outruns_is, counts_same, known_faults)
+      search (arith, rules, counts_known, outruns_is, counts_same, known_faults)
   command_causes command old new (Err (Halted (Unread name))) h = grind (arith, common_steps, known_faults)
   command_causes command old new (Err (Halted NoMemory)) h = search (arith, rules, told_any, counts_known)
   command_causes command old new (Err (Cut at)) h = grind (arith, common_steps, cut_rose)
-
-  not_words : (command : Command) (old new : World) (end : Result (Unit {0}) Stop) →
-      CommandEnds p a R W T command old new end → status_of end ≡ status.Words → ⊥
-  not_words command old new end h e = grind (arith, common_steps, never_captures, words_is)
 
 -- the answer of the top call is the status of its end
 module _ (p : Pace) (a : Reader) (R W : List ℕ → Type 0) (T : Type 0) (command : Option Command) (old new : World)
@@ -130,10 +107,10 @@ module _ (p : Pace) (a : Reader) (R W : List ℕ → Type 0) (T : Type 0) (comma
   words_end none = grind (arith, common_steps)
 
   pub only_words : answer ≡ status.Words → command ≡ None
-  only_words w = grind (arith, common_steps, not_words p a R W T)
+  only_words w = search (arith, rules, never_captures, words_is)
 
   -- ## The headline
 
   pub emulated_at : (c : Command) → command ≡ Some c → answer ≡ status.Done →
       IfSome old.files.told (λ m. (plan : Plan) × Emulates a c m plan × IsDone plan old new)
-  emulated_at c e done = grind (arith, common_steps, not_done_not_cut)
+  emulated_at c e done = search (arith, rules)
