@@ -1,7 +1,7 @@
 -- What is known at a moment of judging a command. All that was judged so far was accepted: no fault was counted, the
 -- file space is closed, its contents are as before, and of these the command comes to what is left to judge. So where a
 -- name that is read next is unread or refused, or what was read is judged, that is what the command comes to.
-use Rattle.cq_run.proofs.Terms.{rules, arith, ◌≡◌, ◌⊎◌, ℕ, IsTrue, List, subst, inl, inr, length, Option, IfOk, IfSome, Result, Ok, Err, common_steps, AllByRecursion, Captured, Tables, Call, Fails, Lasts, Reads, Closed, Contents, Space, Command, Given, Refusal, Halt, NoMemory, Refused, Unread, Aim, Auditing, Crossing, Denies, Exactly, Meets, Parting, Resuming, Departure, switched, command_asking, ideally_sent, state_in, text_in, EndsGiven, IsGiven, judged_of_given, Emulates, AreRead, IsJudged, IsHaltOf, Judges, Pace, InTurn, Plan, Decides, IsDenial, known_to, Reader, meaning_of, ◌>>=◌, MayRead, MayWrite, captures_in, judged, tables_in, AreTables, ports_of, IsErrAnd}
+use Rattle.cq_run.proofs.Terms.{rules, arith, ◌≡◌, ◌⊎◌, ℕ, IsTrue, List, subst, inl, inr, length, IfOk, IfSome, Result, Ok, Err, common_steps, AllByRecursion, Captured, Tables, Call, Fails, Lasts, Reads, Closed, Contents, Space, Command, Given, Refusal, Halt, NoMemory, Refused, Unread, Aim, Auditing, Crossing, Denies, Exactly, Meets, Parting, Resuming, Departure, switched, command_asking, ideally_sent, state_in, text_in, EndsGiven, IsGiven, judged_of_given, Emulates, AreRead, IsJudged, IsHaltOf, Judges, Pace, InTurn, Plan, Decides, known_to, Reader, meaning_of, ◌>>=◌, MayRead, MayWrite, captures_in, judged, tables_in, AreTables, ports_of, IsErrAnd}
 use Rattle.cq_run.specs.declared.denial.Denial.TheVariants.{LongLog, LongTrace}
 use Rattle.cq_run.specs.declared.judge.Asked.{Asked}
 use Rattle.cq_run.specs.declared.judge.Asked.TheVariants as asked
@@ -22,16 +22,6 @@ Settles v (Err (Refused refusal)) =
     IsTrue (meaning_of refusal).untold × ((v ≡ Err refusal) ⊎ ((aim : Aim) × (v ≡ Ok aim) × Denies aim refusal))
 Settles v (Err (Unread name)) = ⊥
 Settles v (Err NoMemory) = Unit {0}
-
--- a result that is refused is refused behind it
-pub refused_settles : {A : Type 0} (r : Result A Refusal) (f : A → Result Aim Refusal) (halt : Halt) →
-    IsHaltOf r halt → Settles (r >>= f) (Err halt)
-refused_settles r f halt h = grind (arith, common_steps)
-
--- what is aimed at is denied of contents that are told, and may be of others
-denied_at : (j : Contents → Result Aim Refusal) (told : Option Contents) (aim : Aim) (refusal : Refusal) →
-    IsTrue (meaning_of refusal).untold → Denies aim refusal → IfSome told (λ m. j m ≡ Ok aim) → IsDenial j told refusal
-denied_at j told aim refusal untold denied is = grind (arith, common_steps)
 
 -- what the ideal switch sends is judged last
 abbrev pub sent_of : (Tables → List (List Captured) → List Departure → Aim) → Reader → Tables → List (List Captured) →
@@ -126,9 +116,8 @@ module _ {S : Type 0} {space : S → Space} {may_fail : Call → S → S → Typ
       Judges p (judged r command) (Failed space may_fail keeps command old new) (space old) (space new) (Err halt)) →
       keeps old new → IsJudged space may_fail keeps p command old new (Err halt)
   halted {halt} knows h kept =
-      let front = h from_front in
       let halts = λ (r : Reader). known command knows p r _ (space old) (space new) (Err halt) (inl (h r)) in
-      search (arith, rules, halts)
+      search (arith, rules, halts, h from_front)
 
   -- what is read next ends judging
   pub read_ends : {A : Type 0} {mid : S} {j : Reader → Contents → Result A Refusal}
@@ -163,7 +152,7 @@ module _ {S : Type 0} {space : S → Space} {may_fail : Call → S → S → Typ
   settled {v} reached (Err (Refused refusal)) (untold, inr (aim, e, denied)) names emulates = record {
     judges = λ r.
         let judges = aims reached p r (Failed space may_fail keeps command old new) aim e in
-        search (arith, rules, known command reached.knows, denied_at);
+        search (arith, rules, known command reached.knows);
     kept = reached.kept;
     names = tt;
     emulates = λ r. tt;
@@ -178,7 +167,7 @@ module _ {S : Type 0} {space : S → Space} {may_fail : Call → S → S → Typ
       (reached : Reached space keeps command old new (λ r m. w >>= (λ x. Ok (f x)))) where
     -- which is refused, or
     pub computed_halts : (halt : Halt) → IsHaltOf w halt → IsJudged space may_fail keeps p command old new (Err halt)
-    computed_halts halt h = settled reached (Err halt) (refused_settles w _ halt h) tt (λ r. tt)
+    computed_halts halt h = settled reached (Err halt) (grind (arith, common_steps)) tt (λ r. tt)
 
     -- has a plan that meets what it aims at
     pub computed_plans : {x : A} {plan : Plan} → w ≡ Ok x → Meets (f x) plan →
