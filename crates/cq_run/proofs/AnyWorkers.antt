@@ -2,7 +2,7 @@
 -- run the setup and the limits, and what is written the names of the files and the length of a slot. So the same
 -- arrives whatever that number is; and each verdict, each plan that meets it, and each reason that denies it, is made
 -- of what arrives and of these. Numbers can be exchanged, so it holds both ways.
-use Rattle.cq_run.proofs.Terms.{rules, arith, common_steps, ◌≡◌, ◌+◌, ℕ, zero, suc, List, [], ◌∷◌, length, refl, ap, sym, Arrival, IsOkAnd, Result, Ok, Err, arrivals, arrivals_at, arrivals_of, cell_of, cells, Captured, Tables, Departure, LimitedRecord, IsFabricRun, PortRow, Kept, captures_out, crossed, resumed, switched, ideal_departures, ran_ideal, packets_out, Contents, Aim, Denies, Meets, Crossing, Auditing, Refusal, Plan, Reader, ◌>>=◌, judged, ideally_sent, sent_or_tag, tables_in, judged_of_given, Command, Audit, Check, Ideal, Part, Resume, Run}
+use Rattle.cq_run.proofs.Terms.{rules, arith, common_steps, ◌≡◌, ◌+◌, ℕ, zero, suc, List, [], length, refl, ap, sym, Arrival, IsOkAnd, Result, Ok, Err, arrivals, arrivals_at, arrivals_of, cell_of, cells, Captured, Tables, Departure, LimitedRecord, IsFabricRun, PortRow, Kept, captures_out, crossed, resumed, switched, ideal_departures, ran_ideal, packets_out, Contents, Aim, Denies, Meets, Crossing, Auditing, Refusal, Plan, Reader, ◌>>=◌, judged, ideally_sent, sent_or_tag, tables_in, judged_of_given, Command, Audit, Check, Ideal, Part, Resume, Run}
 use Rattle.std.specs.Prelude.{max}
 use Rattle.cq_cells.proofs.Ranges.{flat_same}
 use Rattle.cq_cells.specs.Schedule.{stamp_slot, start}
@@ -31,11 +31,6 @@ aimed a b met denied = grind (arith, common_steps)
 then_both : {A : Type 0} (x : Result A Refusal) (f g : A → Result Aim Refusal) → ((a : A) → Follows (f a) (g a)) →
     Follows (x >>= f) (x >>= g)
 then_both x f g h = grind (arith, common_steps)
-
--- and of one there is one plan
-met_once : (x : Result Aim Refusal) (a b : Plan) → IsOkAnd x (λ aim. Meets aim a) → IsOkAnd x (λ aim. Meets aim b) →
-    a ≡ b
-met_once x a b h k = grind (arith, common_steps, one_plan)
 
 module _ (n : ℕ) (t : Tables) where
   -- the tables with another number of workers
@@ -71,8 +66,7 @@ module _ (n : ℕ) (t : Tables) where
     outputs_same : (sent : List Departure) (output : ℕ) (rows : List PortRow) →
         captures_out u cs sent output rows ≡ captures_out t cs sent output rows
     unfolding captures_out packets_out
-    outputs_same sent output [] = refl
-    outputs_same sent output (row ∷ rows) = grind (arith, common_steps, outputs_same sent (suc output) rows)
+    outputs_same sent output rows = grind (arith, common_steps)
 
     switched_same : (sent : List Departure) → switched u cs sent ≡ switched t cs sent
     unfolding switched
@@ -130,4 +124,4 @@ pub workers_change_nothing : (r : Reader) → WorkersChangeNothing r
 workers_change_nothing r command m one other d =
     let there = follows d.workers d.tables r m one other d.first d.second command in
     let back = follows d.tables.workers (with_workers d.workers d.tables) r m other one d.second d.first command in
-    search (arith, rules, met_once)
+    search (arith, rules, one_plan)
