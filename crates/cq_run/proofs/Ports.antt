@@ -121,13 +121,6 @@ module _ {S : Type 0} (space : S → Space) {keeps : S → S → Type 0} {row : 
     ever : (name : List ℕ) → Since name → Ever name
     ever name = fails_after lasts b.uncounted kept
 
-    -- the first capture ends it, whatever the later ones came to
-    capture_ends : {halt : Halt} {later : Result (List (List Captured)) Halt} →
-        MatchOption begun ⊥ (λ d. IsHaltFor input (source d) halt) → Later later → Whole (Err halt)
-    capture_ends {halt} {later} h g =
-        let here = halted r input limit Ever (space old) (space new) halt row.read begun b.decoding h in
-        first_ends r limit input row rows (search (arith, rules, name_after, ever, counts_of))
-
     module _ (packets : List Captured) (h : MatchOption begun (packets ≡ []) (λ d. Spells (source d) packets)) where
       first : Judges Ahead (packets_at r input limit row.read) Ever (space old) (space mid) (Ok packets)
       first = grind (arith, common_steps, arrived r input limit (space old).told packets row.read begun b.decoding h)
@@ -148,7 +141,9 @@ module _ {S : Type 0} (space : S → Space) {keeps : S → S → Type 0} {row : 
         IfOk first (λ packets. MatchOption begun (packets ≡ []) (λ d. Spells (source d) packets)) →
         IfErr first (λ halt. MatchOption begun ⊥ (λ d. IsHaltFor input (source d) halt)) → Later later →
         IsInFront first later result → Whole result
-    together (Err halt) later result spelt halts g is = rw is (capture_ends halts g)
+    together (Err halt) later result spelt halts g is =
+        let here = halted r input limit Ever (space old) (space new) halt row.read begun b.decoding halts in
+        rw is (first_ends r limit input row rows (search (arith, rules, name_after, ever, counts_of)))
     together (Ok packets) (Err halt) result spelt halts g is = rw is (later_ends packets spelt g)
     together (Ok packets) (Ok others) result spelt halts g is = grind (arith, common_steps, all_arrive packets spelt g)
 
