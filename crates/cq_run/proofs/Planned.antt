@@ -46,12 +46,9 @@ module _ {S : Type 0} {space : S → Space} {may_fail : Call → S → S → Typ
       IfErr result (IsHaltOf (soak_sent seed ports slots)) →
       IsJudged space may_fail keeps InTurn (Soak seed ports slots) s s result
   soak_judged (Ok plan) meets none is halts =
+      let judges = judges_computed closed (reported_ok (soak_sent seed ports slots) (soak_aim seed ports slots) is) in
       record {
-        judges = λ r. (
-          soak_aim seed ports slots,
-          meets,
-          judges_computed closed (reported_ok (soak_sent seed ports slots) _ is),
-        );
+        judges = λ r. (soak_aim seed ports slots, meets, judges);
         kept = kept;
         names = rw none tt;
         emulates = λ r. told_any (space s).told _ (λ m. tt);
