@@ -67,12 +67,11 @@ module _ (t : Tables) (pairs : ArePairs (files_in t)) where
 
   -- so it is with each that they read
   pub reads_unwritten : AllByRecursion (λ row. IfSome row.read (IsUnwritten t)) t.ports
-  reads_unwritten = each_read (IsUnwritten t) 0 t.ports (λ r k read. record {
-    outputs = each_written (λ (w : List ℕ). w ≢ r.file) 0 t.ports
-        (λ n l written. unlike r n k (inr (inr l)) read written);
-    trace = unlike r (written_at Top (codes "trace") t.trace) k (inl refl) read refl;
-    log = unlike r (written_at Top (codes "log") t.log) k (inr (inl refl)) read refl;
-  })
+  reads_unwritten = each_read (IsUnwritten t) 0 t.ports (λ r k read.
+      let outputs = each_written (λ (w : List ℕ). w ≢ r.file) 0 t.ports in
+      let trace = unlike r (written_at Top (codes "trace") t.trace) k (inl refl) read refl in
+      let log = unlike r (written_at Top (codes "log") t.log) k (inr (inl refl)) read refl in
+      search (arith, rules, outputs, unlike r))
 
   -- and the trace is not the log
   pub trace_or_log : t.trace ≢ t.log

@@ -16,8 +16,7 @@ named_then : {A : Type 0} (asked : List ℕ) (f : List ℕ → Result A Refusal)
     Stays (λ (m : Contents). named m asked >>= f)
 unfolding Stays
 named_then asked f m name x h =
-    let removed = get-remove nat_list_cmp_total m name asked in
-    grind (arith, common_steps, removed, tells_apart exact_bytes asked name)
+    grind (arith, common_steps, tells_apart exact_bytes asked name, get-remove nat_list_cmp_total m name asked)
 
 pub tables_stay : (name : List ℕ) → Stays (tables_in name)
 tables_stay name = named_then name (λ (bytes : List ℕ). read_or_refused_for (read_or_refused bytes))
