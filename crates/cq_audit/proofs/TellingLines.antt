@@ -1,7 +1,7 @@
 -- The lines of a phase, told one after another. Their inputs rise, so where a line has its turn, those before it are of
 -- lesser inputs and those behind it of greater ones: it is the line of its input, and an output that is taken then is
 -- taken by a lesser input's line.
-use Rattle.cq_audit.proofs.Terms.{common_steps, rules, ◌≡◌, ◌≢◌, ℕ, ◌+◌, ◌<◌, ◌≤◌, ◌⊎◌, List, [], ◌∷◌, ◌++◌, length, map, get_or, take, drop, None, Some, refl, sym, ◌∙◌, arith, replicate, AllByRecursion, range_with_len, cases_eq, cond_both, eq-eqb, eqb-true, length-map, length-replicate, length-set, get_or-set_same, get_or-set_other, ext_get_or, get_or-map-range_with_len, length-map-range_with_len, take-append-drop, take_more, drop_more, find-append, all_back, all_weaker, Queued, Transfer, Waiting, cells_of, list_of, Partners, partner_of, with_pair, IsFreeOutput, nobody, IsOf, AreRight, IsFirstWrong, IsWrongLine, RiseByInput, first_id, line_of_input, output_told, told, get_or-map}
+use Rattle.cq_audit.proofs.Terms.{common_steps, subst, rules, ◌≡◌, ◌≢◌, ℕ, ◌+◌, ◌<◌, ◌≤◌, ◌⊎◌, List, [], ◌∷◌, ◌++◌, length, get_or, take, drop, None, Some, refl, sym, ◌∙◌, arith, replicate, AllByRecursion, cases_eq, cond_both, eq-eqb, eqb-true, length-map, length-replicate, length-set, get_or-set_same, get_or-set_other, ext_get_or, get_or-map-range_with_len, length-map-range_with_len, take-append-drop, take_more, drop_more, find-append, all_back, all_weaker, Queued, Transfer, Waiting, cells_of, list_of, Partners, partner_of, with_pair, IsFreeOutput, nobody, IsOf, AreRight, IsFirstWrong, IsWrongLine, RiseByInput, first_id, line_of_input, output_told, told, get_or-map}
 use Rattle.cq_audit.specs.Pairs.{CanBeJoined}
 
 -- the list of an input that is one
@@ -43,8 +43,7 @@ pub all_told : (lists : List (List Queued)) (lines : List Transfer) (m : Partner
 unfolding told
 all_told lists lines m ports square had =
     let long = length-map-range_with_len (output_told lines) 0 ports in
-    ext_get_or None m (map (output_told lines) (range_with_len 0 ports)) (omega arith)
-    (search (arith, rules, get_or-map-range_with_len, had.told))
+    search (arith, rules, ext_get_or None m, get_or-map-range_with_len, had.told)
 
 -- ## One line more
 
@@ -60,68 +59,25 @@ module _ (t : Transfer) (rest : List Transfer) where
   both_sides (u ∷ front) rise = let others = both_sides front rise.1 in
       (((all_back (λ v. u.input < v.input) front (t ∷ rest) rise.0).0, others.0), others.1)
 
-module _ (front : List Transfer) (t : Transfer) (lesser : AllByRecursion (λ u. u.input < t.input) front) where
-  -- an input that has a line among those before is lesser
-  told_before : (k : ℕ) (u : Transfer) → line_of_input k front ≡ Some u → k < t.input
-  told_before k u is = grind (arith, common_steps, line_holds, line_is_of)
+lesser_line : (front rest : List Transfer) (t : Transfer) → AllByRecursion (λ u. t.input < u.input) rest → (k : ℕ) →
+    k < t.input → line_of_input k (front ++ t ∷ rest) ≡ line_of_input k front
+lesser_line front rest t greater k less = grind (arith, common_steps, no_line, all_weaker, find-append)
 
-  free_before : line_of_input t.input front ≡ None
-  free_before = grind (arith, common_steps, told_before)
-
-  own_line : (rest : List Transfer) → line_of_input t.input (front ++ t ∷ rest) ≡ Some t
-  own_line rest = grind (arith, common_steps, find-append, free_before, cond_both, eq-eqb)
-
-  lesser_line : (rest : List Transfer) → AllByRecursion (λ u. t.input < u.input) rest → (k : ℕ) → k < t.input →
-      line_of_input k (front ++ t ∷ rest) ≡ line_of_input k front
-  lesser_line rest greater k less = grind (arith, common_steps, no_line, all_weaker, find-append)
-
-  other_line : (k : ℕ) → k ≢ t.input → line_of_input k (front ++ t ∷ []) ≡ line_of_input k front
-  other_line k other = grind (arith, common_steps, find-append, cond_both, eqb-true)
-
-module _ (lists : List (List Queued)) (lines front rest : List Transfer) (t : Transfer) (m : Partners)
-    (parts : lines ≡ front ++ t ∷ rest) (rise : RiseByInput lines) (had : ToldBy lists front m) where
-  sides : AllByRecursion (λ u. u.input < t.input) front × AllByRecursion (λ u. t.input < u.input) rest
-  sides = both_sides t rest front (rw parts at rise)
-
-  -- it is wrong
-  pub wrong_line : (first_id t.output (list_of lists t.input) ≢ Some t.id)
-      ⊎ ((k : ℕ) × (partner_of m k ≡ Some t.output)) → IsFirstWrong lists lines t.input
-  wrong_line why =
-      let same = lesser_line front t sides.0 rest sides.1 in
-      let own = own_line front t sides.0 rest in
-      let before = told_before front t sides.0 in
-      rw parts (record {
-        wrong = search (arith, rules, same, own, before, had.told);
-        least = λ k below wrong. had.right k
-            (same_wrong lists (front ++ t ∷ rest) front k (λ j le. same j (omega arith)) wrong);
-      })
-
-  -- it is right
-  pub right_line : t.input < length m → first_id t.output (list_of lists t.input) ≡ Some t.id →
-      IsFreeOutput m t.output → ToldBy lists (front ++ t ∷ []) (with_pair m t.input t.output)
-  right_line inside names free =
-      let own = own_line front t sides.0 [] in
-      let other = other_line front t sides.0 in
-      let before = told_before front t sides.0 in
-      record {
-        size = search (arith, rules, length-set, had.size);
-        told = λ i. grind (arith, common_steps, get_or-set_same, get_or-set_other, had.told, own, other, cases_eq);
-        right = λ i wrong.
-            search (arith, rules, own, other, had.told, free, before, had.right i, same_wrong, cases_eq i t.input);
-      }
-
--- the same of the line at place n
+-- the line at place n, behind those that were looked at
 module _ (ws : List Waiting) (lines : List Transfer) (n : ℕ) (d : Transfer) (m : Partners) (w : Waiting)
     (inside : n < length lines) (of : AllByRecursion (IsOf (length ws)) lines) (rise : RiseByInput lines)
     (had : ToldBy (cells_of ws) (take n lines) m) (is : w ≡ get_or ws (get_or lines n d).input w) where
   abbrev line : Transfer
   line = get_or lines n d
 
-  parts : lines ≡ take n lines ++ line ∷ drop (n + 1) lines
+  abbrev front : List Transfer
+  front = take n lines
+
+  parts : lines ≡ front ++ line ∷ drop (n + 1) lines
   parts = grind (arith, common_steps, drop_more, take-append-drop)
 
   own : IsOf (length ws) line
-  own = (all_back _ (take n lines) (line ∷ drop (n + 1) lines) (rw parts at of)).0
+  own = (all_back _ front (line ∷ drop (n + 1) lines) (rw parts at of)).0
 
   list : list_of (cells_of ws) line.input ≡ w.cells
   list = cells_at ws line.input w own.input (sym is)
@@ -129,15 +85,51 @@ module _ (ws : List Waiting) (lines : List Transfer) (n : ℕ) (d : Transfer) (m
   long : length m ≡ length ws
   long = had.size ∙ length-map ws (λ (x : Waiting). x.cells)
 
+  sides : AllByRecursion (λ u. u.input < line.input) front
+      × AllByRecursion (λ u. line.input < u.input) (drop (n + 1) lines)
+  sides = both_sides line (drop (n + 1) lines) front (rw parts at rise)
+
+  -- an input that has a line among those before is lesser
+  told_before : (k : ℕ) (u : Transfer) → line_of_input k front ≡ Some u → k < line.input
+  told_before k u is = grind (arith, common_steps, line_holds, line_is_of, sides)
+
+  free_before : line_of_input line.input front ≡ None
+  free_before = grind (arith, common_steps, told_before)
+
+  own_line : (rest : List Transfer) → line_of_input line.input (front ++ line ∷ rest) ≡ Some line
+  own_line rest = grind (arith, common_steps, find-append, free_before, cond_both, eq-eqb)
+
+  other_line : (k : ℕ) → k ≢ line.input → line_of_input k (front ++ line ∷ []) ≡ line_of_input k front
+  other_line k other = grind (arith, common_steps, find-append, cond_both, eqb-true)
+
+  -- it is wrong
   pub wrong_at : (first_id line.output w.cells ≢ Some line.id) ⊎ ((k : ℕ) × (partner_of m k ≡ Some line.output)) →
       IsFirstWrong (cells_of ws) lines line.input
-  wrong_at why = wrong_line (cells_of ws) lines (take n lines) (drop (n + 1) lines) line m parts rise had (rw list why)
+  wrong_at why =
+      let rest = drop (n + 1) lines in
+      let stands = subst (λ (l : List Transfer). line_of_input line.input l ≡ Some line) (sym parts) (own_line rest) in
+      let same = λ (k : ℕ) (less : k < line.input). subst (λ (ls : List Transfer). line_of_input k ls
+      ≡ line_of_input k front) (sym parts) (lesser_line front rest line sides.1 k less) in
+      record {
+        wrong = search (arith, rules, same, stands, told_before, had.told, list);
+        least = λ k below wrong. had.right k
+            (same_wrong (cells_of ws) lines front k (λ j le. same j (omega arith)) wrong);
+      }
 
   pub can_join : IsFreeOutput m line.output → CanBeJoined m line.input line.output
-  can_join free = grind (arith, common_steps, free_before, long, own, both_sides line (drop (n + 1) lines))
+  can_join free = grind (arith, common_steps, free_before, long, own)
 
+  -- it is right
   pub right_at : first_id line.output w.cells ≡ Some line.id → IsFreeOutput m line.output →
       ToldBy (cells_of ws) (take (n + 1) lines) (with_pair m line.input line.output)
-  right_at names free = search (rules, long, take_more, right_line, parts, own, list)
+  right_at names free = rw (take_more lines n d inside) (record {
+    size = search (arith, rules, length-set, had.size);
+    told = λ i.
+        let own = own.input in
+        grind (arith, common_steps, get_or-set_same, get_or-set_other, had.told, own_line, other_line, long, cases_eq);
+    right = λ i wrong.
+        let told = had.told in
+        search (arith, rules, own_line, other_line, free, told_before, had.right i, same_wrong, list, cases_eq);
+  })
 
 pub ruleset told_steps = (none_told, cells_at, can_join)
