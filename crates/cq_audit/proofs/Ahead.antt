@@ -1,16 +1,11 @@
 -- With which outputs an input blocks a matching: with those that it prefers to its partner and that have none which
 -- they prefer to the input. So it is enough to look at its order up to its partner, and to keep the least output.
 use Rattle.std.proofs.Common.{IfNone}
-use Rattle.cq_audit.proofs.Terms.{common_steps, rules, ℕ, ◌≡◌, ◌≢◌, ◌+◌, ◌<◌, ◌≤◌, ◌⊎◌, List, length, take, Option, None, Some, IfSome, get_or, get_or-take, length-take-le, arith, cases_eq, cases_lt, depth, AreOffers, IsListed, IsOffered, Orders, outputs_of, place_in, place_of, ports, HasBetterInput, IsBlocking, Partners, partner_place, output_in_range, place_in-le-length, place_of-at, same_at_place}
-
--- an output of an order that is not behind a partner, and is not this partner, stands ahead of it
-ahead_of : (order : List ℕ) (p : Option ℕ) (j : ℕ) → IsListed order j → p ≢ Some j →
-    (depth order p < place_in order j → ⊥) → place_in order j < depth order p
-ahead_of order p j listed other none = grind (arith, common_steps, cases_lt, same_at_place)
+use Rattle.cq_audit.proofs.Terms.{common_steps, rules, ℕ, ◌≡◌, ◌+◌, ◌<◌, ◌≤◌, ◌⊎◌, List, length, take, Option, None, Some, IfSome, get_or, get_or-take, length-take-le, arith, cases_eq, cases_lt, AreOffers, IsOffered, Orders, outputs_of, place_of, ports, HasBetterInput, IsBlocking, Partners, partner_place, output_in_range, place_in-le-length, place_of-at, same_at_place}
 
 module _ (o : Orders) (m : Partners) (i : ℕ) where
   pub is_ahead : (j : ℕ) → IsBlocking o m i j → place_of o i j < partner_place o m i
-  is_ahead j blocks = grind (arith, common_steps, ahead_of)
+  is_ahead j blocks = search (arith, rules, cases_lt, same_at_place)
 
   pub order_ends : partner_place o m i ≤ length (outputs_of o i)
   order_ends = grind (arith, common_steps, place_in-le-length)
@@ -46,15 +41,12 @@ module _ (o : Orders) (m : Partners) (i : ℕ) where
       pub in_range : length m ≡ ports o → output < length m
       in_range square = grind (arith, common_steps, output_in_range, stands)
 
-      others : (x : ℕ) → place_of o i x < n + 1 → IsBlocking o m i x → (place_of o i x < n) ⊎ (x ≡ output)
-      others x low blocks = grind (arith, common_steps, same_at_place, stands, cases_eq)
-
       -- it does not block, or is not less than the least
       pub kept : {found : Option ℕ} → LeastUntil n found → HasBetterInput o m i output ⊎ IsUpTo found output →
           LeastUntil (n + 1) found
-      kept had why = search (arith, rules, others)
+      kept had why = search (arith, rules, same_at_place, stands, cases_eq)
 
       -- it blocks, and is less
       pub taken : {found : Option ℕ} → LeastUntil n found → (HasBetterInput o m i output → ⊥) →
           ((l : ℕ) → found ≡ Some l → output < l) → LeastUntil (n + 1) (Some output)
-      taken had none less = search (arith, rules, others, stands)
+      taken had none less = search (arith, rules, same_at_place, cases_eq, stands)
