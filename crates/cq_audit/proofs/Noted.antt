@@ -2,7 +2,7 @@
 -- before it: by its input in a phase, by its phase in a slot, and by its slot. A cell that waits at an input came to
 -- it and keeps its numbers. So where all cells that come fit the numbers of a line, the transfers of a run are those
 -- of a log.
-use Rattle.cq_audit.proofs.Terms.{common_steps, rules, ◌≡◌, ℕ, zero, suc, ◌+◌, ◌<◌, ◌≤◌, ◌^◌, List, [], ◌∷◌, length, Option, None, Some, refl, arith, IfSome, AllByRecursion, filter_map, range_with_len, Cell, Queued, Transfer, arrival_at, Arrival, arriving, first_for, log_of, IsTraffic, Machine, Marked, admission, arriving_from, admitted_arrives, list_of, noted, transfers_of, IsStable, Partners, Fabric, input, FabricSlot, SlotRecord, LimitedFabricRun, LimitedFabricSlot, LimitedRecord, slots_in, transfers_in, transfers_of_run, run_of_whole, Leads, one_found, Comes, IsLog, StableRun, IsTransfer, IsOf, IsTransferBefore, all_weaker, all_both, all_found, came_from, all_give, most_ports, EachPair, Has, from_first, pairs_looked_up, looked_up, all_from_has, all_of_has, pairs_joined, came_or_was, was_waiting, all_made, partner_of}
+use Rattle.cq_audit.proofs.Terms.{among_range, common_steps, rules, ◌≡◌, ℕ, zero, suc, ◌+◌, ◌<◌, ◌≤◌, ◌^◌, List, [], ◌∷◌, length, Option, None, Some, refl, arith, IfSome, AllByRecursion, filter_map, range_with_len, Cell, Queued, Transfer, arrival_at, Arrival, arriving, first_for, log_of, IsTraffic, Machine, Marked, admission, arriving_from, admitted_arrives, list_of, noted, transfers_of, IsStable, Partners, Fabric, input, FabricSlot, SlotRecord, LimitedFabricRun, LimitedFabricSlot, LimitedRecord, slots_in, transfers_in, transfers_of_run, run_of_whole, Leads, one_found, Comes, IsLog, StableRun, IsTransfer, IsOf, IsTransferBefore, all_both, all_found, came_from, all_give, most_ports, EachPair, Has, from_first, pairs_looked_up, looked_up, all_from_has, all_of_has, pairs_joined, came_or_was, was_waiting, all_made, partner_of}
 use Rattle.cq_audit.proofs.Following.{run_later, slot_at, transfers_at}
 use Rattle.cq_traffic.proofs.ForPorts.{place_of}
 
@@ -31,14 +31,10 @@ pub record AreWritten (ports : ℕ) (note : List Transfer) : Type 0 where
   pub pairs : EachPair IsTransferBefore note
   pub all : AllByRecursion (λ t. IsTransfer t × IsOf ports t) note
 
-range_from : (b a n : ℕ) → b ≤ a → AllByRecursion (λ (k : ℕ). b ≤ k) (range_with_len a n)
-range_from b a zero le = tt
-range_from b a (suc n) le = (le, range_from b (a + 1) n (omega arith))
-
 -- numbers in a row rise
 pub range_rises : (a n : ℕ) → EachPair (λ (i k : ℕ). i < k) (range_with_len a n)
 range_rises a zero = tt
-range_rises a (suc n) = grind (arith, common_steps, all_weaker, range_from, range_rises (a + 1) n)
+range_rises a (suc n) = grind (arith, common_steps, all_from_has, among_range, range_rises (a + 1) n)
 
 module _ (ports : ℕ) where
   -- behind the line before them they lead on
@@ -135,5 +131,4 @@ module _ (ports classes : ℕ) (came : List Arrival) (traffic : IsTraffic ports 
   unfolding log_of
   stable_log limits ms start end rs few long empty whole =
       let run = run_of_whole (LimitedFabricSlot IsStable limits ms) came start rs _ end whole in
-      let written = written_in_run limits ms (length rs) start end rs few long empty run in
-      search (arith, rules, leads_written ports None _ written tt)
+      search (arith, rules, leads_written ports None, written_in_run limits ms (length rs) start end)

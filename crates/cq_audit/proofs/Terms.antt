@@ -27,7 +27,7 @@ pub use Rattle.cq_audit.specs.StableRun.{Begins, BeginsFirst, IsFaultAt, IsHalfP
 pub use Rattle.cq_audit.specs.{declared.phase.PhaseFault.PhaseFault, declared.refusal.AuditRefusal.AuditRefusal, declared.replay.SlotFault.SlotFault}
 pub use Rattle.cq_audit.specs.declared.refusal.AuditRefusal.TheVariants.{Left, Line, NoMemory}
 pub use Rattle.cq_list.specs.InputList.{Waiting, cells_of}
-pub use Rattle.cq_prefs.proofs.{Holding.none_unless, OutputOrder.is_output_order, Pairs.nobody, Places.output_in_range, Places.place_in-le-length, Places.place_of-at, Places.same_at_place}
+pub use Rattle.cq_prefs.proofs.{Holding.none_unless, Members.among_range, OutputOrder.is_output_order, Pairs.nobody, Places.output_in_range, Places.place_in-le-length, Places.place_of-at, Places.same_at_place}
 pub use Rattle.cq_prefs.specs.FirstCells.{list_of, orders_of, output_order}
 pub use Rattle.cq_prefs.specs.Moves.{Moves, noted}
 unfoldable pub use Rattle.cq_prefs.specs.Moves.{transfers_of}
