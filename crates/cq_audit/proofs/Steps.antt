@@ -8,7 +8,7 @@
 -- than arrive at its input, and an output holds no more cells more than arrive for it. So no list and no output holds
 -- more than arrives in all. Beside the fabric an ideal switch runs, with which it agrees. So where the whole run of
 -- that one meets no tag fault, the fabric meets none, and it goes on for no more slots than that one.
-use Rattle.cq_audit.proofs.Terms.{common_steps, rules, ◌≡◌, ℕ, ◌+◌, ◌-◌, ◌<◌, ◌≤◌, Bool, List, [], length, map, Option, Result, Err, arith, length-append, ◌*◌, zero, suc, ◌∷◌, ◌++◌, refl, append_assoc, IfErr, IsOk, OnOk, cases_lt, append-nil, take_all, take-append-le, Arrival, arriving, end_of, enough, RoomView, Cell, Transfer, Machine, class_count, Marked, first_slots, arriving_from, ranking, IsStable, Fabric, IsEmptyFabric, LimitedFabricRun, empty_limited_fabric, fabric_admission, IsLimitedFault, LimitedFabricSlot, LimitedRecord, arrivals_for, refusal_of, AreInOrder, NoneBefore, CanReplay, HasRested, IsInStep, IsSlotFault, ReplayView, SlotReplayed, ports_in, IsMadeAs, IsReady, IsStill, RunEnds, Reaches, StableRun, before_slot, AuditRefusal, Left, SlotFault, arriving_length, arriving_parts, quiet_limited_slots, transfers_of_run, AfterBy, run_length, first_more, quiet_slots, Ok, Some, TagFault, arrival_at, IsTraffic, is_from, is_to, number_of, count_for, whole_limited_run, empty_limited, input, reach, empty_list, empty_together, nothing_for, slots_fit, arrives_found, come_from, from_here, from_last, no_more_from, one_if, some_one, idled, all_go_on, transfers_one, quiet_transfers, limited_parts, run_fault, held_for, LimitedAgrees, LimitedRunsAlike, same_limited_fault, begin, same_limited_run, limited_lists_kept, limited_outputs_kept, come_for, for_here, for_last, no_more_to}
+use Rattle.cq_audit.proofs.Terms.{common_steps, rules, ◌≡◌, ℕ, ◌+◌, ◌-◌, ◌<◌, ◌≤◌, Bool, List, [], length, map, Option, Result, Err, arith, length-append, ◌*◌, zero, suc, ◌∷◌, ◌++◌, refl, append_assoc, IfErr, IsOk, OnOk, cases_lt, append-nil, take_all, take-append-le, Arrival, arriving, end_of, enough, RoomView, Cell, Transfer, Machine, class_count, Marked, first_slots, arriving_from, ranking, IsStable, Fabric, IsEmptyFabric, LimitedFabricRun, empty_limited_fabric, fabric_admission, IsLimitedFault, LimitedFabricSlot, LimitedRecord, arrivals_for, refusal_of, AreInOrder, NoneBefore, CanReplay, HasRested, IsInStep, IsSlotFault, ReplayView, SlotReplayed, ports_in, IsMadeAs, IsReady, IsStill, RunEnds, Reaches, before_slot, AuditRefusal, Left, SlotFault, arriving_length, arriving_parts, quiet_limited_slots, transfers_of_run, AfterBy, run_length, first_more, quiet_slots, Ok, Some, TagFault, arrival_at, IsTraffic, is_from, is_to, number_of, count_for, whole_limited_run, empty_limited, input, reach, empty_list, empty_together, nothing_for, slots_fit, arrives_found, come_from, from_here, from_last, no_more_from, one_if, some_one, idled, all_go_on, transfers_one, quiet_transfers, limited_parts, run_fault, held_for, LimitedAgrees, LimitedRunsAlike, same_limited_fault, begin, same_limited_run, limited_lists_kept, limited_outputs_kept, come_for, for_here, for_last, no_more_to}
 use Rattle.cq_audit.proofs.BySlot.{before_is, phase_later, none_first, none_from, none_next}
 use Rattle.cq_audit.proofs.Skips.{all_late}
 use Rattle.cq_audit.proofs.WholeFollowing.{all_before, moved, moved_parts}
@@ -26,13 +26,11 @@ module _ (limits : List (Option ℕ)) (ms : List Machine) (came : List Arrival) 
       ((i : ℕ) → length (input g.state i) ≤ length (input f.state i) + come_from i came slot n)
       × ((j : ℕ) → held_for j g.state ≤ held_for j f.state + come_for j (arriving_from came slot n))
   unfolding arriving_from
-  grow zero slot f g [] run = (λ i. grind (arith, common_steps), λ j. grind (arith, common_steps))
+  grow zero slot f g [] run = search (arith, rules)
   grow (suc n) slot f g (r ∷ rs) run =
-      let rest = grow n (slot + 1) run.0 g rs run.2 in (
-        λ i. let kept = limited_lists_kept limits ms slot (arriving came slot) f run.0 r run.1 i in
-            grind (arith, common_steps, some_one, arrives_found, from_here, rest.0 i),
-        λ j. grind (arith, common_steps, limited_outputs_kept, for_here, rest.1 j),
-      )
+      let rest = grow n (slot + 1) run.0 g rs run.2 in
+      let kept = limited_lists_kept limits ms slot (arriving came slot) f run.0 r run.1 in
+      search (arith, rules, some_one, arrives_found, from_here, limited_outputs_kept, for_here, kept)
   grow _ slot f g _ run = absurd run
 
   module _ (ports : ℕ) (ranks : List (List ℕ)) (slot : ℕ) (f : Marked Fabric) (rs : List LimitedRecord)
@@ -50,8 +48,8 @@ module _ (limits : List (Option ℕ)) (ms : List Machine) (came : List Arrival) 
       -- all
       pub output_is_short : (j : ℕ) → held_for j f.state + count_for j (arriving came slot) ≤ number_of (is_to j) came
       output_is_short j =
-          let grown = (grow slot 0 (empty_limited_fabric ports ranks) f rs run).1 j in
-          grind (arith, common_steps, empty_list, nothing_for, for_last, no_more_to j came (slot + 1))
+          let grown = grow slot 0 (empty_limited_fabric ports ranks) f rs run in
+          grind (arith, common_steps, grown, empty_list, nothing_for, for_last, no_more_to j came (slot + 1))
 
       -- ## Beside the ideal switch
 
@@ -70,8 +68,7 @@ module _ (limits : List (Option ℕ)) (ms : List Machine) (came : List Arrival) 
         fault_there fault is =
             let here = (same_limited_fault limits ms slot (arriving came slot) f beside.after fault agree_now).1 is in
             let parts = limited_parts limits ms 0 slot (first_slots came slot) (arriving came slot ∷ []) in
-            let stops = run_fault limits ms slot (arriving came slot) [] beside.after fault here in
-            search (arith, rules, first_more came slot, arriving_length, parts, limited_whole_fault limits)
+            search (arith, rules, first_more came slot, arriving_length, parts, limited_whole_fault limits, run_fault)
 
         -- the ranks of what is admitted in the next slot fit
         pub ranks_fit : IsOk (whole_limited_run limits ms came (empty_limited ports ranks)) →
@@ -171,7 +168,6 @@ module _ {M : List ℕ → Machine} {came : List Arrival} {lines : List Transfer
         let joined = all_go_on (LimitedFabricSlot IsStable first.limits (map M first.fixed))
         (IsLimitedFault first.limits (map M first.fixed)) in
         let parts = moved_parts b.records quiet_records in
-        -- what arrives up to the slot, and then nothing, is what arrives up to the other
         let parts_are = arriving_parts came 0 slot slot (next - slot) next in
         search (rules, none_from, quiet_slots, arriving_length, take-append-le, cases_lt, none_moved_by, append-nil)
 
@@ -230,10 +226,8 @@ module _ {M : List ℕ → Machine} {came : List Arrival} {lines : List Transfer
   -- ## The end of the loop
 
   module _ (late : end_of came ≤ slot) (empty : IsEmptyFabric now.fabric.state) where
-    whole : StableRun first.limits (map M first.fixed) came first.fabric b.records now.fabric
-    whole = grind (arith, common_steps, one_each, take_all, reached, cases_lt)
-
     pub at_end : (result : Result (Unit {0}) AuditRefusal) → OnOk result (rest ≡ []) →
         IfErr result (λ refusal. (refusal ≡ Left (length lines - length rest + 1)) × (0 < length rest)) →
         RunEnds (map M first.fixed) came lines first result
-    at_end result none some = search (rules, told_before, one_each, whole, length-append, moved, append-nil)
+    at_end result none some =
+        search (rules, told_before, one_each, reached, cases_lt, take_all, length-append, moved, append-nil)
