@@ -39,8 +39,7 @@ module _ (ms : List Machine) where
       let arrive = one_arrival ms slot cells r.came s.came f r.arrived s.arrived x.arrive y.arrive in
       let first = one_move r.first s.first r.slot 1 r.arrived s.arrived r.filled s.filled arrive.1 x.first_chosen
       y.first_chosen (cc) x.fill y.fill in
-      let depart = one_departure ms r.gone s.gone r.filled s.filled r.sent s.sent first.1 x.depart y.depart in
-      search (rules, same_record, one_move r.second s.second r.slot 2 r.sent s.sent g h depart.1)
+      search (rules, same_record, one_departure, one_move r.second s.second r.slot 2 r.sent s.sent g h)
 
 pub slot_at : (MayChoose : Orders → Partners → Type 0) (ms : List Machine) (slot : ℕ) (cells : List (Option Cell))
     (f g : Fabric)
@@ -58,8 +57,7 @@ module _ (limits : List (Option ℕ)) (ms : List Machine) where
   unfolding transfers_of_run
   run_within slot [] f g [] x = tt
   run_within slot (cells ∷ traffic) f g (r ∷ rs) x =
-      let here = slot_at IsStable ms slot r.admission.cells f.state x.0.state r.of_slot x.1.runs in
-      let rest = run_within (slot + 1) traffic x.0 g rs x.2 in search (arith, rules, all_both, all_weaker)
+      search (arith, rules, all_both, all_weaker, slot_at IsStable ms, run_within (slot + 1) traffic x.0 g rs)
   run_within slot _ f g _ x = absurd x
 
   pub run_later : (slot : ℕ) (traffic : List (List (Option Cell))) (f g : Marked Fabric) (rs : List LimitedRecord) →
@@ -76,9 +74,8 @@ module _ (limits : List (Option ℕ)) (ms : List Machine) where
   one_stable_run slot (cells ∷ traffic) f g h (r ∷ rs) (s ∷ ss) x y moved =
       let here = slot_at IsStable ms slot r.admission.cells f.state x.0.state r.of_slot x.1.runs in
       let there = slot_at IsStable ms slot s.admission.cells f.state y.0.state s.of_slot y.1.runs in
-      let parts = one_parting (slot + 1) (transfers_in r.of_slot) _ (transfers_in s.of_slot) _
-      (all_weaker _ _ (λ t at. omega arith) _ here) (run_later (slot + 1) traffic x.0 g rs x.2)
-      (all_weaker _ _ (λ t at. omega arith) _ there) (run_later (slot + 1) traffic y.0 h ss y.2) moved in
+      let parts = one_parting (slot + 1) (transfers_in r.of_slot) (transfers_of_run (slots_in rs))
+      (transfers_in s.of_slot) (transfers_of_run (slots_in ss)) in
       let one = one_stable_slot ms slot r.admission.cells f.state x.0.state y.0.state r.of_slot s.of_slot x.1.runs in
-      search (arith, rules, one, one_stable_run (slot + 1) traffic x.0 g h rs ss)
+      search (arith, rules, parts, all_weaker, run_later, one, one_stable_run (slot + 1) traffic x.0 g h rs ss)
   one_stable_run slot traffic f g h rs ss x y moved = grind (arith, common_steps)
