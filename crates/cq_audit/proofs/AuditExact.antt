@@ -25,9 +25,7 @@ module _ (setup : Setup) (limits : List (Option ℕ)) (came : List Arrival) (log
 
   never_both : (r : AuditRefusal) → IsYes setup limits came log → IsWrong r → ⊥
   never_both r y (inl a) = exact.never_both y.note log a.0 y.read a.2
-  never_both r y (inr a) =
-      let same = rw (exact.one_reading y.note a.note log y.read a.read) at y.run in
-      no_no limits (machines_of setup) came (opening_fabric setup) a.note r same a.wrong
+  never_both r y (inr a) = search (rules, exact.one_reading y.note a.note log, no_no)
 
 pub audit_is_exact : (setup : Setup) (limits : List (Option ℕ)) (came : List Arrival) → IsAuditExact setup limits came
 audit_is_exact setup limits came =

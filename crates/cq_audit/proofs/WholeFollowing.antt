@@ -75,9 +75,8 @@ module _ (limits : List (Option ℕ)) (ms : List Machine) (came : List Arrival) 
 
       not_longer : (a b : IsFollowed) → length a.records < length b.records → ⊥
       not_longer a b lt =
-          let run = whole_run a.records a.end a.runs in
           let h = halfway (length a.records) (length b.records) b.records b.end in
-          search (arith, rules, whole_run, h, one_stable_run, whole_going)
+          search (arith, rules, whole_run, h, one_stable_run, whole_going, whole_run a.records a.end a.runs)
 
       pub one_length : (a b : IsFollowed) → length a.records ≡ length b.records
       one_length a b = grind (arith, common_steps, not_longer a b, not_longer b a, cases_lt)
@@ -160,10 +159,9 @@ module _ (limits : List (Option ℕ)) (ms : List Machine) (came : List Arrival) 
       one_fault_at : (s t p q : ℕ) (a b : PhaseFault) → FaultAt s p a → FaultAt t q b → (s ≡ t) × (p ≡ q) × (a ≡ b)
       one_fault_at s t p q a b x y = ⊎_elim (λ same.
           let there = rw same at x in
-          let phase = one_phase t p q a b there y in
-          let here = rw phase at there in
+          let here = rw (one_phase t p q a b there y) at there in
           let fabric = one_begun t q here.fabric y.fabric here.begins y.begins in
-          (same, phase, search (arith, rules, phase_is_exact.one_fault))) (λ other. absurd
+          (same, one_phase t p q a b there y, search (arith, rules, phase_is_exact.one_fault))) (λ other. absurd
           (⊎_elim (none_later s t p q a b x y) (none_later t s q p b a y x) other)) (cases_order s t)
 
       -- ## A whole run that moves what the lines up to its end say
@@ -180,15 +178,13 @@ module _ (limits : List (Option ℕ)) (ms : List Machine) (came : List Arrival) 
           let n = length w.records in
           let run = whole_run w.records w.end w.runs in
           let at = reached_at slot phase fault f in
-          ⊎_elim (λ (within : slot < n). search (arith, rules, none_passed slot phase fault, passed, whole_going))
-          (λ (behind : n ≤ slot). search (arith, rules, halfway n slot at.1.records at.0, one_stable_run))
-          (cases_lt slot n)
+          let h = halfway n slot at.1.records at.0 in
+          search (arith, rules, none_passed slot phase fault, passed, whole_going, h, one_stable_run, cases_lt slot n)
 
       -- no line is left of those that it moves all
       none_left : (n : ℕ) → IsOfStableRun limits ms came start note → IsLeftAt limits ms came start note n → ⊥
       unfolding followed_left followed_whole
-      none_left n is l =
-          grind (arith, common_steps, one_length (followed_whole is) (followed_left n l), (followed_whole is).told)
+      none_left n is l = grind (arith, common_steps, one_length (followed_whole is) (followed_left n l), followed)
 
       one_left : (m n : ℕ) → IsLeftAt limits ms came start note m → IsLeftAt limits ms came start note n → m ≡ n
       unfolding followed_left
