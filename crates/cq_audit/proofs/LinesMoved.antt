@@ -5,7 +5,7 @@
 -- Where no line of a phase is wrong, the transfers of the pairs that they tell are the lines. What is noted of an
 -- input is its line: its partner is the output that the line names, and its first cell for that output is the one.
 -- And the lines of all inputs, in order, are the lines.
-use Rattle.cq_audit.proofs.Terms.{common_steps, ◌≡◌, ◌≢◌, ℕ, suc, ◌+◌, ◌<◌, ◌≤◌, ◌⊎◌, List, [], ◌∷◌, length, Option, None, Some, refl, ◌∙◌, ⊎_elim, arith, rules, sym, AllByRecursion, filter_map, range_with_len, option_map, length-map, get_or_past, cases_eq, cond_both, eqb-true, cases_lt, Queued, Transfer, Waiting, cells_of, list_of, orders_of, output_order, noted, transfers_of, Orders, ports, IsOffered, Partners, partner_of, HasBetterInput, HasBetterOutput, IsMatching, AreOfPhase, AreRight, IsBlocking, IsStableTold, RiseByInput, line_of_input, told, first_id, output_told, all_weaker, get_or-map-range_with_len, length-map-range_with_len, is_output_order, outputs_at, CellId, sender, all_give}
+use Rattle.cq_audit.proofs.Terms.{common_steps, ◌≡◌, ◌≢◌, ℕ, suc, ◌+◌, ◌<◌, ◌≤◌, ◌⊎◌, List, [], ◌∷◌, length, Option, None, Some, refl, ◌∙◌, arith, rules, sym, AllByRecursion, filter_map, range_with_len, option_map, length-map, get_or_past, cases_eq, cond_both, eqb-true, cases_lt, Queued, Transfer, Waiting, cells_of, list_of, orders_of, output_order, noted, transfers_of, Orders, ports, IsOffered, Partners, partner_of, HasBetterInput, HasBetterOutput, IsMatching, AreOfPhase, AreRight, IsBlocking, IsStableTold, RiseByInput, line_of_input, told, first_id, output_told, all_weaker, get_or-map-range_with_len, length-map-range_with_len, is_output_order, outputs_at, CellId, sender, all_give}
 use Rattle.cq_audit.proofs.TellingLines.{line_holds, line_is_of, no_line}
 
 -- ## Settled
@@ -72,12 +72,11 @@ lines_by_input : (f : ℕ → Option Transfer) (lines : List Transfer) (a n : �
     ((i : ℕ) → a ≤ i → i < a + n → f i ≡ line_of_input i lines) → RiseByInput lines → Between a n lines →
     filter_map f (range_with_len a n) ≡ lines
 lines_by_input f [] a (suc n) same rise all = grind (arith, common_steps, lines_by_input f [] (a + 1) n)
-lines_by_input f (t ∷ lines) a (suc n) same rise all = ⊎_elim (λ (at : t.input ≡ a).
-    let next = later_between a n t.input lines (omega arith) rise.0 all.1 in
-    grind (arith, common_steps, line_later, lines_by_input f lines (a + 1) n))
-    (λ (other : t.input ≢ a).
-    search (arith, rules, all_weaker, later_between, no_line, lines_by_input f (t ∷ lines) (a + 1) n))
-    (cases_eq t.input a)
+lines_by_input f (t ∷ lines) a (suc n) same rise all =
+    let next = later_between a n t.input lines in
+    let own = lines_by_input f lines (a + 1) n in
+    let rest = lines_by_input f (t ∷ lines) (a + 1) n in
+    grind (arith, common_steps, line_later, all_weaker, later_between, no_line, next, own, rest, cases_eq t.input a)
 lines_by_input f lines a n same rise all = grind (arith, common_steps)
 
 -- ## What is noted of an input
