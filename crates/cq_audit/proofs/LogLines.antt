@@ -23,9 +23,8 @@ parts_of_line text rest more slot t begins e = one_number text rest (ending (num
 pub one_log_line : (t u : Transfer) (x y : List ℕ) → IsTransfer t → IsTransfer u →
     log_line t ++ x ≡ log_line u ++ y → (t ≡ u) × (x ≡ y)
 one_log_line t u x y is_t is_u e =
-    let slot = one_number (log_line t ++ x) _ _ t.slot u.slot (begins_with_slot (log_line t ++ x) x t refl)
-    (begins_with_slot (log_line t ++ x) y u e) in
-    search (arith, rules, one_ending (numbers_behind t) (numbers_behind u) x y slot.1)
+    let slot = parts_of_line (log_line t ++ x) _ y t.slot u (begins_with_slot (log_line t ++ x) x t refl) e in
+    search (arith, rules, one_ending (numbers_behind t) (numbers_behind u) x y)
 
 -- the transfer whose line stands there may not come, so none may
 pub none_comes : (text behind : List ℕ) (ports : ℕ) (last : Option Transfer) (t : Transfer) →
@@ -45,7 +44,7 @@ leads_in_order : (ports : ℕ) (last end : Option Transfer) (note : List Transfe
     AreInOrder ports note × IfSome last (λ t. AllByRecursion (IsTransferBefore t) note)
 leads_in_order ports last end [] leads = grind (arith, common_steps)
 leads_in_order ports last end (t ∷ note) leads =
-    grind (arith, common_steps, all_weaker, leads_in_order ports (Some t) end note (rw leads.1.3 at leads.2))
+    grind (arith, common_steps, all_weaker, leads_in_order ports (Some t) end note)
 
 pub log_in_order : (ports : ℕ) (note : List Transfer) (log : List ℕ) → IsLog ports note log → AreInOrder ports note
 log_in_order ports note log is = (leads_in_order ports None is.last note is.allowed).0

@@ -33,7 +33,6 @@ behind_byte c d a b same (n, found) = found_at (c ∷ found.front) found.left fo
     (ap (λ xs. c ∷ xs) found.left_is) (grind (arith, common_steps, found.right_is)) found.parted found.goes_on
 
 some_line : (a b : List ℕ) → a ≢ b → (n : ℕ) × DiffersFirst a b n
-some_line [] [] apart = absurd (apart refl)
 some_line (c ∷ a) (d ∷ b) apart =
     search (arith, rules, behind_byte c d a b, found_at [] (c ∷ a) (d ∷ b) refl refl, cases_eq c d, some_line a b)
 some_line a b apart = found_at [] a b refl refl (search rules) (search rules)

@@ -207,8 +207,7 @@ module _ (ms : List Machine) (slot to : ℕ) (ranks rested : RanksView) (q : Que
     (step : IsInStep ms slot (shown ranks q l)) (empty : IsEmptyFabric (fabric_of q ranks.states)) where
   pub rested_step : length rested.states ≡ length ranks.states → IsInStep ms to (shown rested q l)
   rested_step long =
-      let agrees = rested_agrees slot to (fabric_of q ranks.states) step.ideal rested.states empty step.agrees in
-      grind (arith, common_steps, still_held, agrees)
+      search (arith, rules, still_held, rested_agrees slot to (fabric_of q ranks.states) step.ideal rested.states empty)
 
   pub rested_run : (ports count : ℕ) → length ms ≡ ports → 0 < count → rested.states ≡ idled ms ports ranks.states →
       idled ms ports rested.states ≡ rested.states →
