@@ -1,7 +1,7 @@
 -- What is told of a text, as the trace or the log of an audit or the state of a stopped run, from what was read under
 -- its name: its bytes, where they are not too many. The name that was asked for is the one that is to be read, or a
 -- copy of it.
-use Rattle.cq_run.proofs.Terms.{rules, ◌≡◌, ◌<◌, ◌≤◌, ◌⊎◌, ℕ, List, length, inl, inr, arith, codes, false, Option, Some, IfSome, Ok, Err, nat_le, le-ltb, get, Contents, bytes_of, Refusal, Configuration, IsRefused, IsToRead, short_in, tables_in, first, read_or_refused, common_steps, ◌∙◌, sym, slice_index, Captured, PcapRefusal, IsFaulty, Spells, Space, Halts, AnyName, Pace, Uncounted, Reader, halt_for, capture_in, file_in, spelt_or_faulty, fault_is_read, spelt_is_read}
+use Rattle.cq_run.proofs.Terms.{⊎_elim, rules, ◌≡◌, ◌<◌, ◌≤◌, ◌⊎◌, ℕ, List, length, inl, inr, arith, codes, false, Option, Some, IfSome, Ok, Err, nat_le, le-ltb, get, Contents, bytes_of, Refusal, Configuration, IsRefused, IsToRead, short_in, tables_in, first, read_or_refused, common_steps, ◌∙◌, sym, slice_index, Captured, PcapRefusal, IsFaulty, Spells, Space, Halts, AnyName, Pace, Uncounted, Reader, halt_for, capture_in, file_in, spelt_or_faulty, fault_is_read, spelt_is_read}
 use Rattle.cq_run.proofs.Stays.{get-remove_same}
 use Rattle.cq_pcap.specs.Reading.{packets_of}
 
@@ -34,12 +34,9 @@ pub from_front : Reader
 from_front = record { read = packets_of; spelt = spelt_is_read; faulty = fault_is_read }
 
 pub one_answer : (r s : Reader) (bytes : List ℕ) → ((i : ℕ) → slice_index bytes i < 256) → r.read bytes ≡ s.read bytes
-one_answer r s bytes are = go (spelt_or_faulty bytes are)
-  where
-    go : ((packets : List Captured) × Spells bytes packets) ⊎ ((fault : PcapRefusal) × IsFaulty bytes fault) →
-        r.read bytes ≡ s.read bytes
-    go (inl (packets, h)) = r.spelt bytes packets h ∙ sym (s.spelt bytes packets h)
-    go (inr (fault, h)) = r.faulty bytes fault h ∙ sym (s.faulty bytes fault h)
+one_answer r s bytes are = ⊎_elim (λ (h : (packets : List Captured) × Spells bytes packets).
+    r.spelt bytes h.0 h.1 ∙ sym (s.spelt bytes h.0 h.1)) (λ (h : (fault : PcapRefusal) × IsFaulty bytes fault).
+    r.faulty bytes h.0 h.1 ∙ sym (s.faulty bytes h.0 h.1)) (spelt_or_faulty bytes are)
 
 module _ (r : Reader) (name : List ℕ) (input limit : ℕ) (bytes : List ℕ) where
   pub capture_is : (told : Option Contents) (packets : List Captured) →
