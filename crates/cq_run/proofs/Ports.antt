@@ -121,31 +121,26 @@ module _ {S : Type 0} (space : S → Space) {keeps : S → S → Type 0} {row : 
     ever : (name : List ℕ) → Since name → Ever name
     ever name = fails_after lasts b.uncounted kept
 
-    module _ (packets : List Captured) (h : MatchOption begun (packets ≡ []) (λ d. Spells (source d) packets)) where
-      first : Judges Ahead (packets_at r input limit row.read) Ever (space old) (space mid) (Ok packets)
-      first = grind (arith, common_steps, arrived r input limit (space old).told packets row.read begun b.decoding h)
-
-      -- the first capture is sound, and a later one ends it
-      later_ends : {halt : Halt} → Later (Err halt) → Whole (Err halt)
-      unfolding captures_from
-      later_ends g = judges_after (then_later r limit input row rows) first (packets_stay r input limit row.read) ever
-          (judges_then _ (λ name u. u) g)
-
-      -- all are sound
-      all_arrive : {others : List (List Captured)} → Later (Ok others) → Whole (Ok (packets ∷ others))
-      unfolding captures_from
-      all_arrive g = search (arith, rules, judges_both, first, judges_computed)
+    first : (packets : List Captured) → MatchOption begun (packets ≡ []) (λ d. Spells (source d) packets) →
+        Judges Ahead (packets_at r input limit row.read) Ever (space old) (space mid) (Ok packets)
+    first packets h =
+        grind (arith, common_steps, arrived r input limit (space old).told packets row.read begun b.decoding h)
 
     -- whatever the first and the later ones came to, with the first in front
     pub together : (first : Result (List Captured) Halt) (later result : Result (List (List Captured)) Halt) →
         IfOk first (λ packets. MatchOption begun (packets ≡ []) (λ d. Spells (source d) packets)) →
         IfErr first (λ halt. MatchOption begun ⊥ (λ d. IsHaltFor input (source d) halt)) → Later later →
         IsInFront first later result → Whole result
+    unfolding captures_from
     together (Err halt) later result spelt halts g is =
         let here = halted r input limit Ever (space old) (space new) halt row.read begun b.decoding halts in
         rw is (first_ends r limit input row rows (search (arith, rules, name_after, ever, counts_of)))
-    together (Ok packets) (Err halt) result spelt halts g is = rw is (later_ends packets spelt g)
-    together (Ok packets) (Ok others) result spelt halts g is = grind (arith, common_steps, all_arrive packets spelt g)
+    together (Ok packets) (Err halt) result spelt halts g is =
+        rw is (judges_after (then_later r limit input row rows) (first packets spelt)
+        (packets_stay r input limit row.read) ever (judges_then _ (λ name u. u) g))
+    together (Ok packets) (Ok others) result spelt halts g is =
+        let all : Whole (Ok (packets ∷ others)) =
+        search (arith, rules, judges_both, first packets spelt, judges_computed) in grind (arith, common_steps)
 
 -- no input is left
 pub none_arrive : (r : Reader) (limit input : ℕ) (R : List ℕ → Type 0) (at : Space) → at.mode ≡ Closed
