@@ -57,10 +57,6 @@ halted_so end e h done cut = grind (arith, common_steps)
 
 -- ## What the status says of such an end
 
--- only the refusal of an input's capture is told before a fault of a name that is read behind it
-outruns_is : (r : Refusal) → IsTrue (meaning_of r).outruns → (meaning_of r).status ≡ status.Capture
-outruns_is r h = grind (arith, common_steps)
-
 -- a cut at a file was counted since the start
 cut_rose : (ws : List (List ℕ × List ℕ)) (name : List ℕ) (old new : Space) → IsCutAtFile ws name old new →
     Rose old.faults new.faults
@@ -80,16 +76,13 @@ unfolding captures_from
 never_captures r limit input [] m h = cc
 never_captures r limit input (row ∷ rows) m h = grind (arith, common_steps, never_captures r limit (input + 1) rows m)
 
-words_is : (r : Refusal) → (meaning_of r).status ≡ status.Words → r ≡ Words
-words_is r e = grind (arith, common_steps)
-
 module _ (p : Pace) (a : Reader) (R W : List ℕ → Type 0) (T : Type 0) where
   command_causes : (command : Command) (old new : World) (end : Result (Unit {0}) Stop) →
       CommandEnds p a R W T command old new end →
       StatusCauses p (judged a command) (known_to command old.files).told old new (status_of end)
   command_causes command old new (Ok x) h = grind (arith, common_steps)
   command_causes command old new (Err (Halted (Refused r))) h =
-      search (arith, rules, counts_known, outruns_is, counts_same, known_faults)
+      search (arith, rules, counts_known, counts_same, known_faults)
   command_causes command old new (Err (Halted (Unread name))) h = grind (arith, common_steps, known_faults)
   command_causes command old new (Err (Halted NoMemory)) h = search (arith, rules, told_any, counts_known)
   command_causes command old new (Err (Cut at)) h = grind (arith, common_steps, cut_rose)
@@ -107,7 +100,7 @@ module _ (p : Pace) (a : Reader) (R W : List ℕ → Type 0) (T : Type 0) (comma
   words_end none = grind (arith, common_steps)
 
   pub only_words : answer ≡ status.Words → command ≡ None
-  only_words w = search (arith, rules, never_captures, words_is)
+  only_words w = search (arith, rules, never_captures)
 
   -- ## The headline
 
