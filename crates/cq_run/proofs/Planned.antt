@@ -35,9 +35,6 @@ soak_aim seed ports slots = Reporting (soak_tables ports) (soak_captures seed po
 abbrev soak_sent : (seed ports slots : ℕ) → Result (List Departure) Refusal
 soak_sent seed ports slots = ideally_sent (soak_tables ports) (soak_captures seed ports slots)
 
-reported_ok : (r : Result (List Departure) Refusal) (aim : Aim) → IsOk r → (r >>= (λ _. Ok aim)) ≡ Ok aim
-reported_ok r aim h = grind (arith, common_steps)
-
 module _ {S : Type 0} {space : S → Space} {may_fail : Call → S → S → Type 0} {keeps : S → S → Type 0}
     {seed ports slots : ℕ} {s : S} (closed : (space s).mode ≡ Closed) (kept : keeps s s) where
   -- nothing is read: the run is computed
@@ -46,9 +43,8 @@ module _ {S : Type 0} {space : S → Space} {may_fail : Call → S → S → Typ
       IfErr result (IsHaltOf (soak_sent seed ports slots)) →
       IsJudged space may_fail keeps InTurn (Soak seed ports slots) s s result
   soak_judged (Ok plan) meets none is halts =
-      let judges = judges_computed closed (reported_ok (soak_sent seed ports slots) (soak_aim seed ports slots) is) in
       record {
-        judges = λ r. (soak_aim seed ports slots, meets, judges);
+        judges = λ r. (soak_aim seed ports slots, meets, judges_computed closed (grind (arith, common_steps)));
         kept = kept;
         names = rw none tt;
         emulates = λ r. told_any (space s).told _ (λ m. tt);
