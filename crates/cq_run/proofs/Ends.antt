@@ -2,7 +2,7 @@
 -- status says. Each end has one status, and what the end says of the verdict is what the status says of it. The table
 -- of refusals is used for three facts alone: no refusal has a status of an end that is none, one with the status of
 -- read faults comes only where contents are told, and words are refused only where they are no command.
-use Rattle.cq_run.proofs.Terms.{common_steps, arith, ◌≡◌, ℕ, List, rules, [], ◌∷◌, ◌≢◌, IsTrue, Result, Ok, Err, Option, None, Some, IfSome, Call, Fails, Lasts, Reads, Writes, Contents, Space, Command, Refusal, Halt, IsJudged, Pace, Plan, known_to, known_by, Reader, Taken, World, IsCut, IsDone, IsCutAtFile, Rose, Words, Refused, Unread, NoMemory, Emulates, meaning_of, judged, judged_or_words, StatusCauses, Status, ◌+◌, PortRow, captures_from}
+use Rattle.cq_run.proofs.Terms.{common_steps, arith, ◌≡◌, ℕ, List, rules, [], ◌∷◌, ◌≢◌, Result, Ok, Err, Option, None, Some, IfSome, Call, Fails, Lasts, Reads, Writes, Contents, Space, Command, Halt, IsJudged, Pace, Plan, known_to, known_by, Reader, Taken, World, IsCut, IsDone, IsCutAtFile, Rose, Words, Refused, Unread, NoMemory, Emulates, judged, judged_or_words, StatusCauses, Status, ◌+◌, PortRow, captures_from}
 use Rattle.cq_run.specs.declared.stop.Stop.{Stop}
 use Rattle.cq_run.specs.declared.stop.Stop.TheVariants.{Cut, Halted}
 use Rattle.cq_run.specs.declared.stop.Unwritten.{Unwritten}
@@ -66,12 +66,8 @@ cut_rose (w ∷ ws) name old new h = grind (arith, common_steps, cut_rose ws nam
 -- Only words that are no command are refused as such. No judgement of contents refuses them: they are judged before any
 -- file is asked for.
 
--- the words are not refused
-abbrev IsOfContents : {A : Type 0} → Result A Refusal → Type 0
-IsOfContents r = r ≡ Err Words → ⊥
-
 never_captures : (r : Reader) (limit input : ℕ) (rows : List PortRow) (m : Contents) →
-    IsOfContents (captures_from r limit input rows m)
+    captures_from r limit input rows m ≡ Err Words → ⊥
 unfolding captures_from
 never_captures r limit input [] m h = cc
 never_captures r limit input (row ∷ rows) m h = grind (arith, common_steps, never_captures r limit (input + 1) rows m)
