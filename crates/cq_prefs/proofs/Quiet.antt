@@ -130,3 +130,5 @@ pub events-quiet : (o : Orders) → AreOffers o → (events : List ℕ) → AreE
     IsQuiescent o (state_after o events) → length events ≡ proposals o (matching_of o (state_after o events))
 events-quiet o v events es q = let s = state_after o events in let w = sound-after o v events es in
     cc (sum-places o v events es, places-quiet o v s w q)
+
+pub ruleset quiet_steps = (none_goes_past, none_passed-after, input_best-quiet, events-quiet)

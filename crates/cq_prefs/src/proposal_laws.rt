@@ -7,6 +7,7 @@ ghost use Rattle.cq_prefs.specs.Proposals.{state_after, AreEvents, IsQuiescent, 
 
 /// No input passes its partner in any stable matching: its next place is never past the place after that
 /// partner's, and the partner never holds an input that it prefers.
+#[tactic(auto, using(crate::proofs::Quiet::quiet_steps))]
 pub fn no_input_passes()
     ensures places { (o : Orders) → AreOffers o → (events : List ℕ) → AreEvents o events →
         (m : Partners) → IsStable o m → (i j : ℕ) → partner_of m i ≡ Some j →
@@ -18,6 +19,7 @@ pub fn no_input_passes()
 
 /// Where nobody is free any more, the pairs of those who are held are the stable matching that is best for the
 /// inputs, and there were as many proposals as it has.
+#[tactic(auto, using(crate::proofs::Quiet::quiet_steps))]
 pub fn quiescent_is_input_best()
     ensures best { (o : Orders) → AreOffers o → (events : List ℕ) → AreEvents o events →
         IsQuiescent o (state_after o events) → IsInputBest o (matching_of o (state_after o events)) }
@@ -26,6 +28,7 @@ pub fn quiescent_is_input_best()
 {}
 
 /// There are never more proposals than the number of ports squared.
+#[tactic(auto, using(crate::proofs::Quiet::events_at_most))]
 pub fn proposals_are_few()
     ensures { (o : Orders) → AreOffers o → (events : List ℕ) → AreEvents o events → length events ≤ ports o * ports o }
 {}
