@@ -2,9 +2,8 @@
 -- below the cushion, since it is more urgent, ahead of the first one that is less urgent, and ahead of the end. So it
 -- stays the first, and the newcomer's output stands behind it in the list of all the cells' outputs, where a repeat
 -- is not seen.
-use Rattle.cq_prefs.proofs.Terms.{common_steps, rules, ◌≡◌, ℕ, suc, ◌<◌, cond, Bool, true, List, [], ◌∷◌, length, map, Option, Some, refl, ap, arith, ◌&&◌, insert, option_map, cases_eq, eq-eqb, ne_eqb, length-map, ext_get_or, find_at, slice_get_within, Queued, IsBefore, MoreUrgentAhead, is_for, first_for, place_for, place_of_later, place_of_arrival, with_arrival, key_laws, first_later, list_of, output_order, orders_of, first_key, key_before, slice_get-get_or, and_parts, passes_at_first}
+use Rattle.cq_prefs.proofs.Terms.{common_steps, rules, ◌≡◌, ℕ, suc, ◌<◌, cond, true, List, [], ◌∷◌, length, map, Option, Some, refl, ap, arith, insert, option_map, cases_eq, eq-eqb, ne_eqb, length-map, ext_get_or, find_at, slice_get_within, Queued, IsBefore, MoreUrgentAhead, is_for, first_for, place_for, place_of_later, place_of_arrival, with_arrival, key_laws, first_later, list_of, output_order, orders_of, first_key, key_before, slice_get-get_or, and_parts, passes_at_first}
 use Rattle.cq_base.proofs.Lists.{first_le}
-use Rattle.cq_base.specs.Key.{is_before}
 use Rattle.cq_prefs.proofs.ByKey.{first_is_for}
 use Rattle.cq_prefs.proofs.Changes.{same_but_arrival}
 use Rattle.std.proofs.Math.ListN.{get_or-map}
@@ -19,9 +18,7 @@ shown_here x xs k is = ap (λ b. cond b (Some x) (first_for k xs)) (eq-eqb x.cel
 first_ahead : (c f : Queued) (xs : List Queued) → first_for c.cell.output xs ≡ Some f → IsBefore f c →
     place_for c.cell.output xs < place_of_later c xs
 first_ahead c f xs h before =
-    let later : Queued → Bool = λ y. is_for c.cell.output y && is_before c.key y.key in
-    let there = slice_get-get_or xs (place_of_later c xs) f in
-    let none = first_le (is_for c.cell.output) xs (place_of_later c xs) in
+    let there = slice_get-get_or xs (place_of_later c xs) f in let none = first_le (is_for c.cell.output) xs in
     grind (arith, common_steps, find_at, slice_get_within, there, none, and_parts, key_laws.one_way, passes_at_first)
 
 -- so the newcomer goes in behind it
@@ -70,6 +67,4 @@ map_alike f old new long each = search (arith, rules, ext_get_or (f []), length-
 -- lists that make the same offers one by one make the same ones together
 pub same_offers : (old new : List (List Queued)) → length new ≡ length old →
     ((i : ℕ) → OfferAlike (list_of old i) (list_of new i)) → orders_of new ≡ orders_of old
-same_offers old new long each =
-    let keys = λ (k : ℕ). map_alike (first_key k) old new long in
-    search (rules, same_orders, keys, map_alike output_order old new long)
+same_offers old new long each = search (rules, same_orders, map_alike, each)

@@ -5,9 +5,10 @@
 -- that leaves it, changes neither the first cells for the other outputs nor the order in which these stand. So with the
 -- pair of the input and of this output taken out, the orders are as before.
 use Rattle.cq_prefs.proofs.Terms.{common_steps, rules, ◌≡◌, ◌≢◌, ℕ, zero, suc, eqb, not, cond, Bool, true, false, List, [], ◌∷◌, length, map, Option, Some, refl, sym, ap, arith, filter, insert, cond_both, cond-false, cases_eq, cases_lt, eq-eqb, ne_eqb, eqb-true, not-true, length-map, Queued, is_for, first_for, without_first, list_of, FirstKeysDiffer, without_repeats, output_order, input_order, orders_of, first_key, key_at, Partners, partner_of, without, is_partner, is_pair, AreSameWithout, kept_has, has_kept, pairs_kept, pairs_kept_with, same_pairs, eqb-false, ◌∙◌, ◌<◌, ◌≤◌, ⊎_elim, remove, IsDistinct, position_or_len, cond-true, cases_Bool, put_by, place_in, IsListed, AllByRecursion, all_of_has, Has, most_ports}
-use Rattle.cq_prefs.proofs.InputOrder.{key_at-first, is_input_order, outputs_at, inputs_at, no_inputs_past}
+use Rattle.cq_prefs.proofs.InputOrder.{before, key_at-first, is_input_order, outputs_at, inputs_at, no_inputs_past}
 use Rattle.cq_prefs.proofs.Members.{among, listed, Apart, place_head, place_next, Rises}
-use Rattle.cq_prefs.proofs.OneOrder.{more_urgent, urgent_one_way, inputs_rise, apart}
+use Rattle.cq_prefs.proofs.OutputOrder.{outputs}
+use Rattle.cq_prefs.proofs.OneOrder.{before_one_way, inputs_rise, apart}
 use Rattle.cq_prefs.proofs.ByKey.{put_is, length-put}
 
 pub without_here : (x y : ℕ) (xs : List ℕ) → y ≡ x → without x (y ∷ xs) ≡ without x xs
@@ -42,16 +43,14 @@ goes_first b x [] before = refl
 goes_first b x (y ∷ ys) before = cond-true (b x y) (x ∷ y ∷ ys) (y ∷ put_by b x ys) before.0
 
 module _ (b : ℕ → ℕ → Bool) (one_way : (x y : ℕ) → b x y ≡ true → b y x ≡ true → ⊥) where
-  goes_back : (x : ℕ) (ys : List ℕ) → Apart ys → Rises b ys → Has ys x → put_by b x (without x ys) ≡ ys
-  goes_back x [] a r m = absurd m
-  goes_back x (y ∷ ys) a r m =
-      let there = without_there x y ys in
-      let rest = goes_back x ys a.1 r.1 in
+  goes_back : (x : ℕ) (ys : List ℕ) → Rises b ys → Has ys x → put_by b x (without x ys) ≡ ys
+  goes_back x [] r m = absurd m
+  goes_back x (y ∷ ys) r m =
+      let there = without_there x y ys in let rest = goes_back x ys r.1 in
       search (arith, rules, all_of_has, without_none, goes_first, cases_eq, cases_Bool, cond-false, without_here x y ys)
 
--- no number is twice, each comes before all that stand behind it, and no two come before each other
+-- each comes before all that stand behind it, and no two come before each other
 pub record IsPut (b : ℕ → ℕ → Bool) (ys : List ℕ) : Type 0 where
-  pub apart : Apart ys
   pub rises : Rises b ys
   pub one_way : (x y : ℕ) → b x y ≡ true → b y x ≡ true → ⊥
 
@@ -81,10 +80,7 @@ left_out : (j : ℕ) (xs : List ℕ) → without j (without_repeats xs) ≡ with
 left_out j [] = refl
 left_out j (x ∷ xs) =
     let swap = without_swap j x in let rest = left_out j xs in
-    search (arith, rules, without_here, without_there, swap, cases_eq, without_none, not-true, kept_has, eq-eqb, rest)
-
-abbrev outputs : List Queued → List ℕ
-outputs cells = map (λ c. c.cell.output) cells
+    search (arith, rules, without_here, without_there, swap, cases_eq, without_none, kept_has, eq-eqb, rest)
 
 same_tail : (j x : ℕ) (xs ys : List ℕ) → without j xs ≡ without j ys → without j (x ∷ xs) ≡ without j (x ∷ ys)
 same_tail j x xs ys e = ap (λ l. cond (not (eqb x j)) (x ∷ l) l) e
@@ -156,11 +152,11 @@ module _ (m : Partners) (old new : List (List Queued)) (k : ℕ)
       filter (λ i. not (is_pair m i k)) (input_order old k) ≡ filter (λ i. not (is_pair m i k)) (input_order new k)
   same_inputs =
       let a = is_input_order old k old_differ in let b = is_input_order new k new_differ in
-      same_pairs (λ i n. more_urgent old k i n ≡ true) (urgent_one_way old k)
+      same_pairs (λ i n. before (map (first_key k) old) i n ≡ true) (before_one_way _)
       (filter kept (input_order old k)) (filter kept (input_order new k))
       (pairs_kept _ kept (input_order old k) (inputs_rise old k (input_order old k) a))
-      (pairs_kept_with _ (λ x y. more_urgent old k x y ≡ true) kept (λ x y s t later. search (arith, rules, same_key))
-      (input_order new k) (inputs_rise new k (input_order new k) b))
+      (pairs_kept_with _ (λ x y. before (map (first_key k) old) x y ≡ true) kept
+      (λ x y s t later. search (arith, rules, same_key)) (input_order new k) (inputs_rise new k (input_order new k) b))
       (λ i s. search (arith, rules, kept_has, listed, has_kept, among, no_pair))
       (λ i s. search (arith, rules, kept_has, listed, has_kept, among, no_pair))
 

@@ -20,81 +20,74 @@ found_only p (x ∷ xs) y m h only = grind (arith, common_steps, cond_both, true
 holds-yes : (o : Orders) (s : State) (i j : ℕ) → holds o s i j ≡ true → Holds o s j i
 holds-yes o s i j h = let parts = and_parts _ _ h in (eqb-true _ _ parts.0, ltb-true _ _ parts.1)
 
--- an output that does not hold nobody holds its holder
-pub holder-holds : (o : Orders) → AreOffers o → (s : State) → IsSound o s → (j : ℕ) → j < ports o →
-    position_held s j ≢ ports o → Holds o s j (holder o s j)
-holder-holds o v s w j r n = grind (arith, common_steps, w.held_in j r, position_of-at o v j (position_held s j))
-
--- one output at most holds an input
-pub held_once : (o : Orders) → AreOffers o → (s : State) → IsSound o s → (i j k : ℕ) → Holds o s j i → Holds o s k i →
-    j ≡ k
-held_once o v s w i j k a b = grind (arith, common_steps, same_at_place, w.last, v.shown_back)
-
 pub keeper-holds : (o : Orders) (s : State) (i j : ℕ) → keeper o s i ≡ Some j → Holds o s j i
 unfolding keeper
 keeper-holds o s i j e = holds-yes o s i j (found_passes (holds o s i) (range_with_len 0 (ports o)) j e)
 
-pub keeper-from : (o : Orders) → AreOffers o → (s : State) → IsSound o s → (i j : ℕ) → Holds o s j i →
-    keeper o s i ≡ Some j
-unfolding keeper
-keeper-from o v s w i j h =
-    let only = found_only (holds o s i) (range_with_len 0 (ports o)) j in
-    search (arith, rules, only, has_number, and_from, eq-eqb, lt-ltb, held_once, holds-yes, output_in_range)
-
 pub none_unless : {X : Type 0} (p : Option X) → ((x : X) → p ≡ Some x → ⊥) → p ≡ None
 none_unless p h = grind (arith, common_steps, h)
 
--- the partner of an input in the matching of the state
-pub partner-is : (o : Orders) → AreOffers o → (s : State) → (i : ℕ) → partner_of (matching_of o s) i ≡ keeper o s i
-unfolding matching_of
-partner-is o v s i =
-    let long = length-map-range_with_len (keeper o s) 0 (ports o) in
-    let past = λ (j : ℕ) (e : keeper o s i ≡ Some j).
-    input_in_range o i j (v.shown_back i j (keeper-holds o s i j e).1) in
-    search (arith, rules, get_or-map-range_with_len, get_or_past, none_unless (keeper o s i), past, cases_lt)
+module _ (o : Orders) (v : AreOffers o) (s : State) where
+  -- the partner of an input in the matching of the state
+  pub partner-is : (i : ℕ) → partner_of (matching_of o s) i ≡ keeper o s i
+  unfolding matching_of
+  partner-is i =
+      let long = length-map-range_with_len (keeper o s) 0 (ports o) in let past = λ (j : ℕ) (e : keeper o s i ≡ Some j).
+      input_in_range o i j (v.shown_back i j (keeper-holds o s i j e).1) in
+      search (arith, rules, get_or-map-range_with_len, get_or_past, none_unless (keeper o s i), past, cases_lt)
 
--- who is matched is held, and who is held is matched
-pub partner-holds : (o : Orders) → AreOffers o → (s : State) → (i j : ℕ) → partner_of (matching_of o s) i ≡ Some j →
-    Holds o s j i
-partner-holds o v s i j e = keeper-holds o s i j (sym (partner-is o v s i) ∙ e)
+  -- who is matched is held, and who is held is matched
+  pub partner-holds : (i j : ℕ) → partner_of (matching_of o s) i ≡ Some j → Holds o s j i
+  partner-holds i j e = keeper-holds o s i j (sym (partner-is i) ∙ e)
 
-pub partner-from : (o : Orders) → AreOffers o → (s : State) → IsSound o s → (i j : ℕ) → Holds o s j i →
-    partner_of (matching_of o s) i ≡ Some j
-partner-from o v s w i j h = partner-is o v s i ∙ keeper-from o v s w i j h
+  pub matching-of : IsMatching o (matching_of o s)
+  unfolding matching_of
+  matching-of =
+      record {
+        size = length-map-range_with_len (keeper o s) 0 (ports o);
+        offered = λ i j e. v.shown_back i j (partner-holds i j e).1;
+        once = λ i k j e f. let a = partner-holds i j e in
+            same_at_place (inputs_of o j) i k (omega (arith, a.0, (partner-holds k j f).0)) a.1;
+      }
 
-pub matching-of : (o : Orders) → AreOffers o → (s : State) → IsMatching o (matching_of o s)
-unfolding matching_of
-matching-of o v s =
-    record {
-      size = length-map-range_with_len (keeper o s) 0 (ports o);
-      offered = λ i j e. v.shown_back i j (partner-holds o v s i j e).1;
-      once = λ i k j e f. let a = partner-holds o v s i j e in
-          same_at_place (inputs_of o j) i k (omega (arith, a.0, (partner-holds o v s k j f).0)) a.1;
-    }
+  -- ## Who is free
 
--- the matching is what shows exactly who is held
-pub matching_of-is : (o : Orders) → AreOffers o → (t : State) → IsSound o t → (m : Partners) → length m ≡ ports o →
-    ((k q : ℕ) → partner_of m k ≡ Some q → Holds o t q k) → ((k q : ℕ) → Holds o t q k → partner_of m k ≡ Some q) →
-    m ≡ matching_of o t
-matching_of-is o v t w m size there back =
-    ext_get_or None m (matching_of o t) (let a = (matching-of o v t).size in omega arith)
-    (λ k l. at k (partner_of m k) refl)
-  where
-    at : (k : ℕ) (p : Option ℕ) → partner_of m k ≡ p → partner_of m k ≡ partner_of (matching_of o t) k
-    at k None e = e ∙ sym (none_unless _ (λ q h. let x = back k q (partner-holds o v t k q h) in let P : ⊥ = cc in P))
-    at k (Some q) e = e ∙ sym (partner-from o v t w k q (there k q e))
+  pub partner-free : (i : ℕ) → IsFree o s i → partner_of (matching_of o s) i ≡ None
+  partner-free i f = none_unless _ (λ j e. f.unheld j (partner-holds i j e))
 
--- ## Who is free
+  pub free_only_if : (i : ℕ) → IsFree o s i → is_free o s i ≡ true
+  unfolding is_free
+  free_only_if i f =
+      and_from _ _ (lt-ltb _ _ f.left) (ap is_none (none_unless _ (λ j e. f.unheld j (keeper-holds o s i j e))))
 
-pub partner-free : (o : Orders) → AreOffers o → (s : State) → (i : ℕ) → IsFree o s i →
-    partner_of (matching_of o s) i ≡ None
-partner-free o v s i f = none_unless _ (λ j e. f.unheld j (partner-holds o v s i j e))
+  module _ (w : IsSound o s) where
+    -- an output that does not hold nobody holds its holder
+    pub holder-holds : (j : ℕ) → j < ports o → position_held s j ≢ ports o → Holds o s j (holder o s j)
+    holder-holds j r n = grind (arith, common_steps, w.held_in j r, position_of-at o v j (position_held s j))
 
-pub free_if : (o : Orders) → AreOffers o → (s : State) → IsSound o s → (i : ℕ) → is_free o s i ≡ true → IsFree o s i
-unfolding is_free
-free_if o v s w i h = search (arith, rules, and_parts, ltb-true, keeper-from)
+    -- one output at most holds an input
+    pub held_once : (i j k : ℕ) → Holds o s j i → Holds o s k i → j ≡ k
+    held_once i j k a b = grind (arith, common_steps, same_at_place, w.last, v.shown_back)
 
-pub free_only_if : (o : Orders) → AreOffers o → (s : State) → (i : ℕ) → IsFree o s i → is_free o s i ≡ true
-unfolding is_free
-free_only_if o v s i f =
-    and_from _ _ (lt-ltb _ _ f.left) (ap is_none (none_unless _ (λ j e. f.unheld j (keeper-holds o s i j e))))
+    pub keeper-from : (i j : ℕ) → Holds o s j i → keeper o s i ≡ Some j
+    unfolding keeper
+    keeper-from i j h =
+        let only = found_only (holds o s i) (range_with_len 0 (ports o)) j in
+        search (arith, rules, only, has_number, and_from, eq-eqb, lt-ltb, held_once, holds-yes, output_in_range)
+
+    pub partner-from : (i j : ℕ) → Holds o s j i → partner_of (matching_of o s) i ≡ Some j
+    partner-from i j h = partner-is i ∙ keeper-from i j h
+
+    -- the matching is what shows exactly who is held
+    pub matching_of-is : (m : Partners) → length m ≡ ports o → ((k q : ℕ) → partner_of m k ≡ Some q → Holds o s q k) →
+        ((k q : ℕ) → Holds o s q k → partner_of m k ≡ Some q) → m ≡ matching_of o s
+    matching_of-is m size there back =
+        ext_get_or None m (matching_of o s) (size ∙ sym matching-of.size) (λ k l. at k (partner_of m k) refl)
+      where
+        at : (k : ℕ) (p : Option ℕ) → partner_of m k ≡ p → partner_of m k ≡ partner_of (matching_of o s) k
+        at k None e = e ∙ sym (none_unless _ (λ q h. let x = back k q (partner-holds k q h) in let P : ⊥ = cc in P))
+        at k (Some q) e = e ∙ sym (partner-from k q (there k q e))
+
+    pub free_if : (i : ℕ) → is_free o s i ≡ true → IsFree o s i
+    unfolding is_free
+    free_if i h = search (arith, rules, and_parts, ltb-true, keeper-from)

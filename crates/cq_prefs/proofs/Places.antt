@@ -53,8 +53,7 @@ inputs_at_most o v j = search (rules, places_at_most, v.inputs_differ, input_in_
 pub place_in_is : (xs : List ℕ) (y i : ℕ) → i ≤ length xs → ((k : ℕ) → k < i → get_or xs k 0 ≡ y → ⊥) →
     (i < length xs → get_or xs i 0 ≡ y) → place_in xs y ≡ i
 unfolding place_in
-place_in_is xs y i short before here =
-    position_or_len_is (λ x. eqb x y) xs i 0 short (λ k l. ne_eqb _ _ (before k l)) (λ l. eq-eqb _ _ (here l))
+place_in_is xs y i short before here = search (arith, rules, position_or_len_is (λ x. eqb x y) xs i 0, ne_eqb, eq-eqb)
 
 -- ## Nothing is offered
 

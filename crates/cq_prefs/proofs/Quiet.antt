@@ -53,14 +53,11 @@ none_goes_past o v events es m stable i j e =
 
 -- ## Nobody is free
 
--- an input stands behind the output that holds it, or at the end of its order
-pub record IsKept (o : Orders) (s : State) (i : ℕ) : Type 0 where
-  pub matched : (j : ℕ) → partner_of (matching_of o s) i ≡ Some j → next_place s i ≡ place_of o i j + 1
-  pub unmatched : partner_of (matching_of o s) i ≡ None → next_place s i ≡ length (outputs_of o i)
-
 module _ (o : Orders) (v : AreOffers o) (s : State) (w : IsSound o s) (q : IsQuiescent o s) where
-  pub kept : (i : ℕ) → IsKept o s i
-  kept i = search (arith, rules, w.last, w.within, partner-holds, partner-from, q, cases_lt)
+  -- an input stands behind the output that holds it, or at the end of its order: there it has spent
+  kept : (i : ℕ) (p : Option ℕ) → partner_of (matching_of o s) i ≡ p → next_place s i ≡ spent (outputs_of o i) p
+  kept i None e = search (arith, rules, w.within, partner-from, q, cases_lt)
+  kept i (Some j) e = search (rules, w.last, partner-holds)
 
   -- an output that is offered and is not the partner was not asked, and the partner is the better one; or it was
   -- asked, and holds a better input
@@ -68,8 +65,8 @@ module _ (o : Orders) (v : AreOffers o) (s : State) (w : IsSound o s) (q : IsQui
       HasBetterOutput o (matching_of o s) i j ⊎ HasBetterInput o (matching_of o s) i j
   settled i j offered apart =
       let at = position_of-at o v j (position_held s j) in
-      let is = kept i in
-      search (arith, rules, w.asked_before, v.shown, partner-from, at, is.matched, is.unmatched, cases_lt)
+      let none = kept i None in let some = λ (k : ℕ). kept i (Some k) in
+      search (arith, rules, w.asked_before, v.shown, partner-from, at, none, some, cases_lt)
 
   pub stable-quiet : IsStable o (matching_of o s)
   stable-quiet = record { matching = matching-of o v s; settled = settled }
@@ -79,7 +76,7 @@ module _ (o : Orders) (v : AreOffers o) (s : State) (w : IsSound o s) (q : IsQui
       partner_of (matching_of o s) i ≡ p → partner_of n i ≡ r → depth (outputs_of o i) p ≤ depth (outputs_of o i) r
   no_better n matching none i p r e f =
       let asked = w.asked_before i in
-      search (arith, rules, matching.offered, v.shown, place_in-le-length, partner-from, cases_lt, kept i)
+      search (arith, rules, matching.offered, v.shown, place_in-le-length, partner-from, cases_lt, kept i p)
 
 pub input_best-quiet : (o : Orders) → AreOffers o → (events : List ℕ) → AreEvents o events →
     IsQuiescent o (state_after o events) → IsInputBest o (matching_of o (state_after o events))
@@ -116,15 +113,11 @@ events_at_most o v events es =
     (search (arith, rules, get_or_default, w.within, outputs_at_most)) in
     grind (arith, common_steps, sum-places o v events es)
 
-spent-is : (o : Orders) (s : State) (i : ℕ) → IsKept o s i → (p : Option ℕ) → partner_of (matching_of o s) i ≡ p →
-    next_place s i ≡ spent (outputs_of o i) p
-spent-is o s i k p e = grind (arith, common_steps, k.matched)
-
 places-quiet : (o : Orders) → AreOffers o → (s : State) → IsSound o s → IsQuiescent o s →
     s.places ≡ map (λ i. spent (outputs_of o i) (partner_of (matching_of o s) i)) (range_with_len 0 (ports o))
 places-quiet o v s w q =
     let f : ℕ → ℕ = λ i. spent (outputs_of o i) (partner_of (matching_of o s) i) in
-    search (arith, rules, ext_get_or 0 s.places, length-map-range_with_len f, spent-is, kept, get_or-map-range_with_len)
+    search (arith, rules, ext_get_or 0 s.places, length-map-range_with_len f, kept o v s w q, get_or-map-range_with_len)
 
 pub events-quiet : (o : Orders) → AreOffers o → (events : List ℕ) → AreEvents o events →
     IsQuiescent o (state_after o events) → length events ≡ proposals o (matching_of o (state_after o events))

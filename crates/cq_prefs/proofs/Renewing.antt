@@ -8,12 +8,12 @@
 -- is renewed.
 -- One order that is known but for one port, which left it. Where there is no cell, what is left is the whole order.
 -- Where there is one, the port goes back in at the place that its first cell tells.
-use Rattle.cq_prefs.proofs.Terms.{common_steps, rules, ◌≡◌, ◌≢◌, ℕ, ◌+◌, ◌<◌, ◌≤◌, eqb, Bool, true, false, List, [], ◌∷◌, length, get_or, set, Option, Some, None, refl, sym, ◌∙◌, arith, not, replicate, map, filter, All, IsDistinct, cond-true, cases_Bool, cases_eq, cases_lt, eq-eqb, ne_eqb, eqb-true, length-map-range_with_len, get_or-map-range_with_len, length-map, length-set, get_or_past, get_or_default, get_or-set_same, get_or-set_other, ext_get_or, length-replicate, Queued, Waiting, cells_of, AreWaiting, list_of, output_order, input_order, orders_of, HasCellFor, FirstKeysDiffer, Orders, AreOffers, ports, outputs_of, inputs_of, Partners, partner_of, ArePairs, with_pair, without, is_partner, is_pair, AreSameWithout, first_for, kept_has, Has, has_kept, most_ports}
+use Rattle.cq_prefs.proofs.Terms.{common_steps, rules, ◌≡◌, ◌≢◌, ℕ, ◌+◌, ◌<◌, ◌≤◌, eqb, Bool, true, false, List, [], ◌∷◌, length, get_or, set, Option, Some, None, refl, sym, ◌∙◌, arith, not, replicate, map, filter, All, IsDistinct, cond-true, cases_Bool, cases_eq, cases_lt, eq-eqb, ne_eqb, eqb-true, length-map-range_with_len, get_or-map-range_with_len, length-map, length-set, get_or_past, get_or_default, get_or-set_same, get_or-set_other, ext_get_or, length-replicate, Queued, Waiting, cells_of, AreWaiting, list_of, output_order, input_order, orders_of, HasCellFor, FirstKeysDiffer, Orders, AreOffers, ports, outputs_of, inputs_of, Partners, partner_of, ArePairs, with_pair, without, is_partner, is_pair, AreSameWithout, first_for, first_key, kept_has, Has, has_kept, most_ports}
 use Rattle.std.proofs.lemmas.List.{get_or-map}
 use Rattle.std.proofs.lemmas.Simd.{map-map}
-use Rattle.cq_prefs.proofs.InputOrder.{OutputsInRange, outputs_at, inputs_at, are_offers, is_input_order}
+use Rattle.cq_prefs.proofs.InputOrder.{OutputsInRange, before, outputs_at, inputs_at, are_offers, is_input_order}
 use Rattle.cq_prefs.proofs.Members.{among, listed}
-use Rattle.cq_prefs.proofs.OneOrder.{same_orders, apart, stands_ahead, ahead_one_way, outputs_rise, more_urgent, urgent_one_way, inputs_rise}
+use Rattle.cq_prefs.proofs.OneOrder.{same_orders, stands_ahead, ahead_one_way, outputs_rise, before_one_way, inputs_rise}
 use Rattle.cq_prefs.proofs.OutputOrder.{is_output_order, has_output}
 use Rattle.cq_prefs.proofs.Places.{output_in_range, outputs_at_most, inputs_at_most}
 use Rattle.cq_prefs.proofs.Pairs.{nobody, no_pairs, joined_pairs}
@@ -92,8 +92,6 @@ pub one_more :
     column ≡ inputs_of t j →
     Renewing m (n + 1) (record { outputs = set o.outputs n row; inputs = set o.inputs j column }) t
 one_more m n j o t row column pairs v r e inside offered is_row is_column =
-    let row_here : (i : ℕ) → i ≡ n → get_or (set o.outputs n row) i [] ≡ outputs_of t i =
-    grind (arith, common_steps, get_or-set_same) in
     search (arith, rules, get_or-set_other, get_or-set_same, length-set, cases_eq)
 
 -- all are renewed
@@ -195,9 +193,8 @@ module _ (n j : ℕ) (lists : List Waiting) (inside : n < length lists) (within 
       length lists ≡ ports now → AreSameWithout (pair_of lists n j) now (orders_of (cells_of lists)) →
       Next (pair_of lists n j) n j outputs inputs lists
   pair_next outputs inputs o now shown v is many same =
-      let size = pair_size in
       let first = none_renewed (pair_of lists n j) o (orders_of (cells_of lists)) pair_apart v.0 in
-      search (arith, rules, first, none_between, pair_else, still_offers, pair_apart, length-replicate, get_or-set_same)
+      search (arith, rules, first, none_between, pair_else, still_offers, pair_apart, pair_size, get_or-set_same)
 
   -- the two orders are all
   pub pair_renewed : (outputs inputs : List (List ℕ)) (row column : List ℕ) (list : Waiting) →
@@ -205,14 +202,13 @@ module _ (n j : ℕ) (lists : List Waiting) (inside : n < length lists) (within 
       column ≡ input_order (cells_of lists) j →
       record { outputs = set outputs n row; inputs = set inputs j column } ≡ orders_of (cells_of lists)
   pair_renewed outputs inputs row column list x at e f =
-      let m = pair_of lists n j in
-      let size = pair_size in
+      let m = pair_of lists n j in let size = pair_size in
       search (arith, rules, next_renewed x, all_renewed m (length m), none_between m (n + 1) (length m), pair_else)
 
 -- ## The order of an input, and that of an output
 
 pub output_put : (cells : List Queued) → IsPut (stands_ahead cells) (output_order cells)
-output_put cells = search (rules, is_output_order cells, ahead_one_way, apart, outputs_rise)
+output_put cells = search (rules, is_output_order cells, ahead_one_way, outputs_rise)
 
 pub output_there : (cells : List Queued) (j : ℕ) → HasCellFor cells j → Has (output_order cells) j
 output_there cells j has = among (output_order cells) j (((is_output_order cells).offered j).1 has)
@@ -221,5 +217,5 @@ pub output_gone : (cells : List Queued) (j : ℕ) → first_for j cells ≡ None
 output_gone cells j none m = search (arith, rules, is_output_order cells, listed)
 
 pub input_put : (lists : List (List Queued)) (j : ℕ) → FirstKeysDiffer lists →
-    IsPut (more_urgent lists j) (input_order lists j)
-input_put lists j differ = search (rules, is_input_order, urgent_one_way lists j, apart, inputs_rise)
+    IsPut (before (map (first_key j) lists)) (input_order lists j)
+input_put lists j differ = search (rules, is_input_order, before_one_way, inputs_rise)

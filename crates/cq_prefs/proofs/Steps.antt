@@ -2,7 +2,7 @@
 -- asked output holds, which only falls, and moves the input on by one place. So an output that was asked once holds the
 -- input or a better one from then on, and whom it holds has it as the last output that was asked: an input that is held
 -- is not free and asks no further.
-use Rattle.cq_prefs.proofs.Terms.{common_steps, rules, ℕ, ◌≡◌, ◌≢◌, ◌⊎◌, ◌+◌, ◌<◌, ◌≤◌, min, List, [], ◌∷◌, length, ◌∙◌, arith, cases_lt, cases_eq, get_or-set_same, get_or-set_other, get_or_past, length-set, length-replicate, get_or-replicate, Orders, AreOffers, ports, outputs_of, inputs_of, place_of, position_of, IsOffered, State, position_held, next_place, start, Holds, IsFree, IsSound, next_output, propose, state_after, AreEvents}
+use Rattle.cq_prefs.proofs.Terms.{common_steps, rules, ℕ, ◌≡◌, ◌≢◌, ◌⊎◌, ◌+◌, ◌<◌, ◌≤◌, min, List, [], ◌∷◌, length, arith, cases_lt, cases_eq, get_or-set_same, get_or-set_other, get_or_past, length-set, length-replicate, get_or-replicate, Orders, AreOffers, ports, outputs_of, inputs_of, place_of, position_of, IsOffered, State, position_held, next_place, start, Holds, IsFree, IsSound, next_output, propose, state_after, AreEvents}
 use Rattle.cq_prefs.proofs.Places.{same_at_place, input_in_range, output_in_range, place_of-at, inputs_at_most}
 
 -- the output that a free input asks is offered
@@ -20,43 +20,34 @@ pub record IsStep (o : Orders) (s : State) (i : ℕ) (t : State) : Type 0 where
   pub moved_on : next_place t i ≡ next_place s i + 1
   pub others_stay : (k : ℕ) → k ≢ i → next_place t k ≡ next_place s k
 
-pub step : (o : Orders) → AreOffers o → (s : State) → IsSound o s → (i : ℕ) → IsFree o s i →
-    IsStep o s i (propose o s i)
-unfolding propose
-step o v s w i f =
-    let offered = next_output-offered o v s i f.left in
-    search (arith, rules, output_in_range, input_in_range, place_of-at, get_or-set_same, get_or-set_other)
+module _ (o : Orders) (v : AreOffers o) (s : State) (w : IsSound o s) (i : ℕ) (f : IsFree o s i) where
+  pub step : IsStep o s i (propose o s i)
+  unfolding propose
+  step =
+      let offered = next_output-offered o v s i f.left in
+      search (arith, rules, output_in_range, input_in_range, place_of-at, get_or-set_same, get_or-set_other)
 
--- a position that is held only falls
-pub held-falls : (o : Orders) (s : State) (i : ℕ) (t : State) → IsStep o s i t → (j : ℕ) →
-    position_held t j ≤ position_held s j
-held-falls o s i t st j = let other = st.held_other j in grind (arith, cases_eq)
+  module _ (t : State) (st : IsStep o s i t) where
+    -- a position that is held only falls, so an output that was asked holds the input or a better one
+    asked_before-step : (k j : ℕ) → place_of o k j < next_place t k → position_held t j ≤ position_of o j k
+    asked_before-step k j h =
+        search (arith, rules, st.others_stay, w.asked_before, same_at_place, cases_eq, cases_lt, st.held_other)
 
-asked_before-step : (o : Orders) → AreOffers o → (s : State) → IsSound o s → (i : ℕ) (t : State) → IsStep o s i t →
-    (k j : ℕ) → place_of o k j < next_place t k → position_held t j ≤ position_of o j k
-asked_before-step o v s w i t st k j h =
-    search (arith, rules, st.others_stay, w.asked_before, same_at_place, cases_eq, cases_lt, held-falls o s i t st j)
+    -- what the asked output holds after the proposal
+    last-step : (k j : ℕ) → Holds o t j k → next_place t k ≡ place_of o k j + 1
+    last-step k j h =
+        search (arith, rules, same_at_place, cases_lt, st.held_other, st.others_stay, f.unheld, w.last, cases_eq)
 
--- what the asked output holds after the proposal
-last-step : (o : Orders) → AreOffers o → (s : State) → IsSound o s → (i : ℕ) → IsFree o s i → (t : State) →
-    IsStep o s i t → (k j : ℕ) → Holds o t j k → next_place t k ≡ place_of o k j + 1
-last-step o v s w i f t st k j h =
-    let kept : Holds o s j k → next_place t k ≡ place_of o k j + 1 =
-    λ held. st.others_stay k (λ e. f.unheld j (rw e at held)) ∙ w.last k j held in
-    search (arith, rules, same_at_place, cases_lt, st.held_other, cases_eq)
+    held_in-step : (j : ℕ) → j < ports o → (position_held t j ≡ ports o) ⊎ (position_held t j < length (inputs_of o j))
+    held_in-step j r = grind (arith, common_steps, st.held_other, w.held_in, v.shown, cases_eq)
 
-held_in-step : (o : Orders) → AreOffers o → (s : State) → IsSound o s → (i : ℕ) (t : State) → IsStep o s i t →
-    (j : ℕ) → j < ports o → (position_held t j ≡ ports o) ⊎ (position_held t j < length (inputs_of o j))
-held_in-step o v s w i t st j r = grind (arith, common_steps, st.held_other, w.held_in, v.shown, cases_eq)
-
-pub sound-step : (o : Orders) → AreOffers o → (s : State) → IsSound o s → (i : ℕ) → IsFree o s i →
-    IsSound o (propose o s i)
-unfolding propose
-sound-step o v s w i f =
-    let st = step o v s w i f in
-    let within : (k : ℕ) → next_place (propose o s i) k ≤ length (outputs_of o k) =
-    grind (arith, common_steps, st.others_stay, w.within, cases_eq) in
-    search (rules, length-set, asked_before-step, last-step, held_in-step)
+  pub sound-step : IsSound o (propose o s i)
+  unfolding propose
+  sound-step =
+      let st = step in
+      let within : (k : ℕ) → next_place (propose o s i) k ≤ length (outputs_of o k) =
+      grind (arith, common_steps, st.others_stay, w.within, cases_eq) in
+      search (rules, length-set, asked_before-step, last-step, held_in-step)
 
 -- nobody has proposed
 pub next_place-start : (o : Orders) (i : ℕ) → next_place (start o) i ≡ 0
