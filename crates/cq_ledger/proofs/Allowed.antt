@@ -189,3 +189,7 @@ pub all_claimed : (l : LedgerState) (s : SeatState) (table : TableId) (offers : 
 all_claimed l s table offers mine view m all i h = grind (arith, common_steps)
 
 pub ruleset allowed = (matched, join-allowed, split-allowed)
+
+pub ruleset keep_steps = (proposal-keeps, claim-keeps, refused-keeps, split-keeps, join-keeps)
+
+pub ruleset show_steps = (start-shows, taken-shows, refused-shows, split-shows, join-shows)

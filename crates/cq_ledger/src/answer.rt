@@ -71,7 +71,7 @@ pub(crate) fn hand_next(
 }
 
 // A hand with an input at the place after an output in its order.
-#[tactic(auto, unfolding(crate::specs::Steps::hand_at))]
+#[tactic(auto, using(crate::proofs::Hands::hand_steps), unfolding(crate::specs::Steps::hand_at))]
 fn hand_behind(offers: &Offers, input: Port, output: Port) -> Hand
     ensures { result ≡ hand_at offers.now input (place_of offers.now input output + 1) }
 {

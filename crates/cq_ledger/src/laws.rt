@@ -18,6 +18,7 @@ ghost use Rattle.cq_ledger.specs.Views.{IsClaimed, IsUnclaimed, Sits};
 /// holds. A proposal is one event of the core: the hand's input is free, the state is the one after its
 /// proposal, and the answer is what that proposal comes to. Making the first seat shows the state at the start.
 /// A claim, whether it finds the input claimed or not, a split and a join leave the state as it is.
+#[tactic(auto, using(crate::proofs::Allowed::show_steps))]
 pub fn step_is_event()
     ensures start { (o : Orders) → AreOffers o → ports o ≤ most_ports →
         core_state o (first_words o) (blank o ∷ []) ≡ start o }
@@ -38,6 +39,7 @@ pub fn step_is_event()
 {}
 
 /// Each kind of step keeps the rule.
+#[tactic(auto, using(crate::proofs::Allowed::keep_steps))]
 pub fn steps_keep_the_rule()
     ensures start { (o : Orders) → AreOffers o → ports o ≤ most_ports → IsLedger o (first_words o) (blank o ∷ []) }
     ensures proposal { (o : Orders) (words : List ℕ) (views : List View) (id i p : ℕ) (v : View) →
