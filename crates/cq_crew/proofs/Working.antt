@@ -3,7 +3,7 @@ use Rattle.cq_crew.proofs.Terms.{common_steps, rules, ℕ, ◌≡◌, ◌+◌, �
 use Rattle.cq_prefs.specs.declared.outcome.Outcome.{Outcome}
 use Rattle.cq_ledger.specs.declared.view.View.{View}
 use Rattle.cq_ledger.specs.Steps.{claim_refused, claim_taken, first_tried, joined}
-use Rattle.cq_ledger.proofs.Views.{bit-or_same, bit-left}
+use Rattle.cq_ledger.proofs.Views.{bits}
 
 -- ## Views that grow
 
@@ -17,7 +17,7 @@ pub grows-proposing : (v w : View) → ProposesFor v w → Grows v w
 grows-proposing v w p = grind (arith, common_steps)
 
 pub grows-joined : (v w : View) → Grows v (joined v w)
-grows-joined v w = grind (arith, common_steps, bit-left)
+grows-joined v w = grind (arith, common_steps, bits.left)
 
 -- ## What was tried
 
@@ -43,12 +43,12 @@ idle-after l u s t a b = record { seat = b.seat; hand = b.hand; grows = grows-af
 pub idle-taken : (l : LedgerState) (v u : View) (s : SeatState) (i : ℕ) → u ≡ claim_taken v i → IsSeatOf l s →
     s.view.hand ≡ None → ProposesFor u s.view → IsIdleAfter l v s × HasTried s.view i
 idle-taken l v u s i is of empty proposes =
-    search (arith, rules, grows-proposing, bit-or_same, grows-after, tried-grown, bit-left)
+    search (arith, rules, grows-proposing, bits.same, grows-after, tried-grown, bits.left)
 
 -- a claim that found it claimed
 pub idle-refused : (l : LedgerState) (v : View) (s : SeatState) (i : ℕ) → v.hand ≡ None → s.view ≡ claim_refused v i →
     IsSeatOf l s → IsIdleAfter l v s × HasTried s.view i
-idle-refused l v s i empty is of = search (arith, rules, bit-or_same, bit-left)
+idle-refused l v s i empty is of = search (arith, rules, bits.same, bits.left)
 
 -- a join of another seat
 pub idle-joined : (l : LedgerState) (v w : View) (s t : SeatState) → IsIdleAfter l v s → IsSeatOf l t →

@@ -8,7 +8,7 @@ use Rattle.cq_ledger.proofs.Terms.{rules, ℕ, suc, ◌≡◌, ◌≢◌, ◌*�
 use Rattle.atomic_table.specs.Table.{step, Allows, Splits, Joins}
 use Rattle.cq_ledger.proofs.Proposing.{propose-keeps, claim-keeps, refuse-keeps}
 use Rattle.cq_ledger.proofs.Seats.{split-keeps, join-keeps, start-keeps, longer-keeps, half_of}
-use Rattle.cq_ledger.proofs.Views.{at_known, bit-lt, one_power, or_set, dealt}
+use Rattle.cq_ledger.proofs.Views.{bits, one_power, at_known, dealt}
 use Rattle.cq_ledger.specs.Moments.{IsEvent}
 use Rattle.cq_ledger.proofs.CoreState.{core_state-is}
 use Rattle.atomic_table.specs.Seated.{TableId}
@@ -50,12 +50,11 @@ module _ (o : Orders) (words : List ℕ) (views : List View) (k : IsLedger o wor
 
     -- a claim that finds the input claimed leaves the words as they are
     words-same : IsClaimed words i → words_claimed words i ≡ words
-    words-same claimed = ap (λ m. set words 0 m) (or_set (get_or words 0 0) i claimed) ∙ set-get_or words 0 0
+    words-same claimed = ap (λ m. set words 0 m) (bits.again (get_or words 0 0) i claimed) ∙ set-get_or words 0 0
 
     pub refused-keeps : IsClaimed words i → v.offers ≡ o →
         IsLedger o (words_claimed words i) (set views id (claim_refused v i))
-    refused-keeps claimed same_offers =
-        rw (words-same claimed) (refuse-keeps o words views k id i v at same_offers claimed)
+    refused-keeps claimed same_offers = search (rules, words-same, refuse-keeps)
 
     pub refused-shows : IsClaimed words i → v.offers ≡ o →
         core_state o (words_claimed words i) (set views id (claim_refused v i)) ≡ core_state o words views
@@ -130,7 +129,7 @@ module _ (o : Orders) (slots id i : ℕ) (me : Seated) (r : i < ports o) (empty 
 
   -- by the bit that is found
   pub claim-may : (v : View) × May v
-  claim-may = search (arith, rules, bit-lt, may_take, may_not, cases_eq)
+  claim-may = search (arith, rules, bits.lt, may_take, may_not, cases_eq)
 
 pub split-allowed : (o : Orders) (id : ℕ) (v : View) → Splits (Ruled o) id v v (blank v.offers)
 split-allowed o id v s k at = split-keeps o s.words s.views k id v at
@@ -178,9 +177,7 @@ module _ (me : Seated) (claims : ℕ) (hand : Option (ℕ × ℕ)) (made : ℕ) 
         answer ≡ answer_of me.0.offers i p found → hand' ≡ hand_after me.0.offers i p answer →
         IsSeat me' claims hand' (made + 1)
     proposed-seat i p found answer hand' is answer_is hand_is =
-        let hand_found = ap (λ v. v.hand) is.view ∙ ap (hand_after me.0.offers i p) (sym answer_is) in
-        let placed = λ (q r : ℕ). hand_after-placed me.0.offers i p answer (q, r) in
-        search (arith, rules, placed)
+        let placed = λ (q r : ℕ). hand_after-placed me.0.offers i p answer (q, r) in search (arith, rules, placed)
 
 -- a seat that has claimed every port has claimed those of the ledger's offers
 pub all_claimed : (l : LedgerState) (s : SeatState) (table : TableId) (offers : Orders) (mine : TableId) (view : View)

@@ -2,7 +2,7 @@
 -- none has made a proposal or has an input in its hand. Nobody is dropped, so nobody is free.
 use Rattle.cq_ledger.proofs.Terms.{rules, ℕ, ◌≡◌, ◌≢◌, ◌<◌, List, [], ◌∷◌, None, refl, arith, sum_by, cases_eq, sum_by-cons, Orders, ports, Partners, IsInputBest, proposals, next_output-offered, sound-after, State, IsQuiescent, state_after, matching_of, IsSound, IsLedger, Sits, bit, input_in_range, Shows, events-quiet, View, common_steps, spent, at_set, suc}
 use Rattle.cq_prefs.proofs.Quiet.{input_best-quiet}
-use Rattle.cq_ledger.proofs.Views.{same_at, no_bits, made_with}
+use Rattle.cq_ledger.proofs.Views.{bits, same_at, made_with}
 
 none_made : (views : List View) → ((a : ℕ) (u : View) → Sits views a u → u.made ≡ 0) →
     sum_by (λ (y : View). y.made) views ≡ 0
@@ -18,7 +18,7 @@ module _ (o : Orders) (words : List ℕ) (views : List View) (k : IsLedger o wor
     (at_id : Sits views id v)
     (all : (i : ℕ) → i < ports o → bit v.claims i ≡ 1) (empty : v.hand ≡ None) where
   others_idle : (a : ℕ) (u : View) → a ≢ id → Sits views a u → (u.hand ≡ None) × (u.made ≡ 0)
-  others_idle a u n at = k.idle a u at (no_bits u.claims (λ q h.
+  others_idle a u n at = k.idle a u at (bits.none u.claims (λ q h.
       n (k.claims.apart a id q u v at at_id h (all q (k.claims.in_range q (k.claims.claimed a q u at h))))))
 
   pub closing-quiet : IsQuiescent o (state_after o k.events)

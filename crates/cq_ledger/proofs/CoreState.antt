@@ -5,7 +5,7 @@ use Rattle.cq_ledger.proofs.Terms.{rules, ℕ, ◌≡◌, List, [], length, drop
 use Rattle.cq_prefs.proofs.LeastFirst.{input_best-best}
 use Rattle.cq_prefs.proofs.Quiet.{none_passed-after}
 use Rattle.cq_ledger.specs.Moments.{ShowsProposals}
-use Rattle.cq_ledger.proofs.Views.{bit-lt}
+use Rattle.cq_ledger.proofs.Views.{bits}
 
 -- ## One hand
 
@@ -31,8 +31,7 @@ in_hands-some (v ∷ views) i p e = go (in_hands-some views i p) (place_in_hand 
 pub in_hands-none : (views : List View) (i : ℕ) → place_in_hands views i ≡ None → IsInAHand views i → ⊥
 in_hands-none [] i e (a, u, p, at, h) = some-ne-none u (sym at)
 in_hands-none (v ∷ views) i e (zero, u, p, at, h) = grind (arith, common_steps, in_hand-has, some-injective v u at)
-in_hands-none (v ∷ views) i e (suc a, u, p, at, h) =
-    in_hands-none views i (grind (arith, common_steps)) (a, u, p, at, h)
+in_hands-none (v ∷ views) i e (suc a, u, p, at, h) = grind (arith, common_steps, in_hands-none views i)
 
 -- ## The state
 
@@ -51,15 +50,15 @@ module _ (o : Orders) (words : List ℕ) (views : List View) (k : IsLedger o wor
   output-is i = ap (λ ps. keeper o (record { positions = ps; places = [] }) i) positions-are
 
   -- an input that is claimed, in no hand and held by none has asked its whole order
-  through : (i : ℕ) → place_in_hands views i ≡ None → keeper o s i ≡ None → IsClaimed words i →
+  done : (i : ℕ) → place_in_hands views i ≡ None → keeper o s i ≡ None → IsClaimed words i →
       next_place s i ≡ length (outputs_of o i)
-  through i no_hand no_output claimed =
+  done i no_hand no_output claimed =
       grind (arith, w.within i, in_hands-none views i, k.hands.undropped i, keeper-from o k.offers s w i)
 
   next-is : (i : ℕ) → next_shown o words views i ≡ next_place s i
   unfolding next_shown
   next-is i =
-      search (arith, rules, output-is, in_hands-some, k.hands.place, keeper-holds, w.last, through, k.unclaimed, bit-lt)
+      search (arith, rules, output-is, in_hands-some, k.hands.place, keeper-holds, w.last, done, k.unclaimed, bits.lt)
 
   places-are : map (next_shown o words views) (range_with_len 0 (ports o)) ≡ s.places
   places-are = ext_get_or 0 (map (next_shown o words views) (range_with_len 0 (ports o))) s.places

@@ -83,9 +83,7 @@ module _ (o : Orders) (v : AreOffers o) (s : State) (w : IsSound o s) (i : ℕ) 
   pub free-before : (k : ℕ) → IsFree o t k →
       (hand_found o i (next_place s i) (position_held s j) ≡ Some (k, next_place t k)) ⊎ ((k ≢ i) × IsFree o s k)
   free-before k g =
-      let moved = st.moved_on in
-      let asked = st.held_asked in
-      let shown = v.shown i j st.offered in
+      let moved = st.moved_on in let asked = st.held_asked in let shown = v.shown i j st.offered in
       ⊎_elim (λ e. search (arith, rules, hands, g.unheld, taken_if, cases_lt)) (λ n.
       let stays = st.others_stay k n in
       let unless : (Holds o s j k → ⊥) → (k ≢ i) × IsFree o s k =

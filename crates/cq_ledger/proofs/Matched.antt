@@ -33,10 +33,7 @@ module _ (o : Orders) (v : AreOffers o) (s : State) (w : IsSound o s) (m : Partn
 
     reads_more : IsRead o s (set m k (Some n)) (n + 1)
     reads_more =
-        let free = k_free in
-        let here = hold in
-        let same = get_or-set_same m k in
-        let other = get_or-set_other m k in
+        let free = k_free in let here = hold in let same = get_or-set_same m k in let other = get_or-set_other m k in
         record {
           size = length-set m k _ ∙ r.size;
           there = λ x q e. grind (arith, common_steps, r.there x q, same, other x, free, here);

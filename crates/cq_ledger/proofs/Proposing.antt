@@ -6,7 +6,7 @@
 -- has it, since it was held, or in this hand.
 use Rattle.cq_ledger.proofs.Terms.{rules, ℕ, suc, ◌≡◌, ◌≢◌, inl, ⊎_elim, ◌<◌, min, List, ◌∷◌, get_or, set, Some, sym, ◌∙◌, ap, arith, common_steps, cases_eq, get_or-set_same, get_or-set_other, length-set, at_set, Orders, ports, position_of, IsStep, step, sound-after, State, position_held, next_place, IsFree, next_output, propose, state_after, IsSound, IsLedger, proposed, Waits, Sits, bit, claim_word, output_in_range, View, ◌⊎◌, ◌^◌, length, None, bit_or, outputs_of, hand_at, claim_taken, IsClaimedByOne, refl, claim_refused}
 use Rattle.cq_ledger.proofs.Hands.{hand_found, still_free, hand-shows, free-before, hand_at-left, hand_at-shows}
-use Rattle.cq_ledger.proofs.Views.{bit-lt, sits_now, in_hand_still, claims_stay as same_claims, made_with, hands_with, offers_with, MayHold, bit-or_same, bit-or_other, bit-zero, by_one_still, stood, hands_from, dealt}
+use Rattle.cq_ledger.proofs.Views.{bits, sits_now, in_hand_still, claims_stay as same_claims, made_with, hands_with, offers_with, MayHold, by_one_still, stood, hands_from, dealt}
 
 module _ (o : Orders) (words : List ℕ) (views : List View) (k : IsLedger o words views) (id i : ℕ) (v : View)
     (at_id : Sits views id v) (same_offers : v.offers ≡ o) where
@@ -35,16 +35,16 @@ module _ (o : Orders) (words : List ℕ) (views : List View) (k : IsLedger o wor
     word_now = get_or-set_same words 0 _ 0 (omega arith)
 
     pub now_set : bit (claim_word claimed_words) i ≡ 1
-    now_set = ap (λ n. bit n i) word_now ∙ bit-or_same (claim_word words) i
+    now_set = ap (λ n. bit n i) word_now ∙ bits.same (claim_word words) i
 
-    pub bits : (q : ℕ) → q ≢ i → bit (claim_word claimed_words) q ≡ bit (claim_word words) q
-    bits q n = ap (λ m. bit m q) word_now ∙ bit-or_other (claim_word words) i q n
+    pub kept : (q : ℕ) → q ≢ i → bit (claim_word claimed_words) q ≡ bit (claim_word words) q
+    kept q n = ap (λ m. bit m q) word_now ∙ bits.other (claim_word words) i q n
 
     pub not_i : (q : ℕ) → bit (claim_word words) q ≡ 1 → q ≢ i
     not_i q h e = grind (arith, common_steps)
 
     pub stays_set : (q : ℕ) → bit (claim_word words) q ≡ 1 → bit (claim_word claimed_words) q ≡ 1
-    stays_set q h = bits q (not_i q h) ∙ h
+    stays_set q h = kept q (not_i q h) ∙ h
 
     pub hand_now : taken.hand ≡ hand_at o i 0
     hand_now = ap (λ x. hand_at x i 0) same_offers
@@ -58,17 +58,17 @@ module _ (o : Orders) (words : List ℕ) (views : List View) (k : IsLedger o wor
     -- who has claimed an input now is this view, or had claimed it
     pub claims_of : (b q : ℕ) (u : View) → Sits claimed_views b u → bit u.claims q ≡ 1 →
         ((b ≡ id) × (q ≡ i)) ⊎ ((x : View) × Sits views b x × (bit x.claims q ≡ 1))
-    claims_of b q u a h = search (rules, at_set views id b taken u a, cases_eq q i, bit-or_other v.claims i q)
+    claims_of b q u a h = search (rules, at_set views id b taken u a, cases_eq q i, bits.other v.claims i q)
 
     pub by_one_now : (q : ℕ) → bit (claim_word claimed_words) q ≡ 1 → IsClaimedByOne claimed_views q
     by_one_now q h =
         let still = by_one_still views id v taken at_id q in
-        search (rules, cases_eq q i, here, bit-or_same, still, bit-or_other, bits q, k.claims.by_one q)
+        search (rules, cases_eq q i, here, bits.same, still, bits.other, kept q, k.claims.by_one q)
 
     pub undropped_claimed : (q : ℕ) → IsFree o s q → Waits claimed_words claimed_views q
     undropped_claimed q g =
         let still = in_hand_still views id v taken at_id in
-        search (arith, rules, k.hands.undropped q g, cases_eq q i, bits q, here, hand_now, hand_at-left, fresh_i, still)
+        search (arith, rules, k.hands.undropped q g, cases_eq q i, kept q, here, hand_now, hand_at-left, fresh_i, still)
 
     unfoldable pub claim-keeps : IsLedger o claimed_words claimed_views
     claim-keeps =
@@ -80,13 +80,13 @@ module _ (o : Orders) (words : List ℕ) (views : List View) (k : IsLedger o wor
           size = length-set words 0 _ ∙ k.size;
           same = offers_with o views id taken k.same (inl same_offers);
           positions = λ j l. get_or-set_other words 0 (suc j) _ 0 (omega arith) ∙ k.positions j l;
-          claims = search (rules, claims_of, now_set, stays_set, by_one_now, not_i, k.claims.in_range, bits, at_set);
+          claims = search (rules, claims_of, now_set, stays_set, by_one_now, not_i, k.claims.in_range, kept, at_set);
           hands = hands_with views id v taken at_id o s s words claimed_words k.hands
               (search (arith, rules, hand_at-shows, hand_now, free_i, fresh_i, now_set, not_i))
               (search (arith, rules, stays_set)) undropped_claimed;
-          unclaimed = search (arith, rules, cases_eq, fresh_i, k.unclaimed, bits);
+          unclaimed = search (arith, rules, cases_eq, fresh_i, k.unclaimed, kept);
           made = let a = made_with views id v taken at_id in let b = k.made in omega arith;
-          idle = λ b u a. grind (arith, common_steps, at_set views id b taken u a, bit-or_same, bit-zero i, k.idle b);
+          idle = λ b u a. grind (arith, common_steps, at_set views id b taken u a, bits.same, bits.of_zero i, k.idle b);
         }
 
   -- ## A claim that finds the input claimed
@@ -107,10 +107,9 @@ module _ (o : Orders) (words : List ℕ) (views : List View) (k : IsLedger o wor
     unfoldable pub refuse-keeps : IsLedger o words refused_views
     refuse-keeps =
         let claims = same_claims views id v refused_now at_id o words words refl refl in
-        let still = in_hand_still views id v refused_now at_id in
-        let made = made_with views id v refused_now at_id in
+        let still = in_hand_still views id v refused_now at_id in let made = made_with views id v refused_now at_id in
         dealt o words views refused_views k (offers_with o views id refused_now k.same (inl same_offers))
-        (claims (search (arith, rules, k.claims.seen, bit-or_other, cases_eq)) k.claims)
+        (claims (search (arith, rules, k.claims.seen, bits.other, cases_eq)) k.claims)
         (hands_from k.hands (search (rules, had)) (search (rules, still))) (omega arith) (search (rules, had, k.idle))
 
   -- ## A proposal
@@ -157,8 +156,7 @@ module _ (o : Orders) (words : List ℕ) (views : List View) (k : IsLedger o wor
 
     pub shown_now : (q : ℕ) → q < ports o → get_or words_now (suc q) 0 ≡ position_held t q
     shown_now q r =
-        let same = get_or-set_same words (suc j) in
-        let other = get_or-set_other words (suc j) (suc q) in
+        let same = get_or-set_same words (suc j) in let other = get_or-set_other words (suc j) (suc q) in
         grind (arith, cases_eq q j, same, other, k.positions q, st.held_other q, found_is, st.held_asked, j_in_range)
 
     -- another view's hand has another input
@@ -172,7 +170,7 @@ module _ (o : Orders) (words : List ℕ) (views : List View) (k : IsLedger o wor
         let m = hand-shows o k.offers s w i f q p (sym hand_is ∙ h) in
         let own = k.hands.claimed id i (next_place s i) v at_id in_hand in
         let claimed : bit (claim_word words) q ≡ 1 =
-        grind (arith, m.who, own, w.last q j, k.unclaimed q, bit-lt (claim_word words) q) in (
+        grind (arith, m.who, own, w.last q j, k.unclaimed q, bits.lt (claim_word words) q) in (
           (m.free, m.place_is, still_set q claimed),
           λ b r x a n g. ⊎_elim (other_hand b q r x n a g) ((k.hands.free b q r x a g).unheld j) m.who,
         )

@@ -1,11 +1,11 @@
 -- Making the first seat, a split and a join keep the rule, and are no event: the words stay, and what the seats have
 -- claimed, seen, made and in their hands is only dealt out anew.
 use Rattle.cq_ledger.proofs.Terms.{ℕ, zero, suc, ◌≡◌, ◌≢◌, ◌⊎◌, inl, inr, ◌+◌, ◌≤◌, List, [], ◌∷◌, ◌++◌, set, replicate, None, refl, sym, ◌∙◌, ap, arith, bit_or, rules, sum_by, cases_eq, length-replicate, get_or-replicate, sum_by_push, at_set, set_else, set_again, at_longer, at_snoc, Orders, AreOffers, ports, held-start, next_place-start, IsLedger, IsViewOf, blank, joined, spent, Sits, bit, View, common_steps, most_ports, AreClaims}
-use Rattle.cq_ledger.proofs.Views.{same_at, bit-zero, no_bits, bit-either, bit-left, bit-right, sits_now, made_with, hands_from, offers_with, dealt}
+use Rattle.cq_ledger.proofs.Views.{bits, same_at, sits_now, made_with, hands_from, offers_with, dealt}
 
 -- where no bit of either is set, no bit is
 neither : (a b : ℕ) → bit_or a b ≡ 0 → (a ≡ 0) × (b ≡ 0)
-neither a b e = (search (arith, rules, no_bits a, no_bits b, bit-left a b, bit-zero, bit-right a b))
+neither a b e = (search (arith, rules, bits.none a, bits.none b, bits.left a b, bits.of_zero, bits.right a b))
 
 pub only : (o : Orders) (x : View) (b : ℕ) (u : View) → Sits (x ∷ []) b u → x ≡ u
 only o x zero u e = mathlib.Core.Option.some-injective x u e
@@ -23,8 +23,8 @@ start-keeps o v few =
       size = ap suc (length-replicate (ports o) (ports o));
       same = λ b u a. inl (sym (ap (λ (y : View). y.offers) (only o (blank o) b u a)));
       positions = λ j l. get_or-replicate (ports o) j (ports o) 0 l ∙ sym (held-start o j l);
-      claims = grind (arith, common_steps, only o (blank o), bit-zero);
-      hands = grind (arith, common_steps, only o (blank o), bit-zero);
+      claims = grind (arith, common_steps, only o (blank o), bits.of_zero);
+      hands = grind (arith, common_steps, only o (blank o), bits.of_zero);
       unclaimed = λ q h. next_place-start o q;
       made = refl;
       idle = grind (arith, common_steps, only o (blank o));
@@ -37,16 +37,15 @@ module _ (o : Orders) (words : List ℕ) (views : List View) (k : IsLedger o wor
 
   -- a view that is not blank stood there before
   pub with_claim : (b q : ℕ) (u : View) → Sits longer b u → bit u.claims q ≡ 1 → Sits views b u
-  with_claim b q u a h = grind (arith, common_steps, at_snoc views (blank other) u b a, bit-zero q)
+  with_claim b q u a h = grind (arith, common_steps, at_snoc views (blank other) u b a, bits.of_zero q)
 
   unfoldable pub longer-keeps : IsLedger o words longer
   longer-keeps =
-      let at = at_snoc views (blank other) in
+      let at = at_snoc views (blank other) in let made = sum_by_push (λ (y : View). y.made) views (blank other) in
       let claims : AreClaims o words longer =
-      search (arith, rules, with_claim, at_longer, k.claims.by_one, k.claims.apart, at, bit-zero, k.claims.seen) in
+      search (arith, rules, with_claim, at_longer, k.claims.by_one, k.claims.apart, at, bits.of_zero, k.claims.seen) in
       dealt o words views longer k (search (rules, at, k.same)) claims
-      (hands_from k.hands (search (arith, rules, at)) (search (rules, at_longer)))
-      (let a = sum_by_push (λ (y : View). y.made) views (blank other) in omega arith)
+      (hands_from k.hands (search (arith, rules, at)) (search (rules, at_longer))) (omega arith)
       (search (arith, rules, at, k.idle))
 
 -- a seat's half has the seat's offers
@@ -91,7 +90,7 @@ module _ (o : Orders) (words : List ℕ) (views : List View) (k : IsLedger o wor
     pub home : Home b at
 
   pub claimed_by : (b q : ℕ) (u : View) → Kind b u → bit u.claims q ≡ 1 → Claimed b q
-  claimed_by b q u m h = search (arith, rules, bit-zero, bit-either)
+  claimed_by b q u m h = search (arith, rules, bits.of_zero, bits.either)
 
   pub idle_now : (b : ℕ) (u : View) → Kind b u → u.claims ≡ 0 → (u.hand ≡ None) × (u.made ≡ 0)
   idle_now b u m h = search (arith, rules, neither, k.idle id v at_id)
@@ -102,7 +101,7 @@ module _ (o : Orders) (words : List ℕ) (views : List View) (k : IsLedger o wor
   pub by_one_now : (q : ℕ) → (a : ℕ) × (u : View) × Sits views a u × (bit u.claims q ≡ 1) →
       (a : ℕ) × (u : View) × Sits whole a u × (bit u.claims q ≡ 1)
   by_one_now q x =
-      search (rules, cases_eq x.0 id, cases_eq x.0 gone, same_at, here, bit-left, bit-right, still_there)
+      search (rules, cases_eq x.0 id, cases_eq x.0 gone, same_at, here, bits.left, bits.right, still_there)
 
   pub made_now : sum_by (λ (y : View). y.made) whole ≡ sum_by (λ (y : View). y.made) views
   made_now = search (arith, rules, made_with, set_else)
@@ -118,7 +117,7 @@ module _ (o : Orders) (words : List ℕ) (views : List View) (k : IsLedger o wor
             let m = claimed_by b q x (kind b x ax) hx in
             let n = claimed_by c q y (kind c y ay) hy in search (rules, k.claims.apart, same_home);
         in_range = k.claims.in_range;
-        seen = λ b q u a. grind (arith, common_steps, kind b u a, bit-zero, bit-either v.seen w.seen q, k.claims.seen);
+        seen = λ b q u a. grind (arith, common_steps, kind b u a, bits.of_zero, bits.either, k.claims.seen);
       })
       (hands_from k.hands (λ b q p u a h. let m = kind b u a in (u, grind (arith, common_steps, m), h))
       (λ q z. grind (arith, common_steps, same_at views id v, same_at views gone w, still_there)))

@@ -1,6 +1,6 @@
 use Rattle.cq_ledger.proofs.Terms.{rules, ◌≡◌, ◌∙◌, ap, arith, sym, ports, claim_taken, hand_at}
 use Rattle.cq_ledger.proofs.Allowed.{claim-allowed-at, matched, taken-seat}
-use Rattle.cq_ledger.proofs.Views.{bit-lt}
+use Rattle.cq_ledger.proofs.Views.{bits}
 use Rattle.cq_ledger.proofs.ledger.Ledger.claim.Goals as goal
 use Rattle.cq_ledger.proofs.ledger.Ledger.claim.Goals.{Else-has_bit}
 
@@ -17,7 +17,7 @@ fetch_or-found-requires c =
 -- the step found the input unclaimed
 taken : (c : Else-has_bit) → c.fetch_or-found.new.seat.me
     ≡ (claim_taken c.seat.inside.seat.me.0 c.args.input, c.seat.inside.seat.me.1)
-taken c = search (arith, rules, bit-lt)
+taken c = search (arith, rules, bits.lt)
 
 pub invariant_of-seat-2 : goal.invariant_of-seat-2
 invariant_of-seat-2 c =
