@@ -1,8 +1,8 @@
 -- What claims, proposals and joins do to what a seat has claimed and seen: nothing of it is ever lost.
-use Rattle.cq_crew.proofs.Terms.{common_steps, rules, ℕ, ◌≡◌, ◌+◌, ◌-◌, ◌*◌, ◌<◌, Option, Some, None, refl, ap, arith, IsSome, option_map, cases_lt, cases_eq, ports, IsFew, LedgerState, SeatState, IsSeatOf, IsProposed, HasClaimed, HasTried, HaveTried, ProposesFor, Grows, IsIdleAfter, HasWorked}
+use Rattle.cq_crew.proofs.Terms.{common_steps, rules, ℕ, ◌≡◌, ◌+◌, ◌-◌, ◌*◌, ◌<◌, Option, Some, None, refl, arith, IsSome, option_map, cases_lt, cases_eq, ports, IsFew, LedgerState, SeatState, IsSeatOf, IsProposed, HasClaimed, HasTried, HaveTried, ProposesFor, Grows, IsIdleAfter, HasWorked}
 use Rattle.cq_prefs.specs.declared.outcome.Outcome.{Outcome}
 use Rattle.cq_ledger.specs.declared.view.View.{View}
-use Rattle.cq_ledger.specs.Steps.{claim_refused, claim_taken, first_tried, joined}
+use Rattle.cq_ledger.specs.Steps.{claim_refused, claim_taken, joined}
 use Rattle.cq_ledger.proofs.Views.{bits}
 
 -- ## Views that grow
@@ -26,8 +26,7 @@ tried-grown v w g i h = search (rules, g.claims, g.seen)
 
 -- the first input, and then those after it
 pub tried-first : (v w : View) (k : ℕ) → Grows v w → HasTried v k → (n : ℕ) → HaveTried w (k + 1) n → HaveTried w k n
-tried-first v w k g here n above i low high =
-    let first = tried-grown v w g k here in grind (arith, common_steps, cases_eq, above)
+tried-first v w k g here n above i low high = grind (arith, common_steps, cases_eq, above, tried-grown v w)
 
 -- one input more
 pub tried-next : (v w : View) (k n : ℕ) → Grows v w → HaveTried v k n → HasTried w n → HaveTried w k (n + 1)
@@ -57,16 +56,6 @@ idle-joined l v w s t a of is = search (arith, rules, grows-after v s.view t.vie
 
 pub tried-joined : (v w x : View) (n : ℕ) → x ≡ joined v w → HaveTried v 0 n → HaveTried x 0 n
 tried-joined v w x n is tried i low high = search (arith, rules, tried-grown v (joined v w), grows-joined v w)
-
--- ## The worker's own number
-
--- one input more was tried by a worker that has begun
-pub begun-still : (v : View) (worker i : ℕ) → v.began ≡ Some worker → first_tried v.began i ≡ Some worker
-begun-still v worker i is = ap (λ (o : Option ℕ). first_tried o i) is
-
--- the first input that a worker tries is that of its number
-pub begun-first : (v : View) (worker : ℕ) → v.began ≡ None → first_tried v.began worker ≡ Some worker
-begun-first v worker is = ap (λ (o : Option ℕ). first_tried o worker) is
 
 -- ## A whole work
 
@@ -112,3 +101,5 @@ proposes-next u v w answer before some is = go v.hand refl some
 pub proposals-left : (l : LedgerState) (s t : SeatState) → IsSeatOf l t → t.view.made ≡ s.view.made + 1 →
     IsFew t.view → ports l.offers * ports l.offers - t.view.made < ports l.offers * ports l.offers - s.view.made
 proposals-left l s t of made few = search (arith, rules)
+
+pub ruleset work_steps = (claimed-next, grows-same, idle-after, tried-next, tried-first, worked)

@@ -49,6 +49,7 @@ pub fn pair_phase<R: Threads + Sync, G: Gate>(
 /// The matching of a phase by one thread, found in a core that is kept from phase to phase. It is the one that
 /// `pair_phase` finds, with as many proposals, for a caller that has no second worker. Whatever the core came to before
 /// changes nothing of it, and then no input in it is free.
+#[tactic(auto, using(crate::proofs::Phases::best_steps))]
 pub fn settle_kept(offers: &Offers, core: &mut Core)
     ensures best { IsBestAfter offers.now core.new.made core.new.matching }
     ensures reached { IsReached offers.now core.new }
@@ -99,6 +100,7 @@ fn settle_shared<R: Threads + Sync, G: Gate>(
 }
 
 // Whether a seat has claimed every port.
+#[tactic(auto, using(crate::proofs::Working::work_steps))]
 fn has_claimed_all(seat: &LedgerSeat, inputs: u16) -> bool
     requires { inputs ≡ ports seat.now.view.offers }
     ensures { IsTrue result ↔ HasClaimedAll seat.now }

@@ -11,6 +11,7 @@ use cq_ledger::{Ledger, LedgerSeat};
 
 /// Tries to claim every input, its own number first and then upwards and around, and after each claim that
 /// succeeds proposes until the hand is empty.
+#[tactic(auto, using(crate::proofs::Working::work_steps))]
 pub(crate) fn work<G: Gate>(
     ledger: &Ledger,
     mut seat: LedgerSeat,
@@ -28,6 +29,7 @@ pub(crate) fn work<G: Gate>(
 }
 
 // Tries to claim the inputs from one number up to another, for a worker that has begun.
+#[tactic(auto, using(crate::proofs::Working::work_steps))]
 fn claim_between<G: Gate>(
     ledger: &Ledger,
     seat: &mut LedgerSeat,
