@@ -4,10 +4,10 @@
 -- The steps of one proposal put together: the input goes on to its next place, whom the output held is parted, and
 -- the output takes the input. What is then shown is the state after the event, with its pairs, its free inputs and
 -- its count.
-use Rattle.cq_pair.proofs.Terms.{common_steps, rules, ℕ, ◌≡◌, ◌≢◌, ◌+◌, ◌<◌, ◌≤◌, ◌∷◌, mul-le-mul, List, length, get_or, set, Option, Some, None, refl, sym, ◌∙◌, arith, cases_lt, lt-ltb, eq-eqb, ne_eqb, get_or-set_other, length-set, Orders, ports, inputs_of, position_of, partner_of, IsFreeInput, State, position_held, Holds, IsSound, next_output, holder, propose, answer_of, outcome_of, matching_of, input_in_range, inputs_at_most, events_at_most, holder-holds, matching-of, partner-free, partner-from, Progress, IsReached, IsAsk, MovesOn, Parts, CanTake, Takes, most_ports, same_Some, held_once, cases_eq, get_or-set_same, set-get_or, AreOffers, Partners, next_place, IsFree, same_at_place, output_in_range, IsStep, step, sound-step, matching_of-is, partner-holds}
+use Rattle.cq_pair.proofs.Terms.{common_steps, rules, ℕ, ◌≡◌, ◌≢◌, ◌+◌, ◌<◌, ◌≤◌, ◌∷◌, mul-le-mul, List, length, get_or, set, Option, Some, None, refl, sym, ◌∙◌, arith, cases_lt, lt-ltb, eq-eqb, ne_eqb, get_or-set_other, length-set, Orders, ports, inputs_of, position_of, partner_of, IsFreeInput, State, position_held, Holds, IsSound, next_output, holder, propose, answer_of, outcome_of, matching_of, input_in_range, inputs_at_most, next_output-offered, events_at_most, holder-holds, matching-of, partner-free, partner-from, Progress, IsReached, IsAsk, MovesOn, Parts, CanTake, Takes, most_ports, same_Some, held_once, cases_eq, get_or-set_same, set-get_or, AreOffers, Partners, next_place, IsFree, same_at_place, output_in_range, IsStep, step, sound-step, matching_of-is, partner-holds}
 use Rattle.cq_prefs.specs.declared.outcome.Outcome.{Outcome}
 use Rattle.cq_prefs.specs.declared.outcome.Outcome.TheVariants.{Held, Displaced, Rejected}
-use Rattle.cq_pair.proofs.Reached.{sound-reached, free_known, asked_known, asked_offered, reached-step}
+use Rattle.cq_pair.proofs.Reached.{sound-reached, free_known, asked_known, reached-step}
 
 -- a proposal that is refused changes no position that is held
 pub state-refused : (o : Orders) (s : State) (i : ℕ) →
@@ -112,7 +112,7 @@ module _ {o : Orders} {c : Progress} {i j h : ℕ} {ahead : Option ℕ} (a : IsA
   pub output_known : j < ports o
   output_known = rw a.output next_known
 
-  ruleset known = (input_known, output_known, sound)
+  ruleset known = (input_known, output_known, sound, next_output-offered)
 
   -- whether the output prefers the input to the one that it holds
   less : {p : ℕ} → ahead ≡ Some p →
@@ -144,7 +144,7 @@ module _ {o : Orders} {c : Progress} {i j h : ℕ} {ahead : Option ℕ} (a : IsA
     pub rejected : ahead ≡ None → Proposed o c d i Rejected
     unfolding answer_of
     rejected none =
-        search (rules, sound, inputs_at_most, asked_offered, state-refused, reached-step, matching-refused, not_less)
+        search (rules, known, inputs_at_most, state-refused, reached-step, matching-refused, not_less)
 
     -- the output takes the input
     taken : {p : ℕ} → ahead ≡ Some p → {e f : Progress} → e.state ≡ d.state → Takes o e f i j p →

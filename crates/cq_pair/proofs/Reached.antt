@@ -1,13 +1,9 @@
 -- What is reached by proposals. At the beginning the inputs that wait are those with an offer. Whoever stands in the
 -- list of free inputs is free, and where the list is empty nobody is, so what is held is the matching best for the
 -- inputs.
-use Rattle.cq_pair.proofs.Terms.{rules, ℕ, ◌≡◌, ◌+◌, ◌*◌, ◌<◌, ◌≤◌, List, [], ◌∷◌, Option, None, length, get_or, replicate, ◌∙◌, ap, arith, common_steps, range_with_len, length-replicate, filter_passes, Orders, AreOffers, ports, IsOffered, IsInputBest, proposals, start, IsFree, IsQuiescent, IsSound, is_free, free_inputs, next_output, propose, matching_of, input_in_range, output_in_range, inputs_at_most, sound-start, sound-after, held-start, next_output-offered, nobody, free_if, free_only_if, matching-of, matching_of-is, events_at_most, events-quiet, Progress, IsReached, ShowsWaiting, has_number, has_kept}
+use Rattle.cq_pair.proofs.Terms.{rules, ℕ, ◌≡◌, ◌+◌, ◌*◌, ◌<◌, ◌≤◌, List, [], ◌∷◌, Option, None, length, get_or, replicate, ◌∙◌, ap, arith, common_steps, range_with_len, length-replicate, filter_passes, Orders, AreOffers, ports, IsInputBest, proposals, start, IsFree, IsQuiescent, IsSound, is_free, free_inputs, next_output, propose, matching_of, input_in_range, output_in_range, inputs_at_most, sound-start, sound-after, held-start, next_output-offered, nobody, free_if, free_only_if, matching-of, matching_of-is, events_at_most, events-quiet, Progress, IsReached, ShowsWaiting, has_number, has_kept}
 use Rattle.cq_prefs.proofs.Quiet.{input_best-quiet}
 use Rattle.cq_pair.proofs.Waiting.{waiting-free, waiting-first}
-
-pub asked_offered : (o : Orders) → AreOffers o → (c : Progress) → (i : ℕ) → IsFree o c.state i →
-    IsOffered o i (next_output o c.state i)
-asked_offered o v c i f = next_output-offered o v c.state i f.left
 
 module _ (o : Orders) (v : AreOffers o) (c : Progress) (r : IsReached o c) where
   pub sound-reached : IsSound o c.state
@@ -15,10 +11,10 @@ module _ (o : Orders) (v : AreOffers o) (c : Progress) (r : IsReached o c) where
 
   -- the numbers of ports
   pub free_known : (i : ℕ) → IsFree o c.state i → i < ports o
-  free_known i f = input_in_range o i _ (asked_offered o v c i f)
+  free_known i f = input_in_range o i _ (next_output-offered o v c.state i f.left)
 
   pub asked_known : (i : ℕ) → IsFree o c.state i → next_output o c.state i < ports o
-  asked_known i f = output_in_range o v i _ (asked_offered o v c i f)
+  asked_known i f = output_in_range o v i _ (next_output-offered o v c.state i f.left)
 
   pub places_known : length c.state.places ≡ ports o
   places_known = sound-reached.inputs
@@ -79,6 +75,6 @@ reached-step o v c d i r f state matching waiting made =
 pub size_reached : (o : Orders) (c : Progress) → AreOffers o → IsReached o c → length c.matching ≡ ports o
 size_reached o c v r = ap length r.matching ∙ (matching-of o v c.state).size
 
-pub ruleset asked_steps = (inputs_at_most, asked_offered, asked_known, free_known, places_known, sound-reached)
+pub ruleset asked_steps = (inputs_at_most, next_output-offered, asked_known, free_known, places_known, sound-reached)
 
 pub ruleset begin_steps = (start-shown, reached-begin, waiting-first)
