@@ -95,7 +95,9 @@ pub record AreSummed (blocks : List (List ℕ)) (offset : ℕ) (sums : List SumV
   pub fits : length (concat blocks) < 2 ^ 64
 
 -- the block at which the run of a place begins, and how many places stand ahead of this run
-pub record IsStart (blocks : List (List ℕ)) (place begin ahead : ℕ) : Type 0 where
-  pub counted : ahead ≡ length (concat (take begin blocks))
+pub record IsStart (v : BlocksView) (place begin ahead : ℕ) : Type 0 where
+  pub run : ℕ
+  pub begins : begin ≡ begin_of v.offset run
+  pub counted : ahead ≡ length (concat (take begin v.blocks))
   pub late : ahead ≤ place
-  pub early : place < length (concat blocks)
+  pub early : place < length (concat (take (begin_of v.offset (run + 1)) v.blocks))

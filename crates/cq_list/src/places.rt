@@ -75,7 +75,7 @@ struct Start {
 // Where the run of a place starts, from the first run on.
 fn start_from_first(blocks: &SummedBlocks, place: usize) -> Start
     requires { place < length (concat blocks.now.blocks) }
-    ensures { IsStart blocks.now.blocks place result.begin result.ahead }
+    ensures { IsStart blocks.now place result.begin result.ahead }
 {
     let mut left = place;
     let sums = blocks.sums();
@@ -96,7 +96,7 @@ fn start_from_first(blocks: &SummedBlocks, place: usize) -> Start
 fn start_from_last(blocks: &SummedBlocks, place: usize, len: usize) -> Start
     requires inside { place < len }
     requires len { len ≡ length (concat blocks.now.blocks) }
-    ensures { IsStart blocks.now.blocks place result.begin result.ahead }
+    ensures { IsStart blocks.now place result.begin result.ahead }
 {
     let mut ahead = len;
     let sums = blocks.sums();
@@ -115,7 +115,7 @@ fn start_from_last(blocks: &SummedBlocks, place: usize, len: usize) -> Start
 
 // Where a place stands in its run.
 fn spot_in(blocks: &SummedBlocks, place: usize, start: Start) -> Spot
-    requires { IsStart blocks.now.blocks place start.begin start.ahead }
+    requires { IsStart blocks.now place start.begin start.ahead }
     ensures { IsSpot blocks.now.blocks place result.block result.within }
 {
     let mut within = place - start.ahead;
