@@ -4,7 +4,7 @@
 -- is done: the first run is short of one more or less. Else a block goes over at each border of two runs behind it:
 -- this border moves by one block, and the others stay.
 use Rattle.cq_list.specs.Sums.{AreRuns, ArePassing, AreOpen, AreSums, AreSummed, AreTaking, BlocksView, HasLess, HasMore, HasRoom, HasThese, IsBetween, IsExchanged, SumView, begin_of, own_in, run_blocks}
-use Rattle.cq_list.proofs.Sums.{IsAdded, IsChanged, ahead, ahead_next, all_ahead, block_came, block_set, block_went, count_added, length_added, one_between}
+use Rattle.cq_list.proofs.Sums.{HasBoth, IsAdded, IsChanged, ahead, ahead_next, all_ahead, block_came, block_set, block_went, count_added, length_added, one_between}
 use Rattle.cq_list.proofs.Terms.{get_or_read, get_or-set_other, get_or-set_same, length-set, length-insert, length-remove, take_all, cases_eq, cases_lt, common_steps, rules, ◌≡◌, ◌≢◌, ℕ, ◌+◌, ◌-◌, ◌*◌, ◌/◌, ◌^◌, ◌⊎◌, ◌<◌, ◌≤◌, List, [], ◌++◌, length, get_or, set, take, drop, insert, remove, concat, refl, ap, ◌∙◌, arith, count_of, ⊎_elim}
 
 -- ## One sum
@@ -238,13 +238,13 @@ module _ {blocks : List (List ℕ)} {offset capacity : ℕ} {sums : List SumView
     set_changed : (new : List ℕ) → IsChanged i 1 1 block new blocks (set blocks i new)
     set_changed new = block_set blocks i block inside block_is new
 
-    pub sum_has : {s : SumView} {some : List ℕ} → s ≡ get_or sums ((i + offset) / 32) s →
-        ((m : List ℕ → ℕ) → IsAdded m → m some ≤ m block) → HasThese s some
-    sum_has first few = these (read_sum had.runs there first) (λ m added.
+    pub sum_has : {s : SumView} {rest some : List ℕ} → s ≡ get_or sums ((i + offset) / 32) s →
+        HasBoth block rest some → HasThese s some
+    sum_has first both = these (read_sum had.runs there first) (λ m added.
         let run : ℕ = (i + offset) / 32 in
         let one = one_between m added blocks (begin_of offset run) i (begin_of offset (run + 1)) block (omega arith)
         (omega arith) inside block_is in
-        omega (arith, few m added))
+        omega (arith, both.each m added))
 
     summed_set : {new : List ℕ} {s t : SumView} → s ≡ get_or sums ((i + offset) / 32) s →
         IsExchanged block new s t → length (concat blocks) + length new < 2 ^ 64 + length block →
@@ -261,23 +261,21 @@ module _ {blocks : List (List ℕ)} {offset capacity : ℕ} {sums : List SumView
           fits = omega arith;
         }
 
-    pub summed_more : (new more : List ℕ) {s t : SumView} →
-        ((m : List ℕ → ℕ) → IsAdded m → m new ≡ m block + m more) → s ≡ get_or sums ((i + offset) / 32) s →
-        HasMore s t more → length (concat view.blocks) + length more < 2 ^ 64 →
+    pub summed_more : {new more : List ℕ} {s t : SumView} → HasBoth new block more →
+        s ≡ get_or sums ((i + offset) / 32) s → HasMore s t more →
+        length (concat view.blocks) + length more < 2 ^ 64 →
         AreSummed (set blocks i new) offset (set sums ((i + offset) / 32) t)
-    summed_more new more put first has fits =
-        let long = put length length_added in
+    summed_more put first has fits =
+        let long = put.each length length_added in
         let seen = ap (λ (l : List (List ℕ)). length (concat l)) seen in
-        summed_set first (exchanged has (λ m added. let e = put m added in omega (arith, added.few [])))
-        (omega arith)
+        summed_set first (exchanged has (λ m added. omega (arith, put.each m added, added.few []))) (omega arith)
 
-    pub summed_less : (new less : List ℕ) {s t : SumView} →
-        ((m : List ℕ → ℕ) → IsAdded m → m new + m less ≡ m block) → s ≡ get_or sums ((i + offset) / 32) s →
-        HasLess s t less → AreSummed (set blocks i new) offset (set sums ((i + offset) / 32) t)
-    summed_less new less out first has =
-        let long = out length length_added in
-        summed_set first (exchanged has (λ m added. let e = out m added in omega (arith, added.few [])))
-        (omega arith)
+    pub summed_less : {new less : List ℕ} {s t : SumView} → HasBoth block new less →
+        s ≡ get_or sums ((i + offset) / 32) s → HasLess s t less →
+        AreSummed (set blocks i new) offset (set sums ((i + offset) / 32) t)
+    summed_less out first has =
+        let long = out.each length length_added in
+        summed_set first (exchanged has (λ m added. omega (arith, out.each m added, added.few []))) (omega arith)
 
     module _ (front back : List ℕ) (whole : block ≡ front ++ back) where
       pub split_fits : length (concat (set blocks i front)) + length back < 2 ^ 64

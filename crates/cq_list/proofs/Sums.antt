@@ -63,6 +63,20 @@ module _ (m : List ℕ → ℕ) (added : IsAdded m) where
   taken_from (y ∷ xs) (suc i) x at =
       omega (arith, added.both (y ∷ []) xs, added.both (y ∷ []) (remove xs i), taken_from xs i x at)
 
+-- these places are some and more: so what is added up along them
+pub record HasBoth (whole some more : List ℕ) : Type 0 where
+  pub each : (m : List ℕ → ℕ) → IsAdded m → m whole ≡ m some + m more
+
+pub both_put : {xs new : List ℕ} (i : ℕ) {x : ℕ} → new ≡ insert xs i x → HasBoth new xs (x ∷ [])
+both_put {xs} i {x} is = rw is (record { each = λ m added. put_into m added xs i x })
+
+pub both_left : {xs left : List ℕ} (i : ℕ) {x : ℕ} → slice_get xs i ≡ Some x → left ≡ remove xs i →
+    HasBoth xs left (x ∷ [])
+both_left {xs} i {x} at is = rw is (record { each = λ m added. sym (taken_from m added xs i x at) })
+
+pub both_parts : {whole xs ys : List ℕ} → whole ≡ xs ++ ys → HasBoth whole xs ys
+both_parts {xs = xs} {ys} is = rw is (record { each = λ m added. added.both xs ys })
+
 -- ## Blocks in place of others
 
 -- at block p so many blocks with these places are gone, and so many with those stand there

@@ -1,4 +1,5 @@
 use Rattle.cq_list.proofs.Terms.{arith, rules}
+use Rattle.cq_list.proofs.Sums.{both_parts}
 use Rattle.cq_list.proofs.Runs.{sum_room, summed_more}
 use Rattle.cq_list.proofs.summed_blocks.SummedBlocks.append.Goals as goal
 
@@ -6,7 +7,4 @@ pub add-requires : goal.add-requires
 add-requires c = search (arith, rules, sum_room)
 
 pub invariant_of-self : goal.invariant_of-self
-invariant_of-self c =
-    rw c.append.ensures (summed_more c.self.invariant c.self.view_is c.requires.inside c.index_mut-2.ensures.value _ _
-    (λ m added. added.both c.index_mut-2.result.now c.args.more.now) c.index_mut.ensures.value c.add.ensures
-    c.requires.fits)
+invariant_of-self c = search (arith, rules, summed_more, both_parts)

@@ -1,5 +1,5 @@
-use Rattle.cq_list.proofs.Terms.{rules, arith, get_or, ◌≡◌}
-use Rattle.cq_list.proofs.Sums.{length_went}
+use Rattle.cq_list.proofs.Terms.{rules, arith, [], get_or, refl, ◌≡◌}
+use Rattle.cq_list.proofs.Sums.{both_parts, length_went}
 use Rattle.cq_list.proofs.Runs.{sum_has, went_first, went_taking}
 use Rattle.cq_list.proofs.summed_blocks.SummedBlocks.remove.Goals as goal
 
@@ -7,7 +7,7 @@ pub subtract-requires : goal.subtract-requires
 subtract-requires c =
     let read : c.unwrap-gone.result ≡ get_or c.self.inside.blocks.items c.args.place c.unwrap-gone.result =
     search (arith, rules) in
-    sum_has c.self.invariant c.self.view_is c.requires read c.index_mut.ensures.value (λ m added. omega arith)
+    sum_has c.self.invariant c.self.view_is c.requires read c.index_mut.ensures.value (both_parts {xs = []} refl)
 
 pub close_first-self-inside-requires-clause-sums : goal.close_first-self-inside-requires-clause-sums
 close_first-self-inside-requires-clause-sums c = search (arith, rules, went_first)
