@@ -2,7 +2,7 @@
 -- the block behind a block is what stands ahead of it, and its own: what is counted grows by a block's numbers, or a
 -- sum's.
 use Rattle.cq_list.specs.Sums.{AreSums, SumView, begin_of, own_in}
-use Rattle.cq_list.proofs.Terms.{take-append-add, rules, ◌≡◌, ℕ, ◌+◌, ◌-◌, ◌<◌, ◌≤◌, Bool, List, [], ◌++◌, length, get_or, take, drop, arith, length-append, take-append-drop, common_steps, filter, concat, take-append-le, drop_more, append-nil, filter-append, concat-append, place_of_nth, is_output, count_of, most_ports, IsSpot, IsAhead}
+use Rattle.cq_list.proofs.Terms.{take-append-add, rules, ◌≡◌, ℕ, ◌+◌, ◌-◌, ◌<◌, ◌≤◌, Bool, List, [], ◌++◌, length, get_or, take, drop, arith, length-append, take-append-drop, common_steps, filter, concat, take-append-le, drop_more, append-nil, filter-append, concat-append, place_of_nth, is_output, count_of, most_ports, IsSpot, IsAhead, few_kept, length-take, take_all}
 use Rattle.cq_list.proofs.Nth.{nth_inside, nth_in_front, nth_behind}
 use Rattle.cq_list.proofs.Sums.{ahead_next, all_ahead, count_added, length_added}
 use Rattle.cq_list.proofs.Runs.{read_sum}
@@ -56,3 +56,6 @@ module _ {blocks : List (List ℕ)} (offset : ℕ) {sums : List SumView} (had : 
   pub run_on : {places own : ℕ} → IsAhead blocks j (begin_of offset run) places own →
       IsAhead blocks j (begin_of offset (run + 1)) (places + sum.places) (own + own_in sum j)
   run_on ahead = let own = read_sum had inside read in let count = own.counts j known in search (arith, rules, own)
+
+-- what counts the places of blocks
+pub ruleset count_steps = (count_within, ahead_next, length_added, count_added, few_kept, length-take, take_all)

@@ -3,6 +3,7 @@
 -- the new places and the new pool stand for follows.
 use Rattle.cq_list.proofs.Terms.{◌+◌, all_insert, all_left, each_pair_left, keys_differ_insert, keeps_order_arrival, common_steps, rules, ◌≡◌, ℕ, ◌<◌, eqb, Bool, cond, List, [], ◌++◌, length, set, take, drop, min, None, Some, sym, ap, ◌∙◌, subst, arith, length-set, get_or-set_same, get_or-set_other, ⊎_elim, length-map, get_or_past, ◌&&◌, slice_get, remove, insert, position, position_or_len, cond_both, eqb-true, eqb-false, ltb-true, lt-ltb, cases_lt, slice_get-map, slice_get_within, slice_get_cases, find_at, Queued, is_before, HasOtherKey, MoreUrgentAhead, is_for, first_for, without_first, put, place_of_arrival, with_arrival, HaveTold, IsSplit, is_output, place_of_nth, count_of, PlacesView, PoolView, queue_of, Waiting, AreWaiting, StandFor, cells_in, all_filter, position_or_len-map}
 use Rattle.cq_list.proofs.Split.{merged_queues, split_arrived, split_left, both_is_nth, first-is-head, length-filter-map, cell_at}
+use Rattle.cq_list.proofs.Nth.{nth_is_first}
 
 -- an output with a cell is one of them
 pub queue_inside : (queues : List (List Queued)) (j : ℕ) (x : Queued) → slice_get (queue_of queues j) 0 ≡ Some x →
@@ -123,3 +124,6 @@ module _ {outputs : ℕ} {places : PlacesView} {pool : PoolView} {w : Waiting}
       (seen.0, rw own (cell_at places.outputs (queue_of pool.queues) w.cells i seen.0 had.split seen.2), seen.2))
       (λ past. absurd (omega (arith, slice_get_within places.outputs i j at, as_many)))
       (slice_get_cases w.cells i).1
+
+-- the first cell for an output, and its place
+pub ruleset first_steps = (position-none, position-some, counted, queue_inside, some_places, nth_is_first)

@@ -3,6 +3,7 @@
 -- stands at the lesser of the two places. In the end these are the cells for all outputs.
 use Rattle.cq_list.proofs.Terms.{common_steps, rules, ◌≡◌, ◌≢◌, ℕ, ◌+◌, ◌<◌, ◌≤◌, ltb, min, Bool, List, [], ◌∷◌, length, Some, None, refl, arith, ◌&&◌, ◌||◌, position, AllByRecursion, position_or_len, lt-ltb, le-ltb, nat_tests, Queued, is_for, has_id, first_later, first_inside}
 use Rattle.cq_base.specs.declared.cell.CellId.{CellId}
+use Rattle.cq_list.proofs.Kept.{had, as_many}
 
 -- whether it is for one of the first so many outputs, and has the id
 abbrev pub is_below : CellId → ℕ → Queued → Bool
@@ -39,3 +40,6 @@ module _ (id : CellId) (n outputs place : ℕ) (xs : List Queued)
 
   pub found_nowhere : place ≡ len → None ≡ position (has_id id) xs
   found_nowhere end = grind (arith, common_steps, least_of_all, le-ltb)
+
+-- from one output to the next
+pub ruleset least_steps = (least_starts, least_next, found_at, found_nowhere, had, as_many)

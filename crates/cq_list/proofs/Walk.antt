@@ -1,6 +1,6 @@
 -- A walk along a queue, node by node. Where it has come the rest of the chain begins at the place that it looks at,
 -- none of the cells behind it is less urgent, and it knows the place of the last of them.
-use Rattle.cq_list.proofs.Terms.{common_steps, rules, ◌≡◌, ℕ, zero, suc, ◌+◌, ◌-◌, ◌<◌, ◌≤◌, length, cases_lt, Bool, true, false, List, ◌∷◌, drop, Some, sym, ap, ◌∙◌, arith, length-drop, slice_get, slice_get-get_or, position_or_len, drop-drop, drop_more, length-map, slice_get-map, slice_get_within, get_or_from_slice_get, Queued, first_inside, Node, Queue, Nodes, chain, linked, cells, EndsAt, IsChained, first_le, places, same_Some, Key, is_before, key_laws}
+use Rattle.cq_list.proofs.Terms.{common_steps, rules, ◌≡◌, ℕ, zero, suc, ◌+◌, ◌-◌, ◌<◌, ◌≤◌, length, cases_lt, Bool, true, false, List, ◌∷◌, drop, Some, sym, ap, ◌∙◌, arith, length-drop, slice_get, slice_get-get_or, position_or_len, drop-drop, drop_more, length-map, slice_get-map, slice_get_within, get_or_from_slice_get, Queued, first_inside, Node, Queue, Nodes, chain, linked, cells, EndsAt, IsChained, first_le, places, same_Some, Key, is_before, key_laws, and_assoc}
 use Rattle.std.proofs.lemmas.List.Sums.{passes_at_first}
 use Rattle.cq_list.proofs.Chain.{chain-at, begins}
 use Rattle.cq_list.proofs.Finger.{ends_inside}
@@ -132,3 +132,9 @@ module _ {nodes : Nodes} {queue : Queue} (had : IsChained nodes queue) where
           count - 1 ≡ position_or_len (is_no_sooner key) (cells (linked nodes queue))
       all_but_last key own =
           search (arith, rules, sooner_to, key_laws.never_itself, cell_ahead, first_le, is_no_sooner)
+
+-- from node to node
+pub ruleset walk_steps = (node_there, reached_next, cell_shown)
+
+-- a search from the first node on
+pub ruleset search_steps = (node_there, reached_first, search_ends, search_on, searched_all, and_assoc)

@@ -152,6 +152,7 @@ impl Block {
     }
 
     /// Takes the last 32 places of a full block out, into a block of their own.
+    #[tactic(auto, using(crate::proofs::Counts::moved_over))]
     pub fn split_off(&mut self) -> Block
         requires { length self.old ≡ most_places }
         ensures whole { self.old ≡ self.new ++ result }

@@ -65,6 +65,7 @@ fn tell<'a>(cells: &mut Vec<Queued>, heads: &mut Heads<'a>, places: &[Port]) -> 
 
 impl InputList {
     /// No cell waits, and there is room for so many cells. The error is want of memory.
+    #[tactic(auto, using(crate::proofs::Queues::same_at))]
     pub fn new(alloc: Global, outputs: u16, room: u64) -> Result<InputList, NoMemory>
         requires { outputs ≤ most_ports }
         ensures cells { IfOk result (λ list. list.cells ≡ []) }
@@ -100,6 +101,7 @@ impl InputList {
     }
 
     /// The first cell for an output, or None where none waits for it.
+    #[tactic(auto, using(crate::proofs::Kept::first_is))]
     pub fn front_for(&self, output: Port) -> Option<Queued>
         ensures { result ≡ first_for output self.now.cells }
     {
@@ -124,6 +126,7 @@ impl InputList {
     }
 
     /// The place of the first cell for an output, or None where none waits for it.
+    #[tactic(auto, using(crate::proofs::Kept::first_steps))]
     pub fn place_for(&self, output: Port) -> Option<u64>
         ensures { result ≡ position (is_for output) self.now.cells }
     {
@@ -138,6 +141,7 @@ impl InputList {
 
     /// How many cells stand ahead of the cell with this id, or None where no cell has it. Where several have
     /// it, this is the place of the first.
+    #[tactic(auto, using(crate::proofs::Least::least_steps))]
     pub fn thread_of(&self, id: CellId) -> Option<u64>
         ensures { result ≡ position (has_id id) self.now.cells }
     {

@@ -184,6 +184,7 @@ fn without_run(sum: &Sum, output: Port, ahead: Ahead) -> Ahead
 }
 
 // The place of an output that has so many of its places ahead, and where it stands, in the block that has it.
+#[tactic(auto, using(crate::proofs::Nth::nth_inside))]
 fn nth_in(places: &Block, block: usize, output: Port, number: usize, ahead: Ahead) -> (usize, Spot)
     requires fits { ahead.places + length places.now < 2 ^ 64 }
     requires late { ahead.own ≤ number }
@@ -258,6 +259,7 @@ fn find_from_ends(blocks: &SummedBlocks, output: Port, number: usize, all: Ahead
 // is told from the first block's end on. What works on other blocks stands apart, so that what the first one alone
 // answers stays short.
 #[inline(never)]
+#[tactic(auto, using(crate::proofs::First::ahead_behind, crate::proofs::Nth::nth_behind))]
 fn find_behind(
     first: &Block,
     others: &SummedBlocks,
@@ -282,6 +284,7 @@ fn find_behind(
 }
 
 // How many of the places ahead of this one are an output's.
+#[tactic(auto, using(crate::proofs::BlockWalk::count_steps))]
 fn count_in(blocks: &SummedBlocks, output: Port, place: usize) -> usize
     requires inside { place ≤ length (concat blocks.now.blocks) }
     ensures { result ≡ count_of output (take place (concat blocks.now.blocks)) }
@@ -331,6 +334,7 @@ fn push_block(blocks: &mut SummedBlocks, output: Port)
 }
 
 // A place at the end, in the last block or behind it.
+#[tactic(auto, using(crate::proofs::Filled::put_steps))]
 fn append_behind(blocks: &mut SummedBlocks, last: usize, output: Port)
     requires can { CanGrow blocks.old output }
     requires last { last + 1 ≡ length blocks.old.blocks }
@@ -383,6 +387,7 @@ fn spot_with_room(blocks: &mut SummedBlocks, _place: usize, spot: Spot) -> Spot
 }
 
 // A place ahead of another one.
+#[tactic(auto, using(crate::proofs::Filled::put_steps))]
 fn insert_inside(blocks: &mut SummedBlocks, place: usize, len: usize, output: Port)
     requires can { CanGrow blocks.old output }
     requires inside { place < len }
@@ -395,6 +400,7 @@ fn insert_inside(blocks: &mut SummedBlocks, place: usize, len: usize, output: Po
 }
 
 // The places of the next block go over to the end of a block.
+#[tactic(auto, using(crate::proofs::Sums::length_went))]
 fn join_next(blocks: &mut SummedBlocks, at: usize)
     requires inside { at + 1 < length blocks.old.blocks }
     requires fits { length (slice_index_or blocks.old.blocks at [])
@@ -408,6 +414,7 @@ fn join_next(blocks: &mut SummedBlocks, at: usize)
 }
 
 // The first place of the next block goes over to the end of a block.
+#[tactic(auto, using(crate::proofs::Sums::block_set, crate::proofs::Sums::length_added))]
 fn pull_next(blocks: &mut SummedBlocks, at: usize)
     requires inside { at + 1 < length blocks.old.blocks }
     requires room { length (slice_index_or blocks.old.blocks at []) < most_places }
@@ -478,6 +485,7 @@ fn insert_behind(others: &mut SummedBlocks, place: usize, len: usize, output: Po
 
 // A place in the first block, which is full, and is split in two. It stands apart, as `find_behind` does.
 #[inline(never)]
+#[tactic(auto, using(crate::proofs::Filled::room_for_block, std::proofs::Common::append_assoc))]
 fn split_first(first: &mut Block, others: &mut SummedBlocks, place: usize, output: Port)
     requires can { CanGrow others.old output }
     requires full { length first.old ≡ most_places }
@@ -529,6 +537,7 @@ fn remove_in_first(first: &mut Block, others: &mut SummedBlocks, place: usize)
 // The first place of an output taken out, which stands behind the first block. It is a call of its own, as
 // `find_behind` is.
 #[inline(never)]
+#[tactic(auto, using(crate::proofs::Filled::rest_steps, crate::proofs::First::remove_later))]
 fn remove_behind(first: &Block, others: &mut SummedBlocks, output: Port, all: Ahead)
     requires filled { AreFilled (first.now ∷ others.old.blocks) }
     requires places { all.places ≡ length (first.now ++ concat others.old.blocks) }
@@ -599,6 +608,7 @@ impl Places {
     }
 
     /// The place of an output that has so many of its places ahead, where it has so many in all.
+    #[tactic(auto, using(crate::proofs::Nth::nth_in_front, crate::proofs::Nth::nth_inside))]
     pub fn place_of(&self, output: Port, ahead: usize, all: usize) -> usize
         requires all { all ≡ count_of output self.now.outputs }
         requires there { ahead < all }

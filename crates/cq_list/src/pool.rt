@@ -186,6 +186,7 @@ fn count_ahead(nodes: &Slab<Node>, queue: Queue, fingers: &[Ahead], key: Key) ->
 }
 
 // How many cells of a queue stand ahead of the first one with an id, which are all where none has it.
+#[tactic(auto, using(crate::proofs::Walk::search_steps))]
 fn count_to(nodes: &Slab<Node>, queue: Queue, id: CellId) -> usize
     requires { IsChained (get nodes.now) queue }
     ensures { result ≡ position_or_len (has_id id) (cells (linked (get nodes.now) queue)) }
@@ -202,6 +203,7 @@ fn count_to(nodes: &Slab<Node>, queue: Queue, id: CellId) -> usize
 }
 
 // The cell of a queue that has so many ahead.
+#[tactic(auto, using(crate::proofs::Walk::walk_steps))]
 fn cell_at(nodes: &Slab<Node>, queue: Queue, ahead: usize) -> Queued
     requires chained { IsChained (get nodes.now) queue }
     requires inside { ahead < queue.len }
@@ -304,6 +306,7 @@ fn behind_first(queue: Queue, next: usize) -> Queue
 }
 
 // No finger in each of so many queues. The error is want of memory.
+#[tactic(auto, using(std::proofs::lemmas::List::replicate_more))]
 fn no_fingers(alloc: Global, queues: u16) -> Result<Vec<Fingers>, NoMemory>
     ensures { IfOk result (λ fingers. fingers.items ≡ replicate queues []) }
 {
@@ -316,7 +319,7 @@ fn no_fingers(alloc: Global, queues: u16) -> Result<Vec<Fingers>, NoMemory>
 
 impl Pool {
     /// No cell waits for any of so many outputs, and there is room for so many cells. The error is want of memory.
-    #[tactic(auto, using(crate::proofs::Queues::no_cells))]
+    #[tactic(auto, using(crate::proofs::Queues::no_cells, crate::proofs::Queues::empty_pool))]
     pub fn new(alloc: Global, outputs: u16, room: u64) -> Result<Pool, NoMemory>
         ensures queues { IfOk result (λ pool. pool.queues ≡ replicate outputs []) }
         ensures spare { IfOk result (λ pool. pool.spare ≡ room) }
@@ -371,6 +374,7 @@ impl Pool {
     }
 
     /// How many cells are in a queue.
+    #[tactic(auto, using(crate::proofs::Queues::read_steps))]
     pub fn len_of(&self, output: Port) -> usize
         requires { output < length self.now.queues }
         ensures { result ≡ length (queue_of self.now.queues output) }
@@ -379,6 +383,7 @@ impl Pool {
     }
 
     /// How many cells of a queue are more urgent than a key.
+    #[tactic(auto, using(crate::proofs::Queues::read_steps))]
     pub fn ahead_of_key(&self, output: Port, key: Key) -> usize
         requires { output < length self.now.queues }
         ensures { result ≡ position_or_len (λ x. not (is_before x.key key)) (queue_of self.now.queues output) }
@@ -388,6 +393,7 @@ impl Pool {
     }
 
     /// How many cells of a queue stand ahead of the first one with an id, which are all where none has it.
+    #[tactic(auto, using(crate::proofs::Queues::read_steps))]
     pub fn ahead_of_id(&self, output: Port, id: CellId) -> usize
         requires { output < length self.now.queues }
         ensures { result ≡ position_or_len (has_id id) (queue_of self.now.queues output) }
