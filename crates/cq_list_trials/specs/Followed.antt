@@ -1,5 +1,5 @@
 -- Only proofs use this.
--- Lists that change in slot after slot: to each comes a cell, or a first cell leaves it, or it stays.
+-- Lists that change one after another: to one comes a cell, or a first cell leaves it, or it stays.
 use Rattle.std.specs.Prelude.{◌≡◌, ℕ, ◌+◌, ◌<◌, ◌≤◌, ◌⊎◌, All, List, insert, length, slice_index_or}
 use Rattle.std.specs.List.{AllByRecursion}
 use Rattle.cq_base.specs.Limits.{most_ports}
@@ -9,12 +9,11 @@ use Rattle.cq_list.specs.InputList.{Waiting, cells_of}
 use Rattle.cq_prefs.specs.FirstCells.{orders_of}
 use Rattle.cq_prefs.specs.Orders.{Orders}
 
--- the cells of the list are those of input i, they came in slots before this one, and there is room for a cell in each
--- slot before slot 32
+-- the cells of the list are those of input i, they came in slots before this one, and there is room for 32
 pub record IsOwn (slot i : ℕ) (list : Waiting) : Type 0 where
   pub input : AllByRecursion (λ c. c.key.input ≡ i) list.cells
   pub older : ArrivedBefore slot list.cells
-  pub room : 32 ≤ list.spare + slot
+  pub room : list.spare + length list.cells ≡ 32
 
 -- each list is its input's own
 abbrev pub AreOwn : ℕ → List Waiting → Type 0

@@ -1,14 +1,14 @@
 //! Offers that are renewed after each of many drawn changes, and offers that are filled anew, compared with a plain
 //! slow reading of the lists.
-ghost use Rattle.std.specs.Prelude.{◌≡◌, ◌+◌, ◌<◌, ◌≤◌, All, IfOk, Some, length};
+ghost use Rattle.std.specs.Prelude.{◌≡◌, ◌+◌, ◌<◌, ◌≤◌, All, IfOk, length};
 ghost use Rattle.cq_base.specs.Limits.{most_ports};
-ghost use Rattle.cq_base.specs.Cells.{MoreUrgentAhead};
 ghost use Rattle.cq_list.specs.InputList.{cells_of};
-ghost use Rattle.cq_prefs.specs.FirstCells.{first_key, key_before, orders_of};
+ghost use Rattle.cq_prefs.specs.FirstCells.{orders_of};
 ghost use Rattle.cq_list_trials.specs.Followed.{AreOwn, HasChanged, IsOwn};
 ghost use Rattle.cq_prefs.specs.Orders.{ports};
 
-use cq_base::{NoMemory, Port, Queued};
+use super::list::{cut_in, depart};
+use cq_base::{NoMemory, Port};
 use cq_list::InputList;
 use cq_prefs::{Matching, Offers};
 use cq_trial_kit::{Draws, waiting};
@@ -74,69 +74,51 @@ fn drawn_matching(drawn: &mut Draws, ports: u16) -> Matching
     matching
 }
 
-// Whether a more urgent cell for the same output waits: the first one for it is.
-fn is_overtaken(list: &InputList, queued: Queued) -> bool
-    ensures { result ≡ key_before (first_key queued.cell.output list.now.cells) (Some queued.key) }
-{
-    match list.front_for(queued.cell.output) {
-        None => false,
-        Some(front) => front.key.precedes(queued.key),
-    }
-}
-
-// The end, where a more urgent cell for the same output waits, and else any place.
-fn drawn_cushion(drawn: &mut Draws, list: &InputList, queued: Queued) -> u64
-    ensures { MoreUrgentAhead result queued list.now.cells }
-{
-    let end = list.len();
-    if is_overtaken(list, queued) {
-        return end;
-    }
-    drawn.below(8)
-}
-
-// A cell comes to a list for an output, or the first one for it goes.
+// A cell comes to a list for an output, or the first one for it goes, as it does where 32 wait.
+#[tactic(auto, using(cq_base::proofs::Lists::all_left, cq_base::proofs::Lists::all_insert))]
 fn change_one(drawn: &mut Draws, list: &mut InputList, input: Port, output: Port, slot: u32)
     requires output { output < list.old.outputs }
-    requires slot { slot < 32 }
     requires own { IsOwn slot input list.old }
     ensures outputs { list.new.outputs ≡ list.old.outputs }
     ensures own { IsOwn (slot + 1) input list.new }
     ensures changed { HasChanged output list.old.cells list.new.cells }
 {
-    if drawn.below(3) == 0 {
-        list.take(output);
+    if drawn.below(3) == 0 || list.len() >= 32 {
+        depart(list, output, slot);
     } else {
         let queued = waiting(input, output, drawn.below(4) as u128, slot);
-        let cushion = drawn_cushion(drawn, list, queued);
-        list.insert(queued, cushion);
+        cut_in(list, queued, drawn.below(8));
     }
 }
 
-// The list of each input that has a partner changes for this partner, and the offers are renewed.
+// The list of each input that has a partner changes for this partner, in a slot of its own, and the offers are renewed.
+// The next slot is the answer.
 fn change_each(
     drawn: &mut Draws,
     lists: &mut [InputList],
     kept: &mut Offers,
     changed: &Matching,
-    slot: u32,
-)
+    first: u32,
+) -> u32
     requires ports { length lists.old ≡ length changed.now }
     requires outputs { All (λ list. list.outputs ≡ length lists.old) lists.old }
-    requires slot { slot < 32 }
-    requires own { AreOwn slot lists.old }
+    requires slot { first < 1000 }
+    requires own { AreOwn first lists.old }
     requires offers { kept.old ≡ orders_of (cells_of lists.old) }
     ensures ports { length lists.new ≡ length lists.old }
     ensures outputs { All (λ list. list.outputs ≡ length lists.new) lists.new }
-    ensures own { AreOwn (slot + 1) lists.new }
+    ensures own { AreOwn result lists.new }
     ensures offers { kept.new ≡ orders_of (cells_of lists.new) }
 {
+    let mut slot = first;
     for input in 0..changed.ports() {
         if let Some(output) = changed.partner_of(input) {
             change_one(drawn, &mut lists[input as usize], input, output, slot);
+            slot += 1;
         }
     }
     kept.renew(lists, changed);
+    slot
 }
 
 // How many of the ports stand before an output, by the places in the list, or None where it has no cell for it.
@@ -208,14 +190,14 @@ impl Followed {
         })
     }
 
-    // A cell comes or goes in each pair of a drawn matching, and the offers are renewed. After 32 changes all stays.
+    // A cell comes or goes in each pair of a drawn matching, and the offers are renewed. From slot 1000 on all stays.
     fn change(&mut self, drawn: &mut Draws)
         ensures { self.new ≡ self.old }
     {
-        if self.slot < 32 {
+        if self.slot < 1000 {
             let changed = drawn_matching(drawn, self.lists.len() as u16);
-            change_each(drawn, &mut self.lists, &mut self.kept, &changed, self.slot);
-            self.slot += 1;
+            let slot = change_each(drawn, &mut self.lists, &mut self.kept, &changed, self.slot);
+            self.slot = slot;
         }
     }
 

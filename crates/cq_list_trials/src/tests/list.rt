@@ -2,7 +2,7 @@
 //! memory.
 ghost use Rattle.std.specs.Prelude.{◌≡◌, ℕ, ◌+◌, ◌<◌, ◌≤◌, ◌&&◌, All, [], length};
 ghost use Rattle.cq_base.specs.Key.{is_before};
-ghost use Rattle.cq_base.specs.Cells.{ArrivedBefore, MoreUrgentAhead, is_for};
+ghost use Rattle.cq_base.specs.Cells.{ArrivedBefore, MoreUrgentAhead, is_for, with_arrival, without_first};
 ghost use Rattle.cq_trial_kit.specs.Arriving.{IsNewest, HasArrived};
 
 use super::drawn::{Keeper, Plain};
@@ -86,8 +86,9 @@ fn a_cell_goes_ahead_of_less_urgent_ones_and_is_found(rt: HostRuntime) {
 }
 
 // The first cell for an output leaves.
-fn depart(list: &mut InputList, output: u16, _slot: u32) -> Option<Queued>
+pub(super) fn depart(list: &mut InputList, output: u16, _slot: u32) -> Option<Queued>
     requires { ArrivedBefore _slot list.old.cells }
+    ensures cells { list.new.cells ≡ without_first output list.old.cells }
     ensures arrived { ArrivedBefore (_slot + 1) list.new.cells }
     ensures room { list.new.spare + length list.new.cells ≡ list.old.spare + length list.old.cells }
     ensures outputs { list.new.outputs ≡ list.old.outputs }
@@ -117,9 +118,10 @@ fn is_ahead(other: &Queued, queued: &Queued) -> bool
 
 // The newest cell goes in with this cushion, or with the least that it may have. The answer is the one that it had.
 #[tactic(auto, using(cq_base::proofs::Lists::other_key_newest, cq_base::proofs::Lists::arrived_newest))]
-fn cut_in(list: &mut InputList, queued: Queued, cushion: u64) -> u64
+pub(super) fn cut_in(list: &mut InputList, queued: Queued, cushion: u64) -> u64
     requires { IsNewest queued list.old }
-    ensures { HasArrived queued list.old list.new }
+    ensures arrived { HasArrived queued list.old list.new }
+    ensures cells { list.new.cells ≡ with_arrival result queued list.old.cells }
 {
     let least = least_cushion(list, &queued);
     let had = cushion.max(least);
