@@ -1,5 +1,5 @@
 //! Worked slots, drawn slots against a plain slow fabric, and the call that wants memory, with ample memory.
-ghost use Rattle.std.specs.Prelude.{◌≡◌, ◌+◌, ◌^◌, ◌<◌, ◌≤◌, ℕ, All, IfOk, OnOk, is_err, length, map};
+ghost use Rattle.std.specs.Prelude.{◌≡◌, ◌+◌, ◌^◌, ◌<◌, ◌≤◌, ℕ, IfOk, OnOk, is_err, length, map};
 ghost use Rattle.cq_rank.specs.Classes.{rows_of};
 ghost use Rattle.cq_rank.specs.Switch.{AreForOneSwitch, class_count};
 ghost use Rattle.cq_ideal.specs.Limiter.{CanCount};
@@ -195,10 +195,12 @@ fn comes_to<R: Rank, T: Threads + Sync>(
     Ok(runs? && stands? && tells && has_seen)
 }
 
-// A discipline of two classes with these levels, each below 16, and these priorities.
-fn priority(alloc: Global, levels: [u8; 2], priorities: [u128; 2]) -> Result<Priority, NoMemory>
+// The discipline of one of four outputs: two classes with its levels, each below 16, and its priorities.
+fn priority(alloc: Global, output: usize) -> Result<Priority, NoMemory>
+    requires { output < 4 }
     ensures { IfOk result (λ rank. length (rows_of rank.fixed) ≡ 2) }
 {
+    let (levels, priorities) = (LEVELS[output], PRIORITIES[output]);
     let classes = [
         ClassRow {
             level: levels[0] % 16,
@@ -214,24 +216,17 @@ fn priority(alloc: Global, levels: [u8; 2], priorities: [u128; 2]) -> Result<Pri
     Priority::new(alloc, &classes)
 }
 
-// Those of four outputs.
-fn four_ranks(alloc: Global) -> Result<Vec<Priority>, NoMemory>
-    ensures ports { IfOk result (λ ranks. length ranks.items ≡ 4) }
-    ensures classes { IfOk result (λ ranks. All (λ rank. length (rows_of rank.fixed) ≡ 2) ranks.items) }
-{
-    let mut ranks = Vec::new(alloc);
-    'outputs: for output in 0..4usize {
-        ranks.push(priority(alloc, LEVELS[output], PRIORITIES[output])?)?;
-    }
-    Ok(ranks)
-}
-
-// Whether an engine of them comes to what it is to come to, in 40 slots at most.
+// Whether an engine of the four comes to what it is to come to, in 40 slots at most.
 fn prioritized<T: Threads + Sync>(rt: &T, alloc: Global, trial: &Trial) -> Result<bool, NoMemory> {
     if trial.slots.len() > 40 {
         return Ok(false);
     }
-    let ranks = four_ranks(alloc)?;
+    let ranks = vec![in alloc;
+        priority(alloc, 0)?,
+        priority(alloc, 1)?,
+        priority(alloc, 2)?,
+        priority(alloc, 3)?,
+    ]?;
     comes_to(rt, alloc, ranks, trial)
 }
 
