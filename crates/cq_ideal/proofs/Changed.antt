@@ -127,3 +127,5 @@ pub machine_seen : {R : Type 0} (F S : R → List ℕ) (items : List R) (o : ℕ
     (M : List ℕ → Machine) → M (F r) ≡ machine_at (map M v.fixed) o
 machine_seen F S items o {r} {v} inside is view_is M =
     grind (arith, common_steps, get_or-map F items o r (F r), get_or-map M v.fixed o (F r) (first_come []), item_inside)
+
+pub ruleset machine_steps = (machine_seen, seen_at, put_next, at_end, item_steps)

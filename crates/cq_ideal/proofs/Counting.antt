@@ -63,6 +63,8 @@ module _ (cell : Cell) (first : List Refused) (place : ℕ) (now : List Refused)
   untouched_next d other =
       search (arith, rules, set-get_or now place d, tallied_next d (get_or now place d), other_output, ne_eqb)
 
+pub ruleset counted_one_by_one = (can_count_here, tallied_next, untouched_next)
+
 -- ## Cells one after another
 
 pub all_counted_both : (before now : List Cell) (counts : List Refused) →

@@ -249,3 +249,5 @@ module _ (ms : List Machine) (ports : ℕ) (ranks : List (List ℕ)) (came : Lis
   same_sent =
       let whole = run_as_before [] ms ports ranks came no_limit in
       search (arith, rules, common_steps, its_runs (enough came), all_slots came, limited_same_sent [] ms ports ranks)
+
+pub ruleset limited_slots_more = (limited_not_more, limited_whole_fault, limited_same_sent)

@@ -45,7 +45,7 @@ pub fn flows_leave_in_packets()
 
 /// Where no output has a limit and no mark is up nothing is refused, nor where no cell arrives. So a run in
 /// which no output has a limit is the run that it was before there were limits.
-#[tactic(auto, using(crate::proofs::Admitted::no_limits_refuse_none, crate::proofs::Admitted::no_arrivals_refuse_none, crate::proofs::LimitedRuns::run_of_all, crate::proofs::LimitedRuns::none_refused_in))]
+#[tactic(auto, using(crate::proofs::LimitedRuns::where_none_is_refused))]
 pub fn nothing_is_refused_without_limits()
     ensures no_limits { (limits : List (Option ℕ)) (ports : ℕ) (cells : List (Option Cell)) →
         NoLimits limits → RefusesNone limits (marks_down ports) cells }

@@ -71,7 +71,7 @@ fn put_numbers<R: Rank>(rank: &mut R, numbers: &[u128])
     }
 }
 
-#[tactic(auto, using(crate::proofs::Changed::machine_seen, crate::proofs::Changed::seen_at, crate::proofs::Changed::put_next, crate::proofs::Changed::at_end, crate::proofs::Changed::item_steps))]
+#[tactic(auto, using(crate::proofs::Changed::machine_steps))]
 impl<R: Rank> Ranks<R> {
     /// One for each output, in order.
     pub fn of(ranks: Vec<R>) -> Ranks<R>

@@ -59,7 +59,7 @@ fn with_cell(count: Refused, cell: Cell) -> Refused
 
 /// A refused cell is added to the count of its output, where that has one: it is a cell more, and a packet more where
 /// it is a first cell.
-#[tactic(auto, using(crate::proofs::Counting::can_count_here, crate::proofs::Counting::tallied_next, crate::proofs::Counting::untouched_next))]
+#[tactic(auto, using(crate::proofs::Counting::counted_one_by_one))]
 pub fn count_refused(refused: &mut [Refused], cell: Cell)
     requires { CanCount 1 refused.old }
     ensures { refused.new ≡ with_refused (cell ∷ []) refused.old }
