@@ -75,12 +75,6 @@ none_used used places nobody =
 
 -- ## The lists of the outputs
 
-abbrev cells_in : QueueView → List Queued
-cells_in q = q.cells
-
-abbrev room_in : QueueView → ℕ
-room_in q = q.room
-
 -- the lists that were made so far are empty, and have the rooms of the first outputs
 pub record Made (rooms : List ℕ) (n : ℕ) (items : List QueueView) : Type 0 where
   pub lists : map (λ q. q.cells) items ≡ replicate n []
@@ -94,30 +88,27 @@ one_made rooms n items more q made is inside empty room one =
     grind (arith, common_steps, map_same, map_next, All-push)
 
 -- empty lists are within any room
-pub empty_within : (items : List QueueView) (n : ℕ) → map cells_in items ≡ replicate n [] →
+pub empty_within : (items : List QueueView) (n : ℕ) → map (λ q. q.cells) items ≡ replicate n [] →
     All (λ q. q.room < 2 ^ 64) items → All IsWithin items
 empty_within items n e few k d inside =
-    let none = [] in grind (arith, common_steps, length-map items cells_in, get_or-map cells_in items k d none inside)
+    let none = [] in grind (arith, common_steps, length-map, get_or-map (λ (q : QueueView). q.cells) items k d none)
 
 -- each list is within its room, which is a number of 64 bits
 pub within_rooms : (items : List QueueView) (v : QueuesView) → All IsWithin items →
-    record { lists = map cells_in items; rooms = map room_in items } ≡ v → (j : ℕ) →
+    record { lists = map (λ q. q.cells) items; rooms = map (λ q. q.room) items } ≡ v → (j : ℕ) →
     (length (list_at v.lists j) ≤ get_or v.rooms j 0) × (get_or v.rooms j 0 < 2 ^ 64)
 within_rooms items v held view_is j =
     let none : QueueView = record { cells = []; room = 0 } in
-    let lists = get_or-map cells_in items j none [] in
-    let rooms = get_or-map room_in items j none 0 in
+    let lists = get_or-map (λ (q : QueueView). q.cells) items j none [] in
+    let rooms = get_or-map (λ (q : QueueView). q.room) items j none 0 in
     grind (arith, common_steps, cases_lt j (length items), lists, rooms, held j none, get_or_past, length-map)
-
--- a list without items has length 0
-abbrev none_in : List Queued → Bool
-none_in cells = eqb (length cells) 0
 
 pub none_wait : {X : Type 0} (cells_of : X → List Queued) (items : List X) (lists : List (List Queued)) (b : Bool) →
     b ≡ list_all (λ x. eqb (length (cells_of x)) 0) items → map cells_of items ≡ lists →
     IsTrue b ↔ All (λ cells. cells ≡ []) lists
 none_wait cells_of items lists b e l =
-    grind (arith, common_steps, list_all-map none_in cells_of items, list_all-from_AllPass none_in lists)
+    let none = λ (cells : List Queued). eqb (length cells) 0 in
+    grind (arith, common_steps, list_all-map none cells_of items, list_all-from_AllPass none lists)
 
 -- ## Their machines
 
