@@ -164,11 +164,6 @@ module _ {cells : List (Option Cell)} {first : LimiterView} {input : ℕ} {now :
   judged_next after cell up lt here inside turned marks held limits refused =
       search (arith, rules, drop-set-lt, drop_more, one_more, length-set, raised)
 
-  -- where no cell arrives nothing changes
-  pub judged_none : input < length first.marks → drop input cells ≡ None ∷ drop (input + 1) cells →
-      Judging cells first (input + 1) now
-  judged_none lt here = search (arith, rules, judged_next now None, set-get_or now.marks input false)
-
   -- there is a number to spare for a cell that arrives
   pub one_more_fits : (c : Cell) (most : ℕ) → drop input cells ≡ Some c ∷ drop (input + 1) cells →
       get_or first.held c.output 0 + count_for c.output cells < most → get_or now.held c.output 0 + 1 < most
