@@ -69,6 +69,7 @@ impl Limiter {
 
     /// Outputs with these limits hold so many cells, these marks are up, and so much was refused. The error is want of
     /// memory.
+    #[tactic(auto, using(crate::proofs::Changed::item_steps))]
     pub fn of(
         alloc: Global,
         limits: &[Option<u64>],
