@@ -42,9 +42,8 @@ pub no_more : (limits : List (Option ℕ)) (marks : List Bool) (traffic : List (
 unfolding come_count
 no_more limits marks [] [] judged e = (omega arith, refl)
 no_more limits marks (cells ∷ traffic) (a ∷ admissions) judged zero =
-    let are = ap (λ (l : List (Option Cell)). length (present l)) (its_marks limits marks cells a judged.0).1 in
-    let rest = no_more limits a.marks traffic admissions judged.1 zero in
-    (omega (arith, fewer a.marks cells), ap suc rest.1)
+    let is = (its_marks limits marks cells a judged.0).1 in
+    grind (arith, common_steps, fewer a.marks cells, no_more limits a.marks traffic admissions judged.1 zero)
 no_more limits marks (cells ∷ traffic) (a ∷ admissions) judged (suc e) =
     let rest = no_more limits a.marks traffic admissions judged.1 e in (rest.0, ap suc rest.1)
 no_more limits marks traffic admissions judged e = absurd judged

@@ -1,7 +1,7 @@
 -- Where the run of the ideal switch ends, where outputs have limits: as many slots as are enough end with empty lists,
 -- so there is a least number of slots after which no cell is to come and none waits, and from there on the slots send
 -- nothing. A switch without limits is one with limits that refuses nothing, so its run ends where that one's does.
-use Rattle.cq_ideal.proofs.Terms.{rules, ◌≡◌, ℕ, ◌+◌, ◌-◌, ◌<◌, ◌≤◌, Bool, true, false, List, [], ◌++◌, length, Option, Result, Ok, Err, refl, sym, ap, ◌∙◌, subst, arith, get_or, common_steps, flat_map-append, IsOkAnd, position_or_len, range_with_len, cases_lt, append-nil, get_or-range_with_len, length-range_with_len, fails_before_first, passes_at_first, prefix_len-le-length, Arrival, Cell, end_of, enough, traffic_of, TagFault, Machine, Marked, NoLimits, admitted_in, marked, marks_down, IdealEnds, arriving_from, first_slots, is_over, slots_of_run, whole_ideal_run, IsEmptyIdeal, Ran, departures_of, departures_ran, empty_ideal, ideal_run, IdealState, LimitedIdealEnds, departures_limited, slots_of_limited_run, whole_limited_run, LimitedRan, empty_limited, limited_run, unlimited, refused_in, and_from, le-leb, list_all-from_AllPass, eq-eqb}
+use Rattle.cq_ideal.proofs.Terms.{rules, ◌≡◌, ℕ, ◌+◌, ◌-◌, ◌<◌, ◌≤◌, Bool, true, false, List, [], ◌++◌, length, Option, Result, Ok, Err, refl, sym, ap, ◌∙◌, subst, arith, get_or, common_steps, flat_map-append, IsOkAnd, position_or_len, range_with_len, cases_lt, append-nil, get_or-range_with_len, length-range_with_len, fails_before_first, passes_at_first, prefix_len-le-length, Arrival, Cell, end_of, enough, traffic_of, TagFault, Machine, Marked, NoLimits, marked, marks_down, IdealEnds, arriving_from, first_slots, is_over, slots_of_run, whole_ideal_run, IsEmptyIdeal, Ran, departures_of, departures_ran, empty_ideal, ideal_run, IdealState, LimitedIdealEnds, departures_limited, slots_of_limited_run, whole_limited_run, LimitedRan, empty_limited, limited_run, unlimited, refused_in, and_from, le-leb, list_all-from_AllPass, eq-eqb}
 use Rattle.cq_ideal.proofs.Ends.{all_slots, none_waits, over_from_test}
 use Rattle.cq_ideal.proofs.EnoughSlots.{no_more, limited_empty_at_end}
 use Rattle.cq_ideal.proofs.LimitedParts.{limited_going_on, limited_parts, limited_stays_empty}
@@ -30,9 +30,8 @@ pub gone_long : (limits : List (Option ℕ)) (ms : List Machine) (slot : ℕ) (t
     (old : Marked IdealState) (ran : LimitedRan) → limited_run limits ms slot traffic old ≡ Ok ran →
     length ran.gone ≡ length traffic
 gone_long limits ms slot traffic old ran is =
-    sends_long ms slot (admitted_in ran.admissions) old.state (state_ran ran)
-    (is_run_of limits ms slot traffic old ran is)
-    ∙ (no_more limits old.marks traffic ran.admissions (judged limits ms slot traffic old ran is) 0).1
+    let many = no_more limits old.marks traffic ran.admissions (judged limits ms slot traffic old ran is) 0 in
+    search (arith, rules, sends_long, is_run_of limits ms slot traffic old ran is, many)
 
 module _ (limits : List (Option ℕ)) (ms : List Machine) (ports : ℕ) (ranks : List (List ℕ)) (came : List Arrival) where
   -- the run over the first n slots
