@@ -2,49 +2,32 @@
 -- run through `clap`'s own rule of a parse. Its first word is one of the subcommands by its text, so the rest
 -- goes to that subcommand. There each value goes to the next positional, which has no value yet: a value is no flag,
 -- for it is not empty and begins with no dash, so nothing of it is refused.
-use Rattle.cq_words.proofs.Terms.{IfOk-weaker, common_steps, arith, rules, ◌≡◌, ◌&&◌, ℕ, suc, fold, Bool, true, false, refl, sym, List, [], ◌∷◌, Option, None, codes, is_some, if◌then◌else◌, ◌∙◌, ap, option_and_then, list_all, bytes_eq, bytes_eq-Decides, Held, Rule, Text, Walk, arg_by_index, finished, first_of, nothing_held, rows_after, to_positional, value, walked, Shape, filled, new_shape, subcommand_of, with_index, default_passes, is_valid, level_passes, settle_passes, step_passes, takes, walk_passes, command_for, is_value, with_config, captures_in, command_found, line, numbers_in, slots_in, state_in, value_rule, Command, not, idle, word_met, turn_passes}
-use Rattle.clap.specs.Lexer.{long_of, short_of}
+use Rattle.cq_words.proofs.Terms.{IfOk-weaker, common_steps, arith, rules, ◌≡◌, ◌&&◌, ℕ, suc, fold, Bool, true, false, refl, List, [], ◌∷◌, Option, None, codes, is_some, if◌then◌else◌, ap, option_and_then, list_all, bytes_eq, bytes_eq-Decides, Held, Rule, Text, Walk, arg_by_index, finished, first_of, nothing_held, rows_after, to_positional, value, walked, Shape, filled, new_shape, subcommand_of, with_index, default_passes, is_valid, level_passes, settle_passes, step_passes, takes, walk_passes, command_for, is_value, with_config, captures_in, command_found, line, numbers_in, slots_in, state_in, value_rule, Command, idle, turn_passes}
 
 -- ## One value
-
-not_true : (b : Bool) → not b ≡ true → b ≡ false
-not_true b h = grind (arith, common_steps)
-
-no_dashes : (text : Text) → is_value text ≡ true → bytes_eq text (45 ∷ 45 ∷ []) ≡ false
-no_dashes text h = grind (arith, common_steps, not_true)
-
-no_long : (text : Text) → is_value text ≡ true → long_of text ≡ None
-no_long text h = grind (arith, common_steps, not_true)
-
-no_short : (text : Text) → is_value text ≡ true → short_of text ≡ None
-no_short text h = grind (arith, common_steps)
 
 -- where a walk stands before the value of a positional
 abbrev at : Held → ℕ → Walk
 at held position = record { held = held; waiting = idle; position = position; is_trailing = false; stopped = None }
 
-word_is_value : (rules : List Rule) (held : Held) (position : ℕ) (text : Text) → is_value text ≡ true
-    → word_met rules [] false idle position text held ≡ (held, value)
-word_is_value rules held position text is = grind (arith, common_steps, no_dashes, no_long, no_short)
-
 -- a value goes to the positional of its place
-value_walked : (rules : List Rule) (held : Held) (position : ℕ) (text : Text) → is_value text ≡ true
-    →
-    walked rules [] (at held position) text
-    ≡ to_positional rules (arg_by_index rules position) text (at held position) held
+value_walked : (rules : List Rule) (held : Held) (position : ℕ) (text : Text) → is_value text ≡ true →
+    walked rules [] (at held position) text ≡ to_positional rules (arg_by_index rules position) text (at held position)
+    held
 unfolding walked
-value_walked rules held position text is = grind (arith, common_steps, word_is_value)
+value_walked rules held position text is = grind (arith, common_steps)
 
 -- a value is refused only where its positional refuses it
 value_taken : (shape : Shape) (held : Held) (position : ℕ) (text : Text) → is_value text ≡ true
     → turn_passes shape [] (at held position) text ≡ step_passes shape position held value
-value_taken shape held position text is = search (arith, rules, word_is_value, no_dashes, no_long, no_short)
+value_taken shape held position text is = grind (arith, common_steps)
 
 -- ## The forms
 
--- the value of a place, as `clap` fills it in
-abbrev placed : ℕ → Text → Rule
-placed place name = with_index place (filled (value_rule name))
+-- the values of the places from one on, as `clap` fills them in
+abbrev placed : ℕ → List Text → List Rule
+placed place [] = []
+placed place (name ∷ names) = with_index place (filled (value_rule name)) ∷ placed (suc place) names
 
 -- a form, as `clap` builds it below the line
 abbrev leaf : Text → List Rule → Shape
@@ -55,21 +38,6 @@ leaf word rules = record (new_shape word) {
   disable_help_subcommand = true;
   is_built = true;
 }
-
-abbrev config_rules : List Rule
-config_rules = placed 1 (codes "CONFIG") ∷ []
-
-abbrev pass_rules : List Rule
-pass_rules = placed 1 (codes "IN") ∷ placed 2 (codes "OUT") ∷ []
-
-abbrev soak_rules : List Rule
-soak_rules = placed 1 (codes "SEED") ∷ placed 2 (codes "PORTS") ∷ placed 3 (codes "SLOTS") ∷ []
-
-abbrev part_rules : List Rule
-part_rules = placed 1 (codes "CONFIG") ∷ placed 2 (codes "SLOTS") ∷ placed 3 (codes "STATE") ∷ []
-
-abbrev resume_rules : List Rule
-resume_rules = placed 1 (codes "CONFIG") ∷ placed 2 (codes "STATE") ∷ []
 
 -- a value goes to the positional of its place, from where the walk stood
 abbrev after : List Rule → Held → ℕ → Text → Walk
@@ -108,8 +76,7 @@ module _ (word : Text) (rules : List Rule) where
   unfolding walk_passes
   walk_taken w place [] are taken = refl
   walk_taken w place (v ∷ vs) are taken =
-      let rest = walk_taken (after rules w.held place v) (suc place) vs in
-      grind (arith, common_steps, value_taken (leaf word rules), value_walked rules, rest)
+      grind (arith, common_steps, value_taken, value_walked, walk_taken (after rules w.held place v) (suc place) vs)
 
   module _ (vs : List Text) (are : list_all is_value vs ≡ true)
       (taken : AreTaken word rules (at nothing_held 1) 1 vs) where
@@ -133,11 +100,8 @@ module _ (word : Text) (rules : List Rule) where
         → (said : Text) (x y : Option Command) → is_some (if bytes_eq said word then x else y) ≡ true →
         (is_some y ≡ true → IsSplit (said ∷ vs)) → IsSplit (said ∷ vs)
     as_form command ends splits is asks said x y h other =
-        let own : IsSplit (word ∷ vs) = (
-          splits ∙ ap (command word) (λ k name. found name k) ∙ sym (is ∙ ap (λ (b : Bool). if b then command word
-              (λ name. first_of name (finished rules end.held)) else None) are),
-          asks ∙ ap (λ (b : Bool). b && true) (passes ends),
-        ) in grind (arith, common_steps, bytes_eq-Decides)
+        let same = ap (command word) (λ k name. found name k) in
+        grind (arith, common_steps, bytes_eq-Decides, passes)
 
 -- ## All words that are a command
 
@@ -158,23 +122,25 @@ command_split (word ∷ []) h = let bad : false ≡ true = h in cc
 command_split (word ∷ v ∷ []) h =
     let vs : List Text = v ∷ [] in
     let w = command_values (list_all is_value vs) _ h in
-    as_form (codes "check") config_rules vs w.0 (refl, refl, tt) config_of refl refl refl refl word _ _ w.1 (λ h.
-    as_form (codes "ideal") config_rules vs w.0 (refl, refl, tt) config_of refl refl refl refl word _ _ h (λ h.
-    as_form (codes "run") config_rules vs w.0 (refl, refl, tt) config_of refl refl refl refl word _ _ h (λ h.
-    as_form (codes "audit") config_rules vs w.0 (refl, refl, tt) config_of refl refl refl refl word _ _ h (λ bad. cc))))
+    let config = placed 1 (codes "CONFIG" ∷ []) in
+    as_form (codes "check") config vs w.0 (refl, refl, tt) config_of refl refl refl refl word _ _ w.1 (λ h.
+    as_form (codes "ideal") config vs w.0 (refl, refl, tt) config_of refl refl refl refl word _ _ h (λ h.
+    as_form (codes "run") config vs w.0 (refl, refl, tt) config_of refl refl refl refl word _ _ h (λ h.
+    as_form (codes "audit") config vs w.0 (refl, refl, tt) config_of refl refl refl refl word _ _ h (λ bad. cc))))
 command_split (word ∷ v ∷ u ∷ []) h =
     let vs : List Text = v ∷ u ∷ [] in
     let w = command_values (list_all is_value vs) _ h in
-    as_form (codes "pass") pass_rules vs w.0 (refl, refl, (refl, refl, tt))
+    as_form (codes "pass") (placed 1 (codes "IN" ∷ codes "OUT" ∷ [])) vs w.0 (refl, refl, (refl, refl, tt))
     (λ _ get. captures_in (get (codes "IN")) (get (codes "OUT"))) refl refl refl refl word _ _ w.1 (λ h.
-    as_form (codes "resume") resume_rules vs w.0 (refl, refl, (refl, refl, tt))
+    as_form (codes "resume") (placed 1 (codes "CONFIG" ∷ codes "STATE" ∷ [])) vs w.0 (refl, refl, (refl, refl, tt))
     (λ _ get. state_in (get (codes "CONFIG")) (get (codes "STATE"))) refl refl refl refl word _ _ h (λ bad. cc))
 command_split (word ∷ v ∷ u ∷ t ∷ []) h =
     let vs : List Text = v ∷ u ∷ t ∷ [] in
     let w = command_values (list_all is_value vs) _ h in
-    as_form (codes "soak") soak_rules vs w.0 (refl, refl, (refl, refl, (refl, refl, tt)))
+    as_form (codes "soak") (placed 1 (codes "SEED" ∷ codes "PORTS" ∷ codes "SLOTS" ∷ [])) vs w.0 (search rules)
     (λ _ get. numbers_in (get (codes "SEED")) (get (codes "PORTS")) (get (codes "SLOTS"))) refl refl refl refl word _ _
-    w.1 (λ h. as_form (codes "part") part_rules vs w.0 (refl, refl, (refl, refl, (refl, refl, tt)))
+    w.1 (λ h.
+    as_form (codes "part") (placed 1 (codes "CONFIG" ∷ codes "SLOTS" ∷ codes "STATE" ∷ [])) vs w.0 (search rules)
     (λ _ get. slots_in (get (codes "CONFIG")) (get (codes "SLOTS")) (get (codes "STATE"))) refl refl refl refl word _
     _ h (λ bad. cc))
 command_split (word ∷ a ∷ b ∷ c ∷ d ∷ rest) h = search (arith, rules)

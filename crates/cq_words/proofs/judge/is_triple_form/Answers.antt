@@ -1,4 +1,4 @@
-use Rattle.cq_words.proofs.Terms.{rules, ◌≡◌, Bool, false, List, ◌∷◌, [], if◌then◌else◌, Option, None, ℕ, refl, arith, common_steps, codes, is_some, list_all, bytes_eq, bytes_eq-Decides, command_for, is_value, numbered, parted, Command}
+use Rattle.cq_words.proofs.Terms.{rules, ◌≡◌, Bool, false, List, ◌∷◌, [], if◌then◌else◌, Option, None, ℕ, refl, arith, common_steps, codes, is_some, bytes_eq, bytes_eq-Decides, command_for, Command}
 use Rattle.cq_words.proofs.judge.is_triple_form.Goals as goal
 
 -- a first word that is neither `soak` nor `part` begins no command of four words
@@ -13,9 +13,7 @@ other_text word text other b e = grind (arith, common_steps, bytes_eq-Decides)
 no_three : (word first second third : List ℕ) → (word ≡ codes "soak" → ⊥) → (word ≡ codes "part" → ⊥)
     → false ≡ is_some (command_for (word ∷ first ∷ second ∷ third ∷ []))
 no_three word first second third f g =
-    no_word (list_all is_value (first ∷ second ∷ third ∷ [])) (bytes_eq word (codes "soak"))
-    (bytes_eq word (codes "part")) (numbered first second third) (parted first second third)
-    (other_text word (codes "soak") f _ refl) (other_text word (codes "part") g _ refl)
+    no_word _ _ _ _ _ (other_text word (codes "soak") f _ refl) (other_text word (codes "part") g _ refl)
 
 pub returns-in_default : goal.returns-in_default
 returns-in_default c = search (arith, rules, no_three)
