@@ -18,17 +18,11 @@ module _ (m : Machine) (laws : KeepsLaws m) where
       (length (after m steps state) ≡ m.size) × (m.floor state c ≤ m.floor (after m steps state) c)
   after_steps [] state c long in_c inside = (long, omega arith)
   after_steps (Given d ∷ steps) state c long in_c inside =
-      let step = given_floor state d c long inside.0 in_c in
-      let rest = after_steps steps (m.given state d) c (laws.given_length state d long inside.0) in_c inside.1 in
-      (rest.0, omega (arith, step, rest.1))
+      grind (arith, common_steps, given_floor state d c, after_steps steps (m.given state d) c, laws.given_length)
   after_steps (Sent l r ∷ steps) state c long in_c inside =
-      let step = laws.sent_floor state l r c long in_c in
-      let rest = after_steps steps (m.sent state l r) c (laws.sent_length state l r long) in_c inside in
-      (rest.0, omega (arith, step, rest.1))
+      grind (arith, common_steps, laws.sent_floor state l r c, after_steps steps (m.sent state l r) c)
 
   pub never_fall : (c : ℕ) (steps : List Step) (state : List ℕ) → length state ≡ m.size → c < m.classes →
       AreOfClasses m.classes steps → m.ranked state c ≤ m.ranked (after m steps (m.given state c)) c
   never_fall c steps state long in_c inside =
-      let stands = after_steps steps (m.given state c) c (laws.given_length state c long in_c) in_c inside in
-      let above = laws.above (after m steps (m.given state c)) c stands.0 in_c in
-      omega (arith, laws.given_floor state c long in_c, stands.1, above)
+      grind (arith, common_steps, after_steps steps (m.given state c), laws.above, laws.given_floor, laws.given_length)
