@@ -85,8 +85,8 @@ rest_told : (gs : List (Option ℕ)) → ((i : ℕ) → i < length gs → InRang
     (gs ≡ map Some (map (λ f. unwrap_or f 0) gs)) × AllByRecursion (λ n. n < 2 ^ 128) (map (λ f. unwrap_or f 0) gs)
 rest_told [] each = (refl, tt)
 rest_told (g ∷ gs) each =
-    let first = is_number g 0 (2 ^ 128 - 1) (each 0 (omega arith)) in
-    let rest = rest_told gs (λ i inside. each (suc i) (omega arith)) in (search (arith, rules))
+    let rest = rest_told gs (λ i inside. each (suc i) (omega arith)) in
+    search (arith, rules, is_number g 0 (2 ^ 128 - 1), each 0)
 
 pub rank_told : (j : ℕ) (fs : List (Option ℕ)) → Within (between j j ∷ []) 32 fs →
     (fs ≡ Some j ∷ map Some (rank_of fs)) × AreRankNumbers (rank_of fs)

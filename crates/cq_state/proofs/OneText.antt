@@ -3,7 +3,7 @@
 -- the same lines are the same. From the front on: where a kind is due, the lines that lead to the end of the text begin
 -- with those of this kind, each of which tells what its fields say, and what is behind them leads to the end from where
 -- the next kind is due.
-use Rattle.cq_state.proofs.Terms.{common_steps, ◌≡◌, ℕ, ◌+◌, false, List, [], ◌∷◌, ◌++◌, map, drop, Option, Some, refl, ap, sym, arith, rules, append_assoc, inl, inr, IsTrue, unwrap_or, AllByRecursion, append-nil, Transfer, Kind, Version, Next, Shape, Sum, Input, Rank, Listed, Buffered, Sent, Moved, End, Head, Seen, Named, State, Line, kinds, start, IsInRange, IsSeen, AreRankNumbers, IsNamed, IsSent, IsMoved, state_lines, state_text, numbered, input_line, rank_line, cell_line, sent_line, moved_line, added, gathered, nothing, number_at, seen_of, rank_of, named_of, sent_of, moved_of, ◌<◌, ◌≤◌, add-zero, length, ⊎_elim, ◌⊎◌, Within, is_free, needed, ranges, further, ports_behind, cell_numbers}
+use Rattle.cq_state.proofs.Terms.{common_steps, ◌≡◌, ℕ, ◌+◌, false, List, [], ◌∷◌, ◌++◌, map, drop, Option, Some, refl, ap, sym, arith, rules, append_assoc, inl, inr, IsTrue, unwrap_or, AllByRecursion, append-nil, Transfer, Kind, Version, Next, Shape, Sum, Input, Rank, Listed, Buffered, Sent, Moved, End, Head, Seen, Named, State, Line, kinds, start, IsInRange, IsSeen, AreRankNumbers, IsNamed, IsSent, IsMoved, state_lines, state_text, numbered, input_line, rank_line, cell_line, sent_line, moved_line, added, gathered, nothing, number_at, seen_of, rank_of, named_of, sent_of, moved_of, ◌<◌, ◌≤◌, add-zero, length, ⊎_elim, ◌⊎◌, Within, is_free, needed, ranges, further, ports_behind, cell_numbers, with_shape, with_sum}
 use Rattle.cq_state.proofs.Fields.{shape_told, seen_told, rank_told, named_told, sent_told, moved_told}
 use Rattle.cq_state.proofs.OneReading.{state_is_exact}
 use Rattle.cq_state.proofs.Written.{Completes, at, line_of, lines_are, plain, state_has_text}
@@ -75,20 +75,18 @@ module _ {X : Type 0} (k : Kind) (due : List Kind) (ports : ℕ) (told : (fs : L
   many_told : (xs : List Line) (seen : ℕ) → IsTrue (is_free k) ⊎ (seen ≤ needed ports k) →
       Completes (at (k ∷ due) seen ports) xs → ManyTold seen xs
   many_told [] seen few c = none_told [] seen few (ends k due seen ports c)
-  many_told (x ∷ xs) seen few c = ⊎_elim
-      (λ one.
+  many_told (x ∷ xs) seen few c = ⊎_elim (λ one.
       let reads_one = reads seen x.fields one.within in
       let rest = many_told xs (seen + 1) (grind (arith, common_steps)) (rw (told x.fields) at one.rest) in
       record {
         values = value x.fields ∷ rest.values;
         behind = rest.behind;
         is = cc (one.is, ap (line_of k) reads_one.0, rest.is);
-        in_range = (reads_one.1, rest.in_range);
+        in_range = search rules;
         enough = omega arith;
-        few = ⊎_elim (λ free. inl free) (λ low. inr (omega arith)) rest.few;
+        few = grind (arith, common_steps);
         rest = rest.rest;
-      })
-      (none_told (x ∷ xs) seen few) (goes_on k due seen ports x xs c)
+      }) (none_told (x ∷ xs) seen few) (goes_on k due seen ports x xs c)
 
 -- ## A state again
 
@@ -153,20 +151,9 @@ each_told xs c =
     (IsMoved ports) (λ _ fs. moved_told ports fs some) sent.behind 0 (inl refl) sent.rest in
     let end = one_told End (λ _. (refl, refl)) [] ports moved.behind moved.rest in
     let none : moved.behind ≡ line_of End end.fields ∷ [] = rw (nothing_behind ports end.behind end.rest) at end.is in
-    let s : State =
-    of_parts (record {
-      next = number_at next.fields 0;
-      ports = ports;
-      classes = number_at shape.fields 1;
-      t0 = number_at shape.fields 2;
-      total = number_at shape.fields 3;
-      proposals = number_at sum.fields 0;
-      most = number_at sum.fields 1;
-    }) inputs.values ranks.values listed.values buffered.values sent.values moved.values in (
-      s,
-      search rules,
-      (rw lines_are (grind (arith, common_steps))),
-    )
+    let head : Head = with_sum (with_shape ((added Next next.fields nothing).head) shape.fields) sum.fields in
+    let s : State = of_parts head inputs.values ranks.values listed.values buffered.values sent.values moved.values in
+    (s, search rules, rw lines_are (grind (arith, common_steps)))
 
 -- ## One for one
 

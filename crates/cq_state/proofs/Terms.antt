@@ -4,7 +4,7 @@ pub use Rattle.cq_base.specs.declared.cell.Transfer.{Transfer}
 pub use Rattle.cq_lines.proofs.Going.{SoFar, one_line_more}
 pub use Rattle.cq_lines.specs.Ranges.{InRange, Within, any_number}
 pub use Rattle.cq_lines.specs.declared.range.Range.{Range}
-pub use Rattle.cq_state.specs.Gather.{AreLow, added, gathered, moved_of, named_of, nothing, number_at, rank_of, seen_of, sent_of}
+pub use Rattle.cq_state.specs.Gather.{AreLow, added, gathered, moved_of, named_of, nothing, number_at, rank_of, seen_of, sent_of, with_shape, with_sum}
 pub use Rattle.cq_state.specs.{Places.place_of, declared.kind.Kind.Kind, declared.state.Head.Head, declared.state.Named.Named, declared.state.Seen.Seen, declared.state.State.State}
 pub use Rattle.cq_state.specs.State.{AreRankNumbers, IsCount, IsInRange, IsMoved, IsNamed, IsSeen, IsSent, cell_line, cell_numbers, head_lines, input_line, line_by, moved_line, numbered, numbers, parts, rank_line, sent_line, state_text}
 unfoldable pub use Rattle.cq_state.specs.State.{state_lines}

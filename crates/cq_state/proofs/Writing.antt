@@ -35,8 +35,7 @@ module _ {X : Type 0} (xs : List X) (old : List ℕ) (line : ℕ → X → Line)
       now ≡ old ++ text (numbered line 0 (take i xs)) → IfErr r (IsTooLong now) →
       IfErr r (IsTooLong (old ++ text (numbered line 0 xs)))
   lines_long r now e long =
-      let all = ap (λ (ys : List X). length (text (numbered line 0 ys))) (take-append-drop i xs) in
-      long_on r now _ (grind (arith, common_steps, numbered_parts, flat_map-append, length-append)) long
+      grind (arith, common_steps, long_on r now, take-append-drop i xs, numbered_parts, flat_map-append, length-append)
 
 -- where it is too long with one of the parts behind the head, all of it is
 part_fits : (head : List Line) (ps : List (List Line)) (k : ℕ) (t0 t1 now : List ℕ) → k < length ps →

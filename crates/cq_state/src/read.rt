@@ -12,7 +12,7 @@ use std::alloc::Global;
 
 /// The state whose text this is, with its numbers in their ranges. The line that a refusal names is the first
 /// that is not allowed there, or is missing. No memory is taken but for what the lines that were read tell.
-#[tactic(auto, using(crate::proofs::Reading::fault_told, crate::proofs::Reading::line_told, crate::proofs::Reading::low_line, cq_lines::proofs::Going::ends_well))]
+#[tactic(auto, using(crate::proofs::Reading::reading_steps))]
 pub fn read_text(alloc: Global, text: &[u8]) -> Result<State, LineRefusal>
     ensures read { IfOk result (λ state. IsInRange state × (text.now ≡ state_text state)) }
     ensures cause { IfErr result (IsCause (IsStateFault text.now)) }
