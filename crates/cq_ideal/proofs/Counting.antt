@@ -98,22 +98,19 @@ module _ {cells : List (Option Cell)} {first : LimiterView} {input : ℕ} {now :
     (so_far : Counting cells first input now) (has : HasPorts first) where
   module _ (few : length first.limits ≤ most_ports) (inside : input < length first.limits)
       (places : length cells ≡ most_ports) where
-    split : (cell : Option Cell) → cell ≡ where_up (mark_at first.marks input) (arrival_at cells input) →
+    split : (cell : Option Cell) → cell ≡ where_up (mark_at now.marks input) (arrival_at cells input) →
         refused (drop input first.marks) (drop input cells)
         ≡ cell_listed cell ++ refused (drop (input + 1) first.marks) (drop (input + 1) cells)
     split cell is = search (arith, rules, drop_more, from_input)
 
-    pub counting_none : None ≡ where_up (mark_at first.marks input) (arrival_at cells input) →
-        Counting cells first (input + 1) now
-    counting_none is = search (arith, rules, split None is, fewer_left)
-
-    pub counting_some : (cell : Cell) (after : LimiterView) →
-        Some cell ≡ where_up (mark_at first.marks input) (arrival_at cells input) →
-        after.refused ≡ with_refused (cell ∷ []) now.refused → after.marks ≡ now.marks → after.held ≡ now.held →
-        after.limits ≡ now.limits → Counting cells first (input + 1) after
-    counting_some cell after is counted marks held limits =
-        let left = counts_left (length first.limits - (input + 1)) in
-        search (arith, rules, split (Some cell) is, all_counted_both (cell ∷ []), left)
+    pub counting_next : (cell : Option Cell) (after : LimiterView) →
+        cell ≡ where_up (mark_at now.marks input) (arrival_at cells input) →
+        after.refused ≡ with_refused (cell_listed cell) now.refused → after.marks ≡ now.marks →
+        after.held ≡ now.held → after.limits ≡ now.limits → Counting cells first (input + 1) after
+    counting_next cell after is counted marks held limits =
+        let one : length (cell_listed cell) ≤ 1 = grind (arith, common_steps) in
+        let left = counts_fit (cell_listed cell) (length first.limits - (input + 1)) 1 now.refused in
+        search (arith, rules, split cell is, all_counted_both (cell_listed cell), left)
 
 -- ## Arrivals that are judged
 
