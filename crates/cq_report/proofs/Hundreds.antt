@@ -47,3 +47,5 @@ pub line_feed_behind : (bytes front word : List ℕ) (end : ℕ) → 1 ≤ end �
     take end bytes ≡ front ++ (word ++ 32 ∷ []) → take end (set bytes (end - 1) 10) ≡ front ++ (word ++ 10 ∷ [])
 line_feed_behind bytes front word end some inside ends =
     search (arith, rules, take-set_at bytes (end - 1) end 10, without_last bytes (front ++ word) end 32, append_assoc)
+
+pub ruleset numeral_steps = (decimal_small, two_digits, three_digits)

@@ -1,5 +1,5 @@
 -- Texts of lines. In a text one line more stands behind the lines before it.
-use Rattle.cq_report.proofs.Terms.{common_steps, rules, ◌≡◌, ℕ, ◌+◌, ◌<◌, List, [], ◌∷◌, ◌++◌, length, take, get_or, append_assoc, arith, flat_map, append-nil, flat_map_more, take_more, length-take-le, numbered_lines}
+use Rattle.cq_report.proofs.Terms.{flat_map-map, common_steps, rules, ◌≡◌, ℕ, ◌+◌, ◌<◌, List, [], ◌∷◌, ◌++◌, length, take, get_or, append_assoc, arith, flat_map, append-nil, flat_map_more, take_more, length-take-le, numbered_lines}
 
 numbered_end : {X : Type 0} (line : ℕ → X → List ℕ) (n : ℕ) (xs : List X) (x : X) (m : ℕ) → m ≡ n + length xs →
     numbered_lines line n (xs ++ x ∷ []) ≡ numbered_lines line n xs ++ line m x
@@ -27,3 +27,7 @@ first_line line x left rest old new all first more so_far = grind (arith, common
 pub no_line_left : {X : Type 0} (line : X → List ℕ) (left : List X) (text all : List ℕ) → left ≡ [] →
     text ++ flat_map line left ≡ all → text ≡ all
 no_line_left line left text all none so_far = grind (arith, common_steps, append-nil)
+
+pub ruleset left_steps = (first_line, no_line_left)
+
+pub ruleset packed_steps = (flat_map-map)

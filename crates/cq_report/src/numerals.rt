@@ -56,6 +56,7 @@ impl Numerals {
     }
 }
 
+#[tactic(auto, using(crate::proofs::Hundreds::numeral_steps))]
 fn numeral_of(number: usize) -> Numeral
     requires { number < 1000 }
     ensures { IsNumeral number result }

@@ -95,6 +95,7 @@ fn put_output(
     put_named(text, b"wait", output.wait, b'\n')
 }
 
+#[tactic(auto, using(crate::proofs::OneMore::one_line_more))]
 fn put_limits(text: &mut Vec<u8>, refused: &[Refused]) -> Result<(), NoMemory>
     ensures { OnOk result (text.new.items ≡ text.old.items ++ flat_map limit_line refused.now) }
 {

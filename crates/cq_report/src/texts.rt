@@ -47,6 +47,7 @@ impl Lined for Transfer {
 }
 
 // The lines of the items, in the order in which they stand. Each has so many bytes at most.
+#[tactic(auto, using(crate::proofs::OneMore::one_line_more, std::proofs::lemmas::List::take_all))]
 fn text_of<T: Lined>(alloc: Global, items: &[T], most: usize) -> Result<Vec<u8>, NoMemory>
     ensures { IfOk result (λ text. text.items ≡ flat_map T.line items.now) }
 {
@@ -70,7 +71,7 @@ pub fn trace_text(alloc: Global, sent: &[Departure]) -> Result<Vec<u8>, NoMemory
 }
 
 /// The text of [`trace_text`] of departures that are packed. The error is want of memory.
-#[tactic(auto, unfolding(cq_base::specs::Texts::trace_of))]
+#[tactic(auto, using(crate::proofs::OneMore::packed_steps), unfolding(cq_base::specs::Texts::trace_of))]
 pub fn trace_text_of_packed(alloc: Global, sent: &[PackedDeparture]) -> Result<Vec<u8>, NoMemory>
     ensures { IfOk result (λ text. text.items ≡ trace_of (map unpacked sent.now)) }
 {
@@ -90,7 +91,7 @@ pub fn log_text(alloc: Global, note: &[Transfer]) -> Result<Vec<u8>, NoMemory>
 
 /// The text of [`log_text`]. The transfers are used up while it grows, so that their memory serves for it. The error
 /// is want of memory.
-#[tactic(auto, unfolding(cq_base::specs::Texts::log_of))]
+#[tactic(auto, using(crate::proofs::OneMore::left_steps), unfolding(cq_base::specs::Texts::log_of))]
 pub fn log_text_of_room(alloc: Global, note: Room<Transfer>) -> Result<Vec<u8>, NoMemory>
     ensures { IfOk result (λ text. text.items ≡ log_of note.items) }
 {
