@@ -61,3 +61,5 @@ pub one_more_digit : (n count : ℕ) (to mid : List ℕ) → 10 ≤ n → count 
 one_more_digit n count to mid h c k m =
     let put = set_at (decimal (n / 10)) (get_or to count 0) (drop (count + 1) to) (48 + n % 10) count (sym c) in
     search (arith, rules, m, drop_more to count 0 k, put, append_assoc, decimal_more n h)
+
+pub ruleset count_steps = (length-decimal_from, length-decimal_small)

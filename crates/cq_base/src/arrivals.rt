@@ -31,6 +31,7 @@ impl Model for Arrivals {
 
 impl Arrivals {
     /// No cell has come to any input.
+    #[tactic(auto, using(crate::proofs::Places::no_arrivals_are))]
     pub fn none() -> Arrivals
         ensures { result ≡ no_arrivals }
     {

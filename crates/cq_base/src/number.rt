@@ -42,6 +42,7 @@ fn short_digits(n: u64, to: &mut [u8; MOST_DIGITS]) -> usize
 }
 
 // How many decimal digits the number has.
+#[tactic(auto, using(crate::proofs::Decimals::count_steps))]
 fn count_of(n: u64) -> usize
     ensures count { result ≡ length (decimal n) }
     ensures most { result ≤ 39 }

@@ -26,6 +26,7 @@ impl<T: Drop> Model for Supply<T> {
 
 impl<T: Drop> Supply<T> {
     /// The items of the vector, in its order. It takes no memory.
+    #[tactic(auto, using(crate::proofs::Supplies::supply_steps))]
     pub fn of(mut items: Vec<T>) -> Self
         ensures { result ≡ items.items }
     {
@@ -34,6 +35,7 @@ impl<T: Drop> Supply<T> {
     }
 
     /// The first item, which is gone then, or None where none is left.
+    #[tactic(auto, using(crate::proofs::Supplies::supply_steps))]
     pub fn pop_first(&mut self) -> Option<T>
         ensures { MatchOption result ((self.old ≡ []) × (self.new ≡ [])) (λ item. self.old ≡ item ∷ self.new) }
     {
