@@ -2,11 +2,8 @@
 -- digit, and then that digit, so it is one digit longer. A number below 2 ^ 128 is below 10 ^ 39, so it has at most 39
 -- digits. A digit that is written right behind those at the front leaves what comes after it as it was, and one that is
 -- written right before those that stand there leaves one less to write.
-use Rattle.cq_base.proofs.Terms.{rules, ◌≡◌, ℕ, ◌+◌, ◌*◌, ◌<◌, ◌≤◌, ◌/◌, ◌%◌, ◌^◌, List, [], ◌∷◌, ◌++◌, length, map, refl, ap, sym, arith, lit≤, zero, suc, set, get_or, drop, length-append, append_assoc, common_steps, digits_of, digits_of_step, length-digits_of-le, map-append, length-map}
+use Rattle.cq_base.proofs.Terms.{rules, ◌≡◌, ℕ, ◌+◌, ◌*◌, ◌<◌, ◌≤◌, ◌/◌, ◌%◌, ◌^◌, List, [], ◌∷◌, ◌++◌, length, map, ap, arith, lit≤, zero, suc, set, drop, length-append, append_assoc, common_steps, digits_of, digits_of_step, length-digits_of-le, map-append, length-map, one-le-pow, drop-set_at, drop-set, drop_more, set_at}
 use Rattle.cq_base.specs.Decimal.{decimal}
-use Rattle.std.proofs.Math.Nat.{one-le-pow}
-use Rattle.std.proofs.lemmas.Grind.{drop-set_at}
-use Rattle.std.proofs.lemmas.List.{drop-set, drop_more, set_at}
 
 pub decimal_above : (n : ℕ) → 0 < n → decimal n ≡ map (λ d. 48 + d) (digits_of 10 n)
 unfolding decimal
@@ -44,9 +41,7 @@ length-decimal_from (suc tens) n from below =
 -- the number of which one digit is left gets its first one
 pub last_digit : (n end : ℕ) (to all : List ℕ) → n < 10 → 0 < length to → length (decimal n) ≡ end →
     decimal n ++ drop end to ≡ all → set to 0 (48 + n) ≡ all
-last_digit n end to all h room is had =
-    let itself : n ≡ n % 10 = omega arith in
-    grind (arith, common_steps, drop-set_at to 0 0 (48 + n) refl room, decimal_small n h)
+last_digit n end to all h room is had = grind (arith, common_steps, drop-set_at, decimal_small n h)
 
 -- a digit that is written right before those that stand there: one less is left
 pub one_digit_less : (n at end : ℕ) (to all : List ℕ) → 10 ≤ n → end ≡ at + 1 → at < length to →
@@ -59,7 +54,6 @@ pub one_more_digit : (n count : ℕ) (to mid : List ℕ) → 10 ≤ n → count 
     count < length to → mid ≡ decimal (n / 10) ++ drop count to →
     set mid count (48 + n % 10) ≡ decimal n ++ drop (count + 1) to
 one_more_digit n count to mid h c k m =
-    let put = set_at (decimal (n / 10)) (get_or to count 0) (drop (count + 1) to) (48 + n % 10) count (sym c) in
-    search (arith, rules, m, drop_more to count 0 k, put, append_assoc, decimal_more n h)
+    search (arith, rules, m, drop_more to count 0 k, set_at, append_assoc, decimal_more n h)
 
 pub ruleset count_steps = (length-decimal_from, length-decimal_small)

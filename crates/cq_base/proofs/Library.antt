@@ -1,18 +1,18 @@
 -- The library's words that proofs of ours use, each passed on from its place.
 pub use Rattle.std.proofs.Common.{Bool, Bor, Err, IfErr, IsErrAnd, IsErrOf, List, MatchOption, None, Ok, Option, Result, Some, String, [], add-one, add-zero, ap, append_assoc, ap₂, arith, bit_or, codes, cond, drop, eqb, false, fold, get_or, inl, inr, is_ok, leb, length, length-append, length-set, length-take, lit≤, ltb, map, min, mod-lt, mul-le-mul, nat_le, not, refl, replicate, reverse, rules, set, slice_index, string_bytes, subst, suc, sym, take, tests, true, vec_capacity, vec_len, w64, zero, ℕ, ⊎_elim, ◌%◌, ◌*◌, ◌++◌, ◌+◌, ◌-◌, ◌/◌, ◌<◌, ◌^◌, ◌||◌, ◌↔◌, ◌∙◌, ◌∷◌, ◌≡◌, ◌≢◌, ◌≤◌, ◌⊎◌}
 pub use Rattle.std.proofs.Math.Bool.{and-true, and_assoc, or-false}
-pub use Rattle.std.proofs.Math.Nat.{div-eq_of_lt, div-le_self, mul-le-mul_right, pow-suc}
+pub use Rattle.std.proofs.Math.Nat.{div-eq_of_lt, div-le_self, mul-le-mul_right, pow-suc, one-le-pow}
 pub use Rattle.std.proofs.Math.Seq.{drop-cons, get_or-append_seam, map-set_same, take-add, take-append-add, take-set-lt, take-suc}
 pub use Rattle.std.proofs.lemmas.Bool.{and_from, and_left, and_parts, and_right, both_ways, cases_Bool, cases_eq, cases_lt, cases_order, cond-false, cond-true, cond_both, eq-eqb, eqb-false, eqb-true, false_from_ne_true, le-leb, le-ltb, leb-false, leb-true, lt-leb, lt-ltb, ltb-false, ltb-true, ne_eqb, not-true, not_from_false, or_cases, or_left, or_right, true≢false}
 pub use Rattle.std.proofs.lemmas.Bool.Decides.{Decides-and, Decides-eqb, Decides-like, nat_tests, same_from_decides}
 pub use Rattle.std.proofs.lemmas.Cmp.{tied_itself}
 pub use Rattle.std.proofs.lemmas.Fn.{always_returns_same}
-pub use Rattle.std.proofs.lemmas.Grind.{common_steps, div_ceil_times, take-set_at}
+pub use Rattle.std.proofs.lemmas.Grind.{common_steps, div_ceil_times, take-set_at, drop-set_at}
 pub use Rattle.std.proofs.lemmas.Int.Digits.{all_below_base_digits_of, digits_of_step, first_digits_of, length-digits_of-le, number_digits_of}
 pub use Rattle.std.proofs.lemmas.Iterator.{YieldsList-from_map, YieldsList-from_range, YieldsList-from_slice, items_from_collect}
 pub use Rattle.std.proofs.lemmas.Iterator.Adapters.{items_from_extend}
 pub use Rattle.std.proofs.lemmas.Iterator.Search.{find_from_yields_List}
-pub use Rattle.std.proofs.lemmas.List.{append-nil, append_cancel_left, at_drop_all, at_drop_more, drop-append-le, drop-drop, drop-map, drop-replicate, drop-set-lt, drop-take, drop_all, drop_at, drop_more, ext_get_or, flat_map_more, get_or-append-add, get_or-drop, get_or-map, get_or-replicate, get_or-set_other, get_or-set_same, get_or-take, get_or_append_left, get_or_at, get_or_default, get_or_past, get_or_read, length-drop, length-map, length-replicate, length-take-le, length_push, map-append, map-id, map-set, map_more, map_push, nil_from_length, replicate-append-replicate, replicate_more, reverse-append, reverse-reverse, same_lists, set-get_or, set-set, set_at, set_past, take-append-drop, take-append-le, take-map, take-replicate, take-set, take-set-le, take-take, take_all, take_at, take_min, take_more, take_more_set, take_rest, with_items_is}
+pub use Rattle.std.proofs.lemmas.List.{append-nil, append_cancel_left, at_drop_all, at_drop_more, drop-append-le, drop-drop, drop-map, drop-replicate, drop-set-lt, drop-take, drop_all, drop_at, drop_more, ext_get_or, flat_map_more, get_or-append-add, get_or-drop, get_or-map, get_or-replicate, get_or-set_other, get_or-set_same, get_or-take, get_or_append_left, get_or_at, get_or_default, get_or_past, get_or_read, length-drop, length-map, length-replicate, length-take-le, length_push, map-append, map-id, map-set, map_more, map_push, nil_from_length, replicate-append-replicate, replicate_more, reverse-append, reverse-reverse, same_lists, set-get_or, set-set, set_at, set_past, take-append-drop, take-append-le, take-map, take-replicate, take-set, take-set-le, take-take, take_all, take_at, take_min, take_more, take_more_set, take_rest, with_items_is, drop-set}
 pub use Rattle.std.proofs.lemmas.List.Concat.{flat_map-append}
 pub use Rattle.std.proofs.lemmas.List.Edits.{get_or-insert_at, get_or-insert_below, insert-append_left, insert-append_right, insert_end, length-insert, length-paste, length-remove, remove-append_left, remove-append_right, take-paste}
 pub use Rattle.std.proofs.lemmas.List.Elements.{All-from_recursion, All-push, All-replicate, All-set, filter-append, filter_agree, filter_map-append, filter_more, filter_passes, recursion_from_All}

@@ -4,10 +4,10 @@
 -- of arrival: a cell that goes in at the least of the three places stands after every more urgent cell for its
 -- output, for these stand below its cushion, and before every less urgent one, for the first of these is one of the
 -- three places.
-use Rattle.cq_base.proofs.Terms.{common_steps, rules, ◌≡◌, ◌≢◌, ℕ, zero, suc, ◌+◌, ◌<◌, ◌≤◌, Bool, true, false, not, cond, List, [], ◌∷◌, length, Option, None, Some, refl, sym, ap, ◌∙◌, arith, ◌&&◌, slice_get, position, unwrap_or, insert, AllByRecursion, position_or_len, cond_both, eqb-true, eq-eqb, and_from, cases_Bool, cases_lt, ltb-false, slice_get_within, slice_get_past, slice_get-get_or, same_Some, find_at, passes_at_first, is_before, prefix_len-le-length}
+use Rattle.cq_base.proofs.Terms.{common_steps, rules, ◌≡◌, ◌≢◌, ℕ, zero, suc, ◌+◌, ◌<◌, ◌≤◌, Bool, true, false, not, cond, List, [], ◌∷◌, length, Option, None, Some, refl, ap, arith, ◌&&◌, slice_get, position, unwrap_or, insert, AllByRecursion, position_or_len, cond_both, eqb-true, eq-eqb, and_from, cases_Bool, cases_lt, ltb-false, slice_get_within, slice_get_past, slice_get-get_or, find_at, passes_at_first, is_before, prefix_len-le-length}
 use Rattle.cq_base.specs.declared.cell.Queued.{Queued}
 use Rattle.cq_base.specs.Items.{EachPair}
-use Rattle.cq_base.specs.Cells.{IsBefore, KeepsOrder, KeysDiffer, HasOtherKey, MoreUrgentAhead, ArrivedBefore, is_for, first_for, without_first, place_of_later, place_of_arrival, with_arrival}
+use Rattle.cq_base.specs.Cells.{IsBefore, KeepsOrder, KeysDiffer, HasOtherKey, MoreUrgentAhead, ArrivedBefore, is_for, first_for, without_first, place_of_arrival, with_arrival}
 use Rattle.cq_base.proofs.Having.{all_from_has, all_of_has, has_there, stands_at}
 use Rattle.cq_base.proofs.Keys.{key_laws}
 use Rattle.cq_base.proofs.Putting.{after_other}
@@ -21,11 +21,6 @@ all_at P xs t c a h = all_of_has P xs c a (has_there xs t c h)
 pub all_by : {X : Type 0} (P : X → Type 0) (xs : List X) → ((t : ℕ) (c : X) → slice_get xs t ≡ Some c → P c) →
     AllByRecursion P xs
 all_by P xs f = search (rules, all_from_has, stands_at, f)
-
--- one place shows one cell
-same_shown : {X : Type 0} (xs : List X) (s t : ℕ) (a b : X) → s ≡ t → slice_get xs s ≡ Some a →
-    slice_get xs t ≡ Some b → a ≡ b
-same_shown xs s t a b e at_s at_t = same_Some a b (sym at_s ∙ ap (slice_get xs) e ∙ at_t)
 
 -- of two places the relation holds in their order
 pub each_pair_at : {X : Type 0} (R : X → X → Type 0) (xs : List X) (s t : ℕ) (a b : X) → EachPair R xs →
@@ -114,11 +109,9 @@ module _ (cushion : ℕ) (n : Queued) (xs : List Queued) (order : KeepsOrder xs)
       n.cell.output ≡ x.cell.output → IsBefore n x
   unfolding is_later
   after_arrival s x at l e =
-      let back = after_other n.key x.key in
-      let passes = passes_at_first is_later xs x in
-      let there = slice_get-get_or xs (place_of_later n xs) x in
+      let pass = passes_at_first is_later xs x in
       let inside = slice_get_within xs s x at in
-      search (arith, rules, back, differs, passes, eqb-true, there, each_pair_at, key_laws.on, same_shown, cases_lt)
+      search (arith, rules, after_other, differs, pass, eqb-true, slice_get-get_or, each_pair_at, key_laws.on, cases_lt)
 
   pub keeps_order_arrival : KeepsOrder (with_arrival cushion n xs)
   keeps_order_arrival = search

@@ -133,9 +133,7 @@ module _ {A B : Type 0} (f : A → Option B) where
       EachPair S (filter_map f xs)
   pairs_looked_up R S gives [] pairs = tt
   pairs_looked_up R S gives (x ∷ xs) pairs =
-      let own = λ (a : B) (some : f x ≡ Some a). all_from_has (S a) (filter_map f xs)
-      (search (arith, rules, looked_up xs, all_of_has (R x) xs)) in
-      grind (arith, common_steps, own, pairs_looked_up R S gives xs pairs.1)
+      search (arith, rules, all_from_has, looked_up xs, all_of_has (R x) xs, pairs_looked_up R S gives xs pairs.1)
 
   -- no more pass a test when they are looked up than pass another one before
   pub kept_few : (p : B → Bool) (q : A → Bool) → ((x : A) (y : B) → f x ≡ Some y → p y ≡ true → q x ≡ true) →
@@ -166,5 +164,4 @@ pub numbers_few : {A : Type 0} (f : A → ℕ) (xs : List A) (n : ℕ) → EachP
     AllByRecursion (λ x. f x < n) xs → length xs ≤ n
 numbers_few {A} f xs n pairs below =
     let Own : A → ℕ → Type 0 = λ x k. f x ≡ k in
-    let row = range_with_len 0 n in
-    search (arith, rules, no_more Own xs row, length-range_with_len, pairs_with, all_weaker, has_number)
+    search (arith, rules, no_more Own xs (range_with_len 0 n), length-range_with_len, pairs_with, all_weaker, has_number)
