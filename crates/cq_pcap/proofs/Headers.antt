@@ -3,7 +3,7 @@
 -- The first bytes of a file tell its form, or the first fault of its header: the tests compare what the rule compares.
 -- What the bytes from a place on come to: a packet where a whole record stands there, or else what is wrong with it.
 -- The three faults are tried in their order.
-use Rattle.cq_pcap.proofs.Terms.{rules, ◌≡◌, ℕ, ◌%◌, ◌^◌, ◌≤◌, List, ◌++◌, length, refl, subst, arith, length-append, common_steps, Option, None, Some, Result, Ok, Err, Decides, Decides-and, Decides-eqb, Decides-like, nat_tests, take-append-le, bytes_eq-Decides, Form, form_at, number_at, PcapRefusal, IsFaulty, has_link_type, has_version, header_form, offset_of, HasMagic, HasVersion, HasLinkType, IsHeader, zero, suc, ◌+◌, ◌<◌, [], ◌∷◌, drop, slice_index, ap, sym, Bool, true, false, drop-append-le, drop-drop, get_or-drop, length-drop, be_bytes_4, le_bytes_4, bytes_in, number_in, ◌*◌, take, unit, Captured, longest_body, CutHeader, LongRecord, CutBody, first_packet}
+use Rattle.cq_pcap.proofs.Terms.{get_or_append_left, get_or_past, cases_lt, rules, ◌≡◌, ℕ, ◌%◌, ◌^◌, ◌≤◌, List, ◌++◌, length, refl, subst, arith, length-append, common_steps, Option, None, Some, Result, Ok, Err, Decides, Decides-and, Decides-eqb, Decides-like, nat_tests, take-append-le, bytes_eq-Decides, Form, form_at, number_at, PcapRefusal, IsFaulty, has_link_type, has_version, header_form, offset_of, HasMagic, HasVersion, HasLinkType, IsHeader, ◌+◌, ◌<◌, [], ◌∷◌, drop, slice_index, ap, sym, Bool, drop-append-le, drop-drop, get_or-drop, length-drop, be_bytes_4, le_bytes_4, bytes_in, number_in, ◌*◌, take, unit, Captured, longest_body, CutHeader, LongRecord, CutBody, first_packet}
 use Rattle.byteorder.specs.Numbers.{big_from-append, big_from-lt, big_number-reads_back, little_from-append, little_from-lt, little_number-reads_back}
 
 -- each is a byte
@@ -34,23 +34,15 @@ pub number_at-lt : (big : Bool) (xs : List ℕ) (at : ℕ) → AreBytes xs → n
 unfolding number_at
 number_at-lt big xs at fits = grind (arith, common_steps, little_from-lt, big_from-lt, AreBytes-drop)
 
+front_fits : (xs ys : List ℕ) → AreBytes (xs ++ ys) → AreBytes xs
+front_fits xs ys fits i = search (arith, rules, get_or_append_left, get_or_past, cases_lt i (length xs), fits i)
+
 -- four bytes are those of the number in them
 four_spelt : (big : Bool) (a b c d : ℕ) (ys : List ℕ) → AreBytes (a ∷ b ∷ c ∷ d ∷ ys) →
     a ∷ b ∷ c ∷ d ∷ ys ≡ bytes_in big 4 (number_in big 4 (a ∷ b ∷ c ∷ d ∷ ys)) ++ ys
-four_spelt big a b c d ys fits = spelt_in big
-  where
-    four : AreBytes (a ∷ b ∷ c ∷ d ∷ [])
-    four zero = fits 0
-    four (suc zero) = fits 1
-    four (suc (suc zero)) = fits 2
-    four (suc (suc (suc zero))) = fits 3
-    four (suc (suc (suc (suc k)))) = omega arith
-
-    spelt_in : (o : Bool) → a ∷ b ∷ c ∷ d ∷ ys ≡ bytes_in o 4 (number_in o 4 (a ∷ b ∷ c ∷ d ∷ ys)) ++ ys
-    spelt_in false = ap (λ xs. xs ++ ys)
-        (sym (le_bytes_4 (a ∷ b ∷ c ∷ d ∷ []) (number_in false 4 (a ∷ b ∷ c ∷ d ∷ ys)) refl four (omega arith)))
-    spelt_in true = ap (λ xs. xs ++ ys)
-        (sym (be_bytes_4 (a ∷ b ∷ c ∷ d ∷ []) (number_in true 4 (a ∷ b ∷ c ∷ d ∷ ys)) refl four (omega arith)))
+four_spelt big a b c d ys fits =
+    let front = front_fits (a ∷ b ∷ c ∷ d ∷ []) ys fits in
+    grind (arith, common_steps, le_bytes_4 (a ∷ b ∷ c ∷ d ∷ []), be_bytes_4 (a ∷ b ∷ c ∷ d ∷ []), front)
 
 pub number_at-spelt : (big : Bool) (xs : List ℕ) (at next : ℕ) → AreBytes xs → next ≡ at + 4 → next ≤ length xs →
     drop at xs ≡ bytes_in big 4 (number_at big 4 xs at) ++ drop next xs

@@ -65,16 +65,8 @@ module _ (form : Form) (bytes : List ℕ) (at : ℕ) (packets : List Captured) (
 -- the first 24 bytes are a header where all bytes say so
 module _ (form : Form) (bytes : List ℕ) (long : 24 ≤ length bytes) (m : HasMagic form bytes)
     (v : HasVersion form bytes) (l : HasLinkType form bytes) where
-  header_length : length (take 24 bytes) ≡ 24
-  header_length = length-take-le 24 bytes long
-
-  in_header : (n at : ℕ) → at + n ≤ 24 → number_at form.big n (take 24 bytes) at ≡ number_at form.big n bytes at
-  in_header n at h =
-      let same = number_at-append form.big n (take 24 bytes) (drop 24 bytes) at (omega (arith, header_length)) in
-      cc (same, take-append-drop 24 bytes)
-
   begins : IsHeader form (take 24 bytes)
-  begins = grind (arith, common_steps, header_length, take-append-le, take-append-drop, in_header)
+  begins = search (arith, rules, length-take-le, take-append-le, take-append-drop 24 bytes, number_at-append)
 
   pub spelt_none : SpellsIn form (take 24 bytes) []
   spelt_none = grind (arith, common_steps, begins, append-nil (take 24 bytes))

@@ -2,8 +2,7 @@
 -- header on, they end at that place, and the bytes before it are a capture of their packets. A whole record at that
 -- place goes on so: the record read there is spelt by the bytes up to its end. A fault there is the file's, and where
 -- no byte is left the file is a capture.
-use Rattle.std.proofs.Common.{rules}
-use Rattle.cq_pcap.proofs.Terms.{◌≡◌, ℕ, ◌+◌, ◌-◌, ◌<◌, ◌≤◌, ◌^◌, List, [], ◌∷◌, ◌++◌, length, take, drop, ap, sym, arith, add-zero, common_steps, map-append, length-drop, length-take-le, drop-drop, take_all, take_rest, All-push, sum_by-cons, sum_by_push, Ok, Err, Some, None, sum_by, Form, PcapRefusal, Captured, rows_from, file_length, first_packet, header_form, AreRowsOf, AreRowsTo, AreSpelt, IsFaultAt, IsRowOf, packet_at, packets_at, all_both, IfOk-weaker, IfErr-weaker}
+use Rattle.cq_pcap.proofs.Terms.{rules, ◌≡◌, ℕ, ◌+◌, ◌-◌, ◌<◌, ◌≤◌, ◌^◌, List, [], ◌∷◌, ◌++◌, length, take, drop, ap, sym, arith, add-zero, common_steps, map-append, length-drop, length-take-le, drop-drop, take_all, take_rest, All-push, sum_by-cons, sum_by_push, Ok, Err, Some, None, sum_by, Form, PcapRefusal, Captured, rows_from, file_length, first_packet, header_form, AreRowsOf, AreRowsTo, AreSpelt, IsFaultAt, IsRowOf, packet_at, packets_at, all_both, IfOk-weaker, IfErr-weaker}
 use Rattle.cq_pcap.specs.declared.capture.PacketRow.{PacketRow}
 use Rattle.cq_pcap.proofs.Headers.{header_is, header_place, AreBytes, AreBytes-drop, first_says}
 use Rattle.cq_pcap.proofs.ReadIsSpelt.{body_length, faulty_at, spelt_more, spelt_none}
@@ -34,9 +33,7 @@ module _ (form : Form) (bytes : List ℕ) (at : ℕ) (row : PacketRow) (r : IsRo
 
 -- the header alone, where it is one of a form
 pub rows_none : (form : Form) (bytes : List ℕ) → header_form bytes ≡ Ok form → AreRowsTo form bytes 24 []
-rows_none form bytes e =
-    let h = header_is bytes (Ok form) e in
-    grind (arith, common_steps, spelt_none form bytes h.0 h.1 h.2 h.3)
+rows_none form bytes e = search (arith, rules, spelt_none, header_is bytes (Ok form) e)
 
 ruleset longer = (sum_by_push, All-push)
 

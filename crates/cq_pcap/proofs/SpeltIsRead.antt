@@ -56,9 +56,8 @@ capture_read : (form : Form) (front rest : List ℕ) (packets : List Captured) (
 unfolding packets_of packets_from
 capture_read form front rest packets left ends at then s =
     let spelt = flat_map (spelling form.big) s.records in
-    let read = records_read form (length (spelt ++ rest)) 24 ends s.records rest left then s.fit in
     let after = drop_at s.header (spelt ++ rest) 24 in
-    search (arith, rules, read, length-append, append_assoc, header_read form s.header, after)
+    search (arith, rules, records_read, length-append, append_assoc, header_read form s.header, after)
 
 pub spelt_is_read : (bytes : List ℕ) (packets : List Captured) → Spells bytes packets → packets_of bytes ≡ Ok packets
 spelt_is_read bytes packets s =

@@ -1,5 +1,4 @@
-use Rattle.cq_pcap.proofs.Terms.{rules, first_packet}
-use Rattle.std.proofs.lemmas.Bool.Decides.{nat_tests}
+use Rattle.cq_pcap.proofs.Terms.{rules, first_packet, nat_tests}
 use Rattle.cq_pcap.proofs.read.row_of.Goals as goal
 
 pub returns-clause-row : goal.returns-clause-row
