@@ -10,6 +10,7 @@ ghost use Rattle.cq_pcap.specs.declared.read.PcapRefusal.{PcapRefusal};
 ghost use Rattle.cq_pcap.specs.declared.write.OutPacket.{OutPacket};
 
 /// Each file of bytes is a capture of one list of packets, or has one first fault, and never both.
+#[tactic(auto, using(crate::proofs::ReadIsSpelt::spelt_or_faulty, crate::proofs::SpeltIsRead::fault_is_read))]
 pub fn a_file_has_packets_or_a_fault()
     ensures either { (bytes : List ℕ) → ((i : ℕ) → slice_index bytes i < 256)
         → ((packets : List Captured) × Spells bytes packets) ⊎ ((fault : PcapRefusal) × IsFaulty bytes fault) }

@@ -1,16 +1,8 @@
-use Rattle.cq_pcap.proofs.Terms.{arith, rules}
-use Rattle.cq_pcap.proofs.ReadIsSpelt.{spelt_or_faulty}
 use Rattle.cq_pcap.proofs.SpeltIsRead.{fault_is_read, spelt_is_read}
 use Rattle.cq_pcap.proofs.laws.a_file_has_packets_or_a_fault.Goals as goal
-
-pub returns-clause-either : goal.returns-clause-either
-returns-clause-either c = spelt_or_faulty
 
 pub returns-clause-never_both : goal.returns-clause-never_both
 returns-clause-never_both c bytes packets fault s f = cc (spelt_is_read bytes packets s, fault_is_read bytes fault f)
 
 pub returns-clause-one_list : goal.returns-clause-one_list
 returns-clause-one_list c bytes packets others s t = cc (spelt_is_read bytes packets s, spelt_is_read bytes others t)
-
-pub returns-clause-one_fault : goal.returns-clause-one_fault
-returns-clause-one_fault c bytes fault other f g = search (arith, rules, fault_is_read)
