@@ -26,6 +26,7 @@ pub fn put_line(text: &mut Vec<u8>, word: &[u8], fields: &[Option<u128>]) -> Res
 }
 
 // The same, but that an error leaves what was put before memory ran out.
+#[tactic(auto, using(crate::proofs::Walk::gathers_on, crate::proofs::Walk::still_before))]
 fn put_parts(text: &mut Vec<u8>, word: &[u8], fields: &[Option<u128>]) -> Result<(), NoMemory>
     ensures line { OnOk result (text.new.items ≡ text.old.items ++ line word.now fields.now) }
     ensures before { OnErr result (take (length text.old.items) text.new.items ≡ text.old.items) }
