@@ -26,3 +26,5 @@ pub draws_all : (seed count : ℕ) (words : List ℕ) (generator : Lcg) → coun
     Draws seed count words generator → words ≡ first_draws seed count
 unfolding first_words
 draws_all seed count words generator enough d = grind (arith, common_steps, append-nil)
+
+pub ruleset draw_steps = (draws_none, draws_more, draws_all)

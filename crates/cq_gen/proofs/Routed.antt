@@ -52,3 +52,5 @@ pub packet_begins_its_slot : (ports slot input word : ℕ) →
     (packet_of ports slot input word).stamp ≡ slot * (soak_tables ports).slot_ns
 unfolding packet_of soak_tables plain_tables
 packet_begins_its_slot ports slot input word = refl
+
+pub ruleset packet_steps = (packet_routed, packet_fills_one_cell, packet_begins_its_slot)

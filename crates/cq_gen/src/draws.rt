@@ -9,6 +9,7 @@ use rand_pcg::Pcg32;
 use std::alloc::Global;
 
 /// The first words of the generator that is made from the seed. The error is want of memory.
+#[tactic(auto, using(crate::proofs::Drawn::draw_steps), unfolding(crate::specs::Draws::generator_of))]
 pub fn first_draws(alloc: Global, seed: u64, count: usize) -> Result<Vec<u32>, NoMemory>
     ensures words { IfOk result (λ words. words.items ≡ first_draws seed count) }
     ensures count { IfOk result (λ words. length words.items ≡ count) }
