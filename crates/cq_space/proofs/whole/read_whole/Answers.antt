@@ -27,19 +27,13 @@ returns-in-Err-read-clause-broken g c = λ _. Later c.pieces.bytes.items c.piece
     (grind (arith, common_steps)) (search (arith, rules, g.F.Files.space))
 
 pub returns-in-Ok-eq0-clause-kept : goal.returns-in-Ok-eq0-clause-kept
-returns-in-Ok-eq0-clause-kept g c =
-    let both = g.met.F.Files.lasts_unbegun.both in
-    both _ _ _ (both _ _ _ c.pieces.invariant.kept c.in-Ok-eq0.ensures.answered.kept) c.end_read.ensures.kept
+returns-in-Ok-eq0-clause-kept g c = search (arith, rules, g.met.F.Files.lasts_unbegun.both)
 
 pub returns-in-Err-read-clause-kept : goal.returns-in-Err-read-clause-kept
-returns-in-Err-read-clause-kept g c =
-    let both = g.met.F.Files.lasts_unbegun.both in
-    both _ _ _ c.pieces.invariant.kept c.in-Err-read.ensures.answered.kept
+returns-in-Err-read-clause-kept g c = search (arith, rules, g.met.F.Files.lasts_unbegun.both)
 
 pub returns-then-is_err-clause-kept : goal.returns-then-is_err-clause-kept
-returns-then-is_err-clause-kept g c =
-    let both = g.met.F.Files.lasts_unbegun.both in
-    both _ _ _ (both _ _ _ c.pieces.invariant.kept c.in-Ok.ensures.answered.kept) c.end_read-then-is_err.ensures.kept
+returns-then-is_err-clause-kept g c = search (arith, rules, g.met.F.Files.lasts_unbegun.both)
 
 pub returns-clause-kept : goal.returns-clause-kept
-returns-clause-kept g c = g.met.F.Files.lasts_unbegun.both _ _ _ c.pieces.invariant.kept c.end_read-2.ensures.kept
+returns-clause-kept g c = search (arith, rules, g.met.F.Files.lasts_unbegun.both)
