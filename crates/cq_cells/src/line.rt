@@ -216,6 +216,7 @@ fn start_before(rows: &[Row], number: usize) -> Slot
 }
 
 // How many packets have arrived whole before the slot. Of those that have begun only the last may not have.
+#[tactic(auto, using(crate::proofs::Looked::starts_rise))]
 fn ended(rows: &[Row], _cell_bytes: u32, slot: Slot, near: usize) -> usize
     requires { AreRows _cell_bytes rows.now }
     ensures few { result ≤ length rows.now }

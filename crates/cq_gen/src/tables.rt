@@ -73,6 +73,7 @@ fn kind_of(output: Port) -> Kind
 }
 
 // The disciplines of the outputs, in order.
+#[tactic(auto, using(std::proofs::lemmas::Iterator::items_from_collect))]
 fn kinds(alloc: Global, ports: Port) -> Result<Vec<Kind>, AllocError>
     ensures { IfOk result (λ kinds. kinds.items ≡ map soak_kind (range_with_len 0 ports)) }
 {
@@ -117,6 +118,7 @@ fn addresses(alloc: Global, ports: Port) -> Result<Vec<AddressRow>, NoMemory>
 }
 
 // A rule for each priority.
+#[tactic(auto, using(std::proofs::lemmas::Iterator::items_from_collect))]
 fn rules(alloc: Global) -> Result<Vec<RuleRow>, AllocError>
     ensures { IfOk result (λ rules. rules.items ≡ map soak_rule (range_with_len 0 8)) }
 {

@@ -76,6 +76,7 @@ fn put_field(bytes: &mut [u8; GATHERED], at: usize, told: Option<u128>) -> usize
 }
 
 // Writes a number from a place on, where its most digits have room.
+#[tactic(auto, using(crate::proofs::Walk::copied_in))]
 fn put_number(bytes: &mut [u8; GATHERED], at: usize, number: u128) -> usize
     requires { at + 39 ≤ 128 }
     ensures text { take result bytes.new ≡ take at bytes.old ++ decimal number }

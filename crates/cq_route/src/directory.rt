@@ -50,6 +50,7 @@ impl Directory {
         (output, tables.class_for(input, &parts(bytes)))
     }
 
+    #[tactic(auto, using(crate::proofs::Listed::goes_to, crate::proofs::Listed::goes_nowhere))]
     fn output_for(&self, tables: &Tables, dest: Option<[u8; 6]>) -> Port
         requires { IsDirectoryOf tables.now self.now }
         ensures { result ≡ output_for tables.now dest }
@@ -81,6 +82,7 @@ fn learn(outputs: &mut HashMap<u64, Port>, number: u64, output: Port) -> Result<
 }
 
 // The number that the six bytes of an address write, of which the first weighs most.
+#[tactic(auto, unfolding(crate::specs::Directory::number_of))]
 fn number_of(mac: &[u8]) -> u64
     requires { length mac.now ≡ 6 }
     ensures number { result ≡ number_of mac.now }
