@@ -1,7 +1,7 @@
 -- The place of the item number k of those that pass a test. It is read one item at a time: an item that fails is
 -- passed over, the first that passes is the answer for k = 0, and else leaves one less to look for. So it is the
 -- place at which a second test is first met among those that pass the first.
-use Rattle.cq_list.proofs.Terms.{rules, ◌≡◌, ◌≢◌, ℕ, ◌+◌, ◌-◌, ◌<◌, ◌≤◌, eqb, Bool, true, false, cond, List, [], ◌∷◌, ◌++◌, length, get_or, drop, map, refl, ap, arith, common_steps, ◌&&◌, filter, position_or_len, eq-eqb, ne_eqb, cases_Bool, cases_eq, drop_more, drop_all, first_here, first_later, place_of_nth, is_output}
+use Rattle.cq_list.proofs.Terms.{length-remove, rules, ◌≡◌, ◌≢◌, ℕ, ◌+◌, ◌-◌, ◌<◌, ◌≤◌, eqb, Bool, true, false, cond, List, [], ◌∷◌, ◌++◌, length, get_or, drop, map, refl, ap, arith, common_steps, ◌&&◌, filter, position_or_len, eq-eqb, ne_eqb, cases_Bool, cases_eq, drop_more, drop_all, first_here, first_later, place_of_nth, is_output}
 
 -- ## One item
 
@@ -81,3 +81,5 @@ pub nth_behind : {X : Type 0} (p : X → Bool) (k : ℕ) (xs ys : List X) → le
 nth_behind p k [] ys past = grind (arith, common_steps)
 nth_behind p k (x ∷ xs) ys past =
     search (rules, passes, nth_next, fails, nth_other, cases_Bool, nth_behind p (k - 1) xs ys, nth_behind p k xs ys)
+
+pub ruleset remove_first_steps = (nth_inside, nth_in_front, nth_is_first, length-remove)

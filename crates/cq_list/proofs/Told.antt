@@ -1,6 +1,6 @@
 -- What is told of a list, place after place: each place takes the head of the queue of its output. What is told, and
 -- what the queues tell at the places that are left, stay the same cells, so no cell is looked for.
-use Rattle.cq_list.proofs.Terms.{common_steps, rules, ◌≡◌, ℕ, ◌<◌, List, [], ◌∷◌, ◌++◌, length, drop, eq-eqb, Some, refl, sym, ap, ◌∙◌, arith, concat, filter-append, length-append, append_assoc, append-nil, length-drop, slice_get, slice_set, cond_both, Queued, Queues, merged, without_head, CanTell, HaveTold, queue_of}
+use Rattle.cq_list.proofs.Terms.{drop_more, drop_all, common_steps, rules, ◌≡◌, ℕ, ◌<◌, List, [], ◌∷◌, ◌++◌, length, drop, eq-eqb, Some, refl, sym, ap, ◌∙◌, arith, concat, filter-append, length-append, append_assoc, append-nil, length-drop, slice_get, slice_set, cond_both, Queued, Queues, merged, without_head, CanTell, HaveTold, queue_of}
 use Rattle.cq_list.proofs.Nth.{passes, fails}
 use Rattle.cq_list.proofs.Kept.{queue_inside, queue_of-set}
 
@@ -43,3 +43,5 @@ block_first {rest = rest} met same = ap concat met ∙ ap (λ l. l ++ concat res
 pub none_left : (left : List (List ℕ)) {queues : Queues} {cells all : List Queued} →
     HaveTold (concat left) queues cells all → length left ≡ 0 → cells ≡ all
 none_left left t none = grind (arith, common_steps, append-nil)
+
+pub ruleset tell_steps = (some_left, can_next, told_next, drop_more, drop_all)

@@ -51,6 +51,7 @@ fn place_behind(places: &Places, output: Port, ahead: usize, all: usize) -> usiz
 
 // Tells the cells at these places, behind those that are told. The places that are left go on telling the same cells.
 // The error is want of memory.
+#[tactic(auto, using(crate::proofs::Told::tell_steps))]
 fn tell<'a>(cells: &mut Vec<Queued>, heads: &mut Heads<'a>, places: &[Port]) -> Result<(), NoMemory>
     requires { CanTell places.now (queue_of heads.old) }
     ensures { OnOk result ((left : List ℕ) (all : List Queued) →

@@ -227,6 +227,7 @@ fn find_in_run(
 
 // The same in all blocks. Its run is looked for from both ends at once, so it is met from the nearer one. The sums tell
 // nothing of an output that no port has: it is looked for block by block.
+#[tactic(auto, using(crate::proofs::BlockWalk::find_from_ends_steps))]
 fn find_from_ends(blocks: &SummedBlocks, output: Port, number: usize, all: Ahead) -> (usize, Spot)
     requires all { IsAhead blocks.now.blocks output (length blocks.now.blocks) all.places all.own }
     requires there { number < all.own }
@@ -596,6 +597,7 @@ impl Places {
     }
 
     /// How many of the places ahead of this one are an output's.
+    #[tactic(auto, using(cq_base::proofs::Each::few_kept, crate::proofs::First::count_behind))]
     pub fn count_ahead(&self, output: Port, place: usize) -> usize
         requires { place ≤ length self.now.outputs }
         ensures { result ≡ count_of output (take place self.now.outputs) }
@@ -645,7 +647,7 @@ impl Places {
     }
 
     /// Takes the first place of an output out, of so many in all, which gives its room back.
-    #[tactic(auto, using(crate::proofs::Nth::nth_is_first))]
+    #[tactic(auto, using(crate::proofs::Nth::nth_is_first, crate::proofs::Nth::remove_first_steps))]
     pub fn remove_first(&mut self, output: Port, all: usize)
         requires all { all ≡ count_of output self.old.outputs }
         requires some { 0 < all }

@@ -2,14 +2,6 @@ use Rattle.cq_list.proofs.Terms.{rules, arith, ◌++◌, ◌+◌, drop, drop_all
 use Rattle.cq_list.proofs.Told.{some_left, can_next, told_next}
 use Rattle.cq_list.proofs.input_list.tell.Goals as goal
 
-pub places-init : goal.places-init
-places-init c = record { can = c.requires; on = λ left all t. t }
-
-pub next-requires : goal.next-requires
-next-requires c =
-    let next = drop_more c.args.places.now c.places.output-index 0 c.places-test.true in
-    some_left _ _ _ (rw next at c.places.invariant.can)
-
 pub places-preserved : goal.places-preserved
 places-preserved c =
     let next = drop_more c.args.places.now c.places.output-index 0 c.places-test.true in

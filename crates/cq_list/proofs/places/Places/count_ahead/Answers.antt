@@ -4,8 +4,3 @@ use Rattle.cq_list.proofs.places.Places.count_ahead.Goals as goal
 
 pub overflow_add-result : goal.overflow_add-result
 overflow_add-result c = search (arith, rules, few_kept, length-take)
-
-pub returns : goal.returns
-returns c =
-    let seen = ap (λ (v : PlacesView). count_of c.args.output (take c.args.place v.outputs)) c.self.view_is in
-    search (arith, rules, seen, count_behind)
