@@ -31,8 +31,8 @@ pub use Rattle.cq_prefs.proofs.{Holding.none_unless, Members.among_range, Output
 pub use Rattle.cq_prefs.specs.FirstCells.{list_of, orders_of, output_order}
 pub use Rattle.cq_prefs.specs.Moves.{Moves, noted}
 unfoldable pub use Rattle.cq_prefs.specs.Moves.{transfers_of}
-pub use Rattle.cq_prefs.specs.Orders.{AreOffers, IsListed, IsOffered, Orders, outputs_of, place_in, place_of, ports}
-pub use Rattle.cq_prefs.specs.Pairing.{HasBetterInput, HasBetterOutput, IsFreeOutput, IsMatching, IsStable, Partners, depth, partner_of, partner_place, with_pair}
+pub use Rattle.cq_prefs.specs.Orders.{AreOffers, IsOffered, Orders, outputs_of, place_of, ports}
+pub use Rattle.cq_prefs.specs.Pairing.{HasBetterInput, HasBetterOutput, IsFreeOutput, IsMatching, IsStable, Partners, partner_of, partner_place, with_pair}
 pub use Rattle.cq_laws.proofs.OneRun.{offer_of, one_arrival, one_departure, one_transfer, outputs_at, same_record}
 pub use Rattle.cq_laws.proofs.Parted.{reach, run_length, run_of_whole}
 pub use Rattle.cq_laws.proofs.Told.{transfers_tell}

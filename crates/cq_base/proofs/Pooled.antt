@@ -163,5 +163,5 @@ has_number a (suc n) k low high = grind (arith, common_steps, cases_eq, has_numb
 pub numbers_few : {A : Type 0} (f : A → ℕ) (xs : List A) (n : ℕ) → EachPair (λ x y. f x ≢ f y) xs →
     AllByRecursion (λ x. f x < n) xs → length xs ≤ n
 numbers_few {A} f xs n pairs below =
-    let Own : A → ℕ → Type 0 = λ x k. f x ≡ k in
-    search (arith, rules, no_more Own xs (range_with_len 0 n), length-range_with_len, pairs_with, all_weaker, has_number)
+    let At : A → ℕ → Type 0 = λ x k. f x ≡ k in
+    search (arith, rules, no_more At xs (range_with_len 0 n), length-range_with_len, pairs_with, all_weaker, has_number)

@@ -1,5 +1,5 @@
 -- The words of this crate's proofs that stand elsewhere, each passed on from its place.
-pub use Rattle.cq_base.proofs.Library.{IsSome, None, Option, Some, ap, arith, cases_eq, cases_lt, common_steps, option_map, refl, rules, subst, ℕ, ◌*◌, ◌+◌, ◌-◌, ◌<◌, ◌∙◌, ◌≡◌}
+pub use Rattle.cq_base.proofs.Library.{IsSome, None, Option, Some, arith, cases_eq, cases_lt, common_steps, option_map, refl, rules, subst, ℕ, ◌*◌, ◌+◌, ◌-◌, ◌<◌, ◌∙◌, ◌≡◌}
 pub use Rattle.cq_prefs.specs.Orders.{AreOffers, Orders, ports}
 pub use Rattle.cq_ledger.specs.{Plays.IsFew, Views.HasClaimed}
 pub use Rattle.cq_ledger.specs.Seats.{IsProposed, IsSeatOf, LedgerState, SeatState}

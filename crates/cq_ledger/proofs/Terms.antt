@@ -1,5 +1,5 @@
 -- The words of this crate's proofs that stand elsewhere, each passed on from its place.
-pub use Rattle.cq_base.proofs.Library.{List, None, Option, Some, [], add-one, ap, arith, bit_at-lt, bit_at-pow_other, bit_at-pow_same, bit_at-zero, bit_at_or, bit_or, cases_eq, cases_lt, common_steps, cond_both, div-eq_of_lt, drop, eq-eqb, eqb-true, ext_get_or, get_elem?, get_or, get_or-le-sum_by, get_or-map-range_with_len, get_or-replicate, get_or-set_other, get_or-set_same, get_or_past, inl, inr, le-ltb, length, length-drop, length-map-range_with_len, length-replicate, length-set, lt-ltb, ltb-true, map, min, ne_eqb, none, pow_mono, range_with_len, refl, replicate, rules, same_from_bits, set, set-get_or, shr_and_one, slots_items, some, some-injective, some-ne-none, suc, sum, sum_by, sum_by-cons, sum_by-set, sum_by_push, sym, take-replicate, true≢false, zero, ℕ, ⊎_elim, ◌%◌, ◌*◌, ◌++◌, ◌+◌, ◌<◌, ◌^◌, ◌∙◌, ◌∷◌, ◌≡◌, ◌≢◌, ◌≤◌, ◌⊎◌}
+pub use Rattle.cq_base.proofs.Library.{List, None, Option, Some, [], add-one, ap, arith, bit_at-lt, bit_at-pow_other, bit_at-pow_same, bit_at-zero, bit_at_or, bit_or, cases_eq, cases_lt, common_steps, cond_both, drop, eq-eqb, eqb-true, ext_get_or, get_elem?, get_or, get_or-le-sum_by, get_or-map-range_with_len, get_or-replicate, get_or-set_other, get_or-set_same, get_or_past, inl, inr, le-ltb, length, length-drop, length-map-range_with_len, length-replicate, length-set, lt-ltb, ltb-true, map, min, ne_eqb, none, range_with_len, refl, replicate, rules, same_from_bits, set, set-get_or, shr_and_one, slots_items, some, some-injective, some-ne-none, suc, sum, sum_by, sum_by-cons, sum_by-set, sum_by_push, sym, take-replicate, true≢false, zero, ℕ, ⊎_elim, ◌*◌, ◌++◌, ◌+◌, ◌<◌, ◌^◌, ◌∙◌, ◌∷◌, ◌≡◌, ◌≢◌, ◌≤◌, ◌⊎◌}
 pub use Rattle.cq_base.specs.Limits.{most_ports}
 pub use Rattle.atomic_table.proofs.Lists.{at_longer, at_set, at_snoc, set_again, set_else, set_here}
 pub use Rattle.cq_prefs.proofs.Quiet.{events-quiet, events_at_most, sum-places}

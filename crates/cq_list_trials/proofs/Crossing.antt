@@ -1,5 +1,5 @@
 -- The worked transfer: of three inputs the first is matched with output 1 and the last with output 0.
-use Rattle.cq_list_trials.proofs.Terms.{rules, ◌≡◌, ℕ, zero, suc, ◌<◌, List, [], ◌∷◌, Some, None, ap, arith, Queued, list_of, HasCellFor, Partners, partner_of, IsFreeOutput, common_steps}
+use Rattle.cq_list_trials.proofs.Terms.{rules, ◌≡◌, ℕ, ◌<◌, List, [], ◌∷◌, Some, None, arith, Queued, list_of, HasCellFor, Partners, partner_of, IsFreeOutput, common_steps}
 use Rattle.cq_urgency.specs.OutputBuffer.{Buffered}
 use Rattle.cq_xbar.specs.Crossbar.{HaveCells, KeysAreNew, HaveRoom, buffer_spare}
 

@@ -10,7 +10,7 @@ pub use Rattle.cq_prefs.proofs.Pairs.{nobody}
 pub use Rattle.cq_prefs.proofs.Places.{get_or-place_in, input_in_range, inputs_at_most, output_in_range, outputs_at_most, place_in-get_or, same_at_place}
 pub use Rattle.cq_prefs.proofs.Changes.{IsPut, left_by, not_there, put_back, without_here, without_there}
 pub use Rattle.cq_prefs.proofs.Steps.{IsStep, held-start, next_output-offered, next_place-start, sound-after, sound-start, sound-step, step}
-pub use Rattle.cq_prefs.specs.Orders.{AreOffers, IsOffered, Orders, inputs_of, inputs_with_offers, outputs_of, place_in, ports, position_of}
+pub use Rattle.cq_prefs.specs.Orders.{AreOffers, Orders, inputs_of, inputs_with_offers, outputs_of, place_in, ports, position_of}
 pub use Rattle.cq_prefs.specs.Pairing.{IsFreeInput, IsInputBest, Partners, partner_of, proposals, without_pair}
 pub use Rattle.cq_prefs.specs.Proposals.{Holds, IsFree, IsQuiescent, IsSound, State, holder, matching_of, next_output, next_place, outcome_of, position_held}
 unfoldable pub use Rattle.cq_prefs.specs.Proposals.{answer_of, free_inputs, is_free, propose, start}

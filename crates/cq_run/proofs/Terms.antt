@@ -1,5 +1,5 @@
 -- The words of this crate's proofs that stand elsewhere, each passed on from its place.
-pub use Rattle.cq_base.proofs.Library.{AllByRecursion, Bool, Err, IfErr, IfOk, IfSome, IsErr, IsErrAnd, IsOk, IsOkAnd, IsTrue, List, MatchOption, None, Ok, Option, Result, Some, [], and_from, ap, append-nil, append_assoc, append_known, arith, bytes_eq-Decides, cases_eq, codes, common_steps, cond, cond-true, drop, drop_all, drop_more, eq-eqb, eq_by_cmp_equiv, exact_bytes, false, filter, filter-append, flat_map, get, get-insert, get-remove, get_or, inl, inr, is_some, le-ltb, leb-true, length, length-append, length-drop, length-take-le, list_any, lt-ltb, map, nat_le, nat_list_cmp_total, ne_eqb, nil_from_length, not_from_false, option_map, range_with_len, recursion_from_All, refl, replicate, rules, slice_index, string_bytes, subst, suc, sym, take, take-append-add, take-append-drop, take_all, take_at, take_more, tells_apart, true, vec_len, zero, ℕ, ⊎_elim, ◌&&◌, ◌*◌, ◌++◌, ◌+◌, ◌-◌, ◌<◌, ◌==◌, ◌^◌, ◌∙◌, ◌∷◌, ◌≡◌, ◌≢◌, ◌≤◌, ◌⊎◌}
+pub use Rattle.cq_base.proofs.Library.{AllByRecursion, Bool, Err, IfErr, IfOk, IfSome, IsErr, IsErrAnd, IsOk, IsOkAnd, IsTrue, List, MatchOption, None, Ok, Option, Result, Some, [], and_from, ap, append-nil, append_assoc, append_known, arith, bytes_eq-Decides, cases_eq, codes, common_steps, cond, drop, drop_all, drop_more, eq-eqb, eq_by_cmp_equiv, exact_bytes, false, filter, filter-append, flat_map, get, get-insert, get-remove, get_or, inl, inr, is_some, le-ltb, leb-true, length, length-append, length-drop, length-take-le, list_any, lt-ltb, map, nat_le, nat_list_cmp_total, ne_eqb, nil_from_length, not_from_false, option_map, range_with_len, recursion_from_All, refl, replicate, rules, slice_index, string_bytes, subst, suc, sym, take, take-append-add, take-append-drop, take_all, take_at, take_more, tells_apart, true, vec_len, zero, ℕ, ⊎_elim, ◌&&◌, ◌*◌, ◌++◌, ◌+◌, ◌-◌, ◌<◌, ◌==◌, ◌^◌, ◌∙◌, ◌∷◌, ◌≡◌, ◌≢◌, ◌≤◌, ◌⊎◌}
 pub use Rattle.std.proofs.lemmas.Option.{IfSome_then}
 pub use Rattle.cq_base.specs.Arriving.{Arrival, arriving, arriving_at, end_of, traffic_of}
 unfoldable pub use Rattle.cq_base.specs.Arriving.{enough}
@@ -49,14 +49,14 @@ pub use Rattle.cq_run.specs.PartEnds.{IsPartHalt, IsResumeHalt, IsResumedBy, IsR
 pub use Rattle.cq_run.specs.Parting.{IsPartText, IsResumedText}
 pub use Rattle.cq_run.specs.Passing.{all_leave, as_it_leaves, capture_of_all}
 pub use Rattle.cq_run.specs.Pieces.{joined, piece_text}
-pub use Rattle.cq_run.specs.Planning.{Decides, IsDenial, IsWithinRange, known_by, known_to}
+pub use Rattle.cq_run.specs.Planning.{Decides, IsWithinRange, known_by, known_to}
 pub use Rattle.cq_run.specs.Plan.{audited, capture_out, checked, passed, file_alone}
 unfoldable pub use Rattle.cq_run.specs.Plan.{captures_out, crossed, resumed, switched}
 pub use Rattle.cq_run.specs.Refusals.{meaning_of}
 pub use Rattle.cq_run.specs.Switching.{IsCrossed, IsCrossing, IsIdeal, IsPassing, IsSwitched, halt_for, under_names}
 pub use Rattle.cq_run.specs.Verdict.{MayRead, MayWrite, capture_in, captures_in, file_in, found_or_missing, ideally_sent, judged, judged_or_words, named, packets_at, read_or_refused_for, sent_or_tag, short_in, short_or, state_in, tables_in, text_in, ◌>>=◌}
 unfoldable pub use Rattle.cq_run.specs.Verdict.{captures_from}
-pub use Rattle.cq_run.specs.World.{IsUntouched, Taken, World, taken_by}
+pub use Rattle.cq_run.specs.World.{Taken, World, taken_by}
 pub use Rattle.cq_run.specs.{declared.denial.Denial.Denial, declared.refusal.Refusal.Refusal, declared.stop.Halt.Halt, declared.switching.Switched.Switched}
 pub use Rattle.cq_run.specs.declared.refusal.Refusal.TheVariants.{Audit as Audited, Configuration, Missing, State, Words}
 pub use Rattle.cq_run.specs.declared.stop.Halt.TheVariants.{NoMemory, Refused, Unread}
@@ -72,7 +72,7 @@ pub use Rattle.cq_tables.proofs.Versions.{first_parts}
 pub use Rattle.cq_tables.specs.{declared.place.Array.TheVariants.Ports, declared.place.Place.TheVariants.Element, declared.place.Place.TheVariants.Top}
 pub use Rattle.cq_cells.specs.{Scheduled.Scheduled, Scheduled.schedule_of}
 pub use Rattle.cq_rank.specs.Machine.{Machine}
-pub use Rattle.cq_ideal.specs.{Admission.NoLimits, Ranking.after_input, Ranking.ranking}
+pub use Rattle.cq_ideal.specs.{Admission.NoLimits}
 pub use Rattle.cq_ideal.proofs.{Ends.all_slots, FlowCount.before_end, FlowFound.arriving_is, Parted.first_slot, Resting.ranked_none}
 pub use Rattle.cq_audit.proofs.{AuditExact.audit_is_exact, Noted.stable_log, OneDifference.trace_is_exact}
 pub use Rattle.cq_audit.specs.{Audit.IsYes}

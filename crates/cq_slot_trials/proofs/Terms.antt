@@ -1,9 +1,9 @@
 -- The words of this crate's proofs that stand elsewhere, each passed on from its place.
-pub use Rattle.cq_base.proofs.Library.{All, AllByRecursion, Bool, Err, IfOk, List, Ok, OnOk, Option, Result, Some, [], ap, arith, cases_eq, cases_lt, common_steps, get_or, get_or-replicate, get_or-set_other, get_or-set_same, length, length-map, map, on_ok_weaker, recursion_from_All, refl, rules, set_past, subst, sym, unwrap_or-slice_get, ℕ, ◌*◌, ◌+◌, ◌<◌, ◌^◌, ◌∙◌, ◌∷◌, ◌≡◌, ◌≤◌, ◌⊎◌}
+pub use Rattle.cq_base.proofs.Library.{Bool, Err, IfOk, List, Ok, OnOk, Option, Result, Some, [], ap, arith, cases_eq, cases_lt, common_steps, get_or, get_or-replicate, get_or-set_other, get_or-set_same, length, map, on_ok_weaker, refl, rules, set_past, subst, sym, unwrap_or-slice_get, ℕ, ◌*◌, ◌+◌, ◌<◌, ◌^◌, ◌∷◌, ◌≡◌, ◌≤◌, ◌⊎◌}
 pub use Rattle.cq_base.proofs.Places.{arrival_at-no_arrivals}
 pub use Rattle.cq_base.specs.Arrivals.{arrival_at, no_arrivals, with_arrival}
 pub use Rattle.cq_base.specs.declared.cell.Cell.{Cell}
-pub use Rattle.cq_rank.specs.{Machine.Machine, Switch.class_count}
+pub use Rattle.cq_rank.specs.{Machine.Machine}
 pub use Rattle.cq_ideal.proofs.Counting.{counts_fit, zero_fits}
 pub use Rattle.cq_ideal.specs.Admission.{Admission, Marked, marked, refused}
 unfoldable pub use Rattle.cq_ideal.specs.Admission.{admission}

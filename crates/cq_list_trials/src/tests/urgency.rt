@@ -1,6 +1,6 @@
 //! The buffer of an output: a worked one, the calls that are drawn, and the call that wants memory, with ample
 //! memory.
-ghost use Rattle.std.specs.Prelude.{◌≡◌, ◌+◌, ◌<◌, ◌≤◌, IfOk, length};
+ghost use Rattle.std.specs.Prelude.{◌≡◌, ◌+◌, ◌<◌, IfOk, length};
 ghost use Rattle.cq_base.specs.Cells.{ArrivedBefore};
 
 use super::drawn::{Keeper, Plain};

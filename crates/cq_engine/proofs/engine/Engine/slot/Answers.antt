@@ -96,7 +96,9 @@ whole g c =
 -- each cell that came is at the place of its output
 straight : (g : given.Over) (c : After-of_outputs-gone g) →
     GoStraight c.self.inside.queues c.take_in.new.came c.of_outputs-gone.result.now
-straight g c = rw (c.of_outputs-gone.ensures, c.ports-ports.ensures.value) (c.go_straight.ensures.sent c.if-go_straight.true)
+straight g c =
+    rw (c.of_outputs-gone.ensures, c.ports-ports.ensures.value)
+    (c.go_straight.ensures.sent c.if-go_straight.true)
 
 -- no more cells cross than there are ports
 few_proposed : (g : given.Over) (c : After-pass-crossed g) →

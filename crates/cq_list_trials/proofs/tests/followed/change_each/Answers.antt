@@ -1,4 +1,4 @@
-use Rattle.cq_list_trials.proofs.Terms.{◌∙◌, ◌+◌, sym, subst, arith, cells_of, orders_of, AreSameWithout}
+use Rattle.cq_list_trials.proofs.Terms.{◌∙◌, sym, subst, arith, cells_of, orders_of, AreSameWithout}
 use Rattle.cq_list_trials.proofs.Followed.{one_changed, all_same, own_keys}
 use Rattle.cq_list_trials.proofs.tests.followed.change_each.Goals as goal
 use Rattle.cq_list_trials.proofs.tests.followed.change_each.Goals.{in-Some, in_default}

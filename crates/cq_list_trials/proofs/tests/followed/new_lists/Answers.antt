@@ -1,4 +1,4 @@
-use Rattle.cq_list_trials.proofs.Terms.{◌≡◌, sym, subst, arith, AllByRecursion, ArrivedBefore, rules}
+use Rattle.cq_list_trials.proofs.Terms.{arith, rules}
 use Rattle.cq_list_trials.proofs.tests.followed.new_lists.Goals as goal
 
 pub returns-clause-own : goal.returns-clause-own

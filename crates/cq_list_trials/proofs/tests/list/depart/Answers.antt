@@ -1,5 +1,5 @@
-use Rattle.cq_list_trials.proofs.Terms.{◌+◌, ap, sym, subst, length, arith, ArrivedBefore, rules}
-use Rattle.cq_list_trials.proofs.Arrived.{count_taken, arrived_left, length_left}
+use Rattle.cq_list_trials.proofs.Terms.{arith, rules}
+use Rattle.cq_list_trials.proofs.Arrived.{arrived_left, length_left}
 use Rattle.cq_list_trials.proofs.tests.list.depart.Goals as goal
 
 pub returns-clause-arrived : goal.returns-clause-arrived

@@ -1,4 +1,4 @@
-use Rattle.cq_list_trials.proofs.Terms.{◌+◌, sym, subst, ArrivedBefore, rules, arith}
+use Rattle.cq_list_trials.proofs.Terms.{rules, arith}
 use Rattle.cq_list_trials.proofs.Arrived.{arrived_popped}
 use Rattle.cq_list_trials.proofs.tests.urgency.leave.Goals as goal
 
