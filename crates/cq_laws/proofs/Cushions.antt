@@ -1,6 +1,5 @@
--- Cushions. A cell more in a buffer raises by one the cushion of each less urgent key and lowers none, and a cell
--- less lowers a cushion by one at most. A cushion that is not 0 shows a more urgent cell, and a greater key has no
--- smaller cushion.
+-- Cushions. A cell more in a buffer raises by one the cushion of each less urgent key and lowers none. A cushion that
+-- is not 0 shows a more urgent cell, and a greater key has no smaller cushion.
 use Rattle.cq_laws.proofs.Terms.{◌≡◌, ℕ, ◌+◌, ◌<◌, ◌≤◌, Bool, true, false, List, [], ◌∷◌, ap, arith, common_steps, cond_both, cases_Bool, Key, Queued, IsAmong, is_before, put, cushion, key_laws}
 
 -- 1 where the test holds

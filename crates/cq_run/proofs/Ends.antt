@@ -1,7 +1,7 @@
 -- How a command ends that was judged and, where that came to a plan, performed; and from how a run ends to what its
--- status says. Each end has one status, and what the end says of the verdict is what the status says of it. The table
--- of refusals is used for three facts alone: no refusal has a status of an end that is none, one with the status of
--- read faults comes only where contents are told, and words are refused only where they are no command.
+-- status says. Each end has one status, and what the end says of the verdict is what the status says of it, which the
+-- table of refusals tells case by case. Words are refused only where they are no command: no judgement of contents
+-- refuses them, since they are judged before any file is asked for.
 use Rattle.cq_run.proofs.Terms.{common_steps, arith, ◌≡◌, ℕ, List, rules, [], ◌∷◌, ◌≢◌, Result, Ok, Err, Option, None, Some, IfSome, Call, Fails, Lasts, Reads, Writes, Contents, Space, Command, Halt, IsJudged, Pace, Plan, known_to, known_by, Reader, Taken, World, IsCut, IsDone, IsCutAtFile, Rose, Words, Refused, Unread, NoMemory, Emulates, judged, judged_or_words, StatusCauses, Status, ◌+◌, PortRow, captures_from}
 use Rattle.cq_run.specs.declared.stop.Stop.{Stop}
 use Rattle.cq_run.specs.declared.stop.Stop.TheVariants.{Cut, Halted}
@@ -50,7 +50,6 @@ module _ {S : Type 0} {space : S → Space} {may_fail : Call → S → S → Typ
         search (arith, rules, file_from, is_planned, uncounted, fails_after)
 
 -- no writing was begun where the run halted, and the status tells whether it did
-
 pub halted_so : {P : Type 0} (end : Result (Unit {0}) Stop) {answer : Status} → answer ≡ status_of end →
     WhereHalted end P → answer ≢ status.Done → answer ≢ status.WriteFault → P
 halted_so end e h done cut = grind (arith, common_steps)
@@ -63,9 +62,7 @@ cut_rose : (ws : List (List ℕ × List ℕ)) (name : List ℕ) (old new : Space
 cut_rose [] name old new h = absurd h
 cut_rose (w ∷ ws) name old new h = grind (arith, common_steps, cut_rose ws name)
 
--- Only words that are no command are refused as such. No judgement of contents refuses them: they are judged before any
--- file is asked for.
-
+-- no judgement of contents refuses words, nor does that of captures
 never_captures : (r : Reader) (limit input : ℕ) (rows : List PortRow) (m : Contents) →
     captures_from r limit input rows m ≡ Err Words → ⊥
 unfolding captures_from

@@ -10,16 +10,7 @@ use Rattle.cq_simulate.proofs.Runnable.{right_classes, runnable}
 use Rattle.cq_simulate.proofs.TakenUp.{machines_many}
 use Rattle.cq_simulate.proofs.Tallies.{filter_images, filter_same}
 
--- Of each flow the cells that a sound state names, those that were sent and then those that wait, are the arrivals
--- that it names before its next slot, in their order. Both lists rise by the slots in which their cells arrived, and
--- have the same cells: of a flow there arrives one cell in a slot at most.
--- What waits for an output in a sound state stands there as in a run: in the order of the keys, each cell with the
--- level of its class and a rank below the floor, and each arrived in an earlier slot.
-
--- Which packets of an input a run that goes on from a sound state has taken. Of those that began before the next slot
--- the state says it, with one answer for all cells that arrived; of the others the run does. Where a packet goes on
--- over the slot both say the same: it is the last that began, and the mark of the input is up exactly where the state
--- does not name it.
+-- ## Packet after packet
 
 -- The arrivals at one input, packet after packet, and a part of them. The number of a packet is no less than those of
 -- the packets ahead of it, and the first cell of each is there. And the last of some arrivals, by slot, is no earlier
@@ -125,6 +116,11 @@ module _ (named : Arrival → Bool) (taken : ℕ → Bool) where
   as_taken (a ∷ line) p same = grind (arith, common_steps, as_taken line p)
 
 -- ## What a sound state says
+
+-- Which packets of an input a run that goes on from a sound state has taken. Of those that began before the next slot
+-- the state says it, with one answer for all cells that arrived; of the others the run does. Where a packet goes on
+-- over the slot both say the same: it is the last that began, and the mark of the input is up exactly where the state
+-- does not name it.
 
 module _ (w : Switch) (s : State) (i : ℕ) where
   abbrev pub line : List Arrival
@@ -244,6 +240,10 @@ no_first [] ys none = refl
 no_first (x ∷ xs) ys none = absurd (let P : ⊥ = cc in P)
 
 -- ## One flow
+
+-- Of each flow the cells that a sound state names, those that were sent and then those that wait, are the arrivals
+-- that it names before its next slot, in their order. Both lists rise by the slots in which their cells arrived, and
+-- have the same cells: of a flow there arrives one cell in a slot at most.
 
 -- the arrival of a queued cell
 abbrev pub as_arrival : Queued → Arrival
@@ -468,6 +468,9 @@ module _ (w : Switch) (s : State) (in_range : IsInRange s) (shape : HasShape w s
     told_flow = search (rules, same_pairs, told_rise, told_rises, has_told, is_there, cells_of, map-append, map-map)
 
     -- ## How they stand
+
+    -- What waits for an output in a sound state stands there as in a run: in the order of the keys, each cell with
+    -- the level of its class and a rank below the floor, and each arrived in an earlier slot.
 
     module _ (inside : j < length w.machines) (classes : (machine_at w.machines j).classes ≡ w.classes) where
       abbrev pub m : Machine

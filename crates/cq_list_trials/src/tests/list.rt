@@ -85,7 +85,7 @@ fn a_cell_goes_ahead_of_less_urgent_ones_and_is_found(rt: HostRuntime) {
     assert!(rt; each_stands_and_finds(rt.alloc()) == Ok(true));
 }
 
-// The first cell for an output leaves.
+// The first cell for an output leaves, if there is one.
 pub(super) fn depart(list: &mut InputList, output: u16, _slot: u32) -> Option<Queued>
     requires { ArrivedBefore _slot list.old.cells }
     ensures cells { list.new.cells ≡ without_first output list.old.cells }

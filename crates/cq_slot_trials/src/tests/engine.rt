@@ -216,7 +216,7 @@ fn priority(alloc: Global, output: usize) -> Result<Priority, NoMemory>
     Priority::new(alloc, &classes)
 }
 
-// Whether an engine of the four comes to what it is to come to, in 40 slots at most.
+// Whether an engine with these four disciplines comes to what it is to come to, in 40 slots at most.
 fn prioritized<T: Threads + Sync>(rt: &T, alloc: Global, trial: &Trial) -> Result<bool, NoMemory> {
     if trial.slots.len() > 40 {
         return Ok(false);
