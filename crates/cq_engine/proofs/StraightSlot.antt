@@ -252,5 +252,5 @@ module _ {ms : List Machine} {slot : ℕ} {q : Queues} {ranks0 : List (List ℕ)
       (search (arith, rules, fronts_alone, counted_passed looks x.inputs)) in
       rw (fronts_alone gone, none, append-nil, all_noted) at long
 
-pub ruleset noted =
+pub ruleset note_steps =
     (crossings_none, crossings_few, crossings_one, crossings_past, append_assoc, append-nil, length-append)

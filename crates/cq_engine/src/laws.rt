@@ -4,7 +4,7 @@ ghost use Rattle.cq_engine.specs.Terms.{Cell, arrival_at, Marked, count_for, Mac
 
 /// In a slot the list of an input grows by the cell that arrives there at most, and the cells that are held for
 /// an output grow by those that arrive for it at most. So rooms for all cells of a run are enough in each slot.
-#[tactic(auto, using(crate::proofs::Kept::all_kept))]
+#[tactic(auto, using(crate::proofs::Kept::kept_steps))]
 pub fn cells_are_kept()
     ensures lists { (ms : List Machine) (slot : ℕ) (cells : List (Option Cell)) (f g : Fabric) (r : SlotRecord) →
         FabricSlot IsInputBest ms slot cells f r g →

@@ -100,4 +100,4 @@ pub one_told : {X : Type 0} (f : X → List Queued) (items : List X) (i : ℕ) (
 one_told f items i x all more cells so_far is inside read told =
     let nil = [] in search (arith, rules, take_next, length-map, get_or-map f items i x nil)
 
-pub ruleset filled = (still_spare, stands_anew, take_all)
+pub ruleset fill_steps = (still_spare, stands_anew, take_all)

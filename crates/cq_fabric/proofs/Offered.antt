@@ -135,4 +135,4 @@ module _ (m : Partners) (lists lists' : List Waiting) (buffers buffers' : List (
       map (λ w. w.outputs) lists' ≡ map (λ w. w.outputs) lists → All (λ list. list.outputs ≡ length lists) lists'
   moved_outputs all outputs k d l = search (arith, rules, length-map, get_or-map (λ (w : Waiting). w.outputs))
 
-pub ruleset new_ones = (none_offered, new_square, length-map, length-replicate)
+pub ruleset new_steps = (none_offered, new_square, length-map, length-replicate)

@@ -154,6 +154,6 @@ pub popped_by : (b b' : Buffered) (q : Option Queued) → q ≡ slice_get b.cell
     b'.spare ≡ b.spare + cond (is_some q) 1 0 → b' ≡ popped b
 popped_by b b' q first cells spare = grind (arith, common_steps)
 
-pub ruleset departing = (whole, length-map, popped_square, fronts_shown, rests_shown, rooms_shown)
+pub ruleset depart_steps = (whole, length-map, popped_square, fronts_shown, rests_shown, rooms_shown)
 
 pub ruleset rooms_are = (buffer_room-is)

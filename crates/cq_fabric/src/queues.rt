@@ -204,7 +204,7 @@ fn none_crossed(buffers: &[OutputBuffer]) -> bool
 
 impl Queues {
     /// No cell waits. The lists and the buffers can hold so many cells. The error is want of memory.
-    #[tactic(auto, using(crate::proofs::Offered::new_ones))]
+    #[tactic(auto, using(crate::proofs::Offered::new_steps))]
     pub fn new(alloc: Global, from_inputs: &[u64], to_outputs: &[u64]) -> Result<Queues, NoMemory>
         requires few { length from_inputs.now ≤ most_ports }
         requires square { length to_outputs.now ≡ length from_inputs.now }
@@ -393,7 +393,7 @@ impl Queues {
 
     /// The first cell of each buffer leaves it, and comes to `gone` at the place of its output. The places behind
     /// those of the outputs stay as they were.
-    #[tactic(auto, using(crate::proofs::Queued::departing))]
+    #[tactic(auto, using(crate::proofs::Queued::depart_steps))]
     pub fn depart(&mut self, gone: &mut Gone)
         ensures gone { take (length self.old.inputs) gone.new ≡ fronts self.old.buffers }
         ensures others { drop (length self.old.inputs) gone.new ≡ drop (length self.old.inputs) gone.old }

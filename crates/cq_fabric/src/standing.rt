@@ -31,7 +31,7 @@ pub fn filled_list(
 }
 
 /// A buffer with room for so many cells, in which these wait. The error is want of memory.
-#[tactic(auto, using(crate::proofs::Filling::filled))]
+#[tactic(auto, using(crate::proofs::Filling::fill_steps))]
 pub fn filled_buffer(alloc: Global, room: u64, cells: &[Queued]) -> Result<OutputBuffer, NoMemory>
     requires { CanStand room cells.now }
     ensures cells { IfOk result (λ buffer. buffer.cells ≡ cells.now) }

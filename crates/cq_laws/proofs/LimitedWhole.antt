@@ -87,4 +87,4 @@ pub begin : (limits : List (Option ℕ)) (ms : List Machine) (class_count ports 
     Stands limits ms class_count 0 traffic (empty_limited_fabric ports ranks) (empty_limited ports ranks)
 begin limits ms class_count ports ranks traffic come = search (rules, limited_empty_agree, traffic_for_empty)
 
-pub ruleset of_admitted = (recorded, run_through, stop_through, whole_packets, fabric_judged)
+pub ruleset admitted_steps = (recorded, run_through, stop_through, whole_packets, fabric_judged)

@@ -50,4 +50,4 @@ module _ (MayChoose : Orders → Partners → Type 0) (limits : List (Option ℕ
     pub none_come : (count : ℕ) → None_in (replicate count no_arrivals)
     none_come count = search (rules, none_in)
 
-pub ruleset as_before = (run_without, run_with, stop_without, none_refused_in)
+pub ruleset unrefused_steps = (run_without, run_with, stop_without, none_refused_in)

@@ -17,7 +17,7 @@ pub fn outputs_hold_as_many()
 
 /// A run with limits is a run without, of the arrivals that the ideal switch admits. So every law on the runs
 /// of the fabric holds of it. And what is admitted at an input are whole packets.
-#[tactic(auto, using(crate::proofs::LimitedWhole::of_admitted))]
+#[tactic(auto, using(crate::proofs::LimitedWhole::admitted_steps))]
 pub fn limited_runs_are_of_admitted()
     // slot by slot, of what its own records say was admitted
     ensures recorded { IsRunOfRecorded IsStable }
@@ -41,7 +41,7 @@ pub fn limited_runs_are_of_admitted()
 {}
 
 /// Where no output has a limit, the runs are those of before there were limits.
-#[tactic(auto, using(crate::proofs::NothingRefused::as_before))]
+#[tactic(auto, using(crate::proofs::NothingRefused::unrefused_steps))]
 pub fn runs_without_limits_are_as_before()
     ensures run { (limits : List (Option ℕ)) (ms : List Machine) (slot ports : ℕ)
         (traffic : List (List (Option Cell))) (f : Fabric) (rs : List LimitedRecord) (g : Marked Fabric) →

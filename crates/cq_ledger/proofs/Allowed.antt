@@ -129,7 +129,7 @@ module _ (o : Orders) (slots id i : ℕ) (me : Seated) (r : i < ports o) (empty 
 
   -- by the bit that is found
   pub claim-may : (v : View) × May v
-  claim-may = search (arith, rules, bits.lt, may_take, may_not, cases_eq)
+  claim-may = search (arith, rules, bits.small, may_take, may_not, cases_eq)
 
 pub split-allowed : (o : Orders) (id : ℕ) (v : View) → Splits (Ruled o) id v v (blank v.offers)
 split-allowed o id v s k at = split-keeps o s.words s.views k id v at
@@ -185,7 +185,7 @@ pub all_claimed : (l : LedgerState) (s : SeatState) (table : TableId) (offers : 
     (i : ℕ) → i < ports offers → HasClaimed view i
 all_claimed l s table offers mine view m all i h = grind (arith, common_steps)
 
-pub ruleset allowed = (matched, join-allowed, split-allowed)
+pub ruleset seat_steps = (matched, join-allowed, split-allowed)
 
 pub ruleset keep_steps = (proposal-keeps, claim-keeps, refused-keeps, split-keeps, join-keeps)
 

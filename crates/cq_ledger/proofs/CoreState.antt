@@ -58,7 +58,8 @@ module _ (o : Orders) (words : List ℕ) (views : List View) (k : IsLedger o wor
   next-is : (i : ℕ) → next_shown o words views i ≡ next_place s i
   unfolding next_shown
   next-is i =
-      search (arith, rules, output-is, in_hands-some, k.hands.place, keeper-holds, w.last, done, k.unclaimed, bits.lt)
+      search
+      (arith, rules, output-is, in_hands-some, k.hands.place, keeper-holds, w.last, done, k.unclaimed, bits.small)
 
   places-are : map (next_shown o words views) (range_with_len 0 (ports o)) ≡ s.places
   places-are = ext_get_or 0 (map (next_shown o words views) (range_with_len 0 (ports o))) s.places

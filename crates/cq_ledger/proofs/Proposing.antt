@@ -170,7 +170,7 @@ module _ (o : Orders) (words : List ℕ) (views : List View) (k : IsLedger o wor
         let m = hand-shows o k.offers s w i f q p (sym hand_is ∙ h) in
         let own = k.hands.claimed id i (next_place s i) v at_id in_hand in
         let claimed : bit (claim_word words) q ≡ 1 =
-        grind (arith, m.who, own, w.last q j, k.unclaimed q, bits.lt (claim_word words) q) in (
+        grind (arith, m.who, own, w.last q j, k.unclaimed q, bits.small (claim_word words) q) in (
           (m.free, m.place_is, still_set q claimed),
           λ b r x a n g. ⊎_elim (other_hand b q r x n a g) ((k.hands.free b q r x a g).unheld j) m.who,
         )

@@ -15,7 +15,7 @@ same_at xs i a b e f = some-injective a b (sym e ∙ f)
 
 -- what is said of the bits of numbers
 pub record BitLaws : Type 0 where
-  pub lt : (n i : ℕ) → bit n i < 2
+  pub small : (n i : ℕ) → bit n i < 2
   pub of_zero : (i : ℕ) → bit 0 i ≡ 0
   pub same : (n i : ℕ) → bit (bit_or n (2 ^ i)) i ≡ 1
   pub other : (n i q : ℕ) → q ≢ i → bit (bit_or n (2 ^ i)) q ≡ bit n q
@@ -30,7 +30,7 @@ pub bits : BitLaws
 unfolding bit
 bits =
     record {
-      lt = bit_at-lt;
+      small = bit_at-lt;
       of_zero = bit_at-zero;
       same = λ n i. omega (arith, bit_at_or n (2 ^ i) i, bit_at-pow_same i, bit_at-lt n i);
       other = λ n i q apart. omega (arith, bit_at_or n (2 ^ i) q, bit_at-pow_other i q apart);

@@ -121,7 +121,7 @@ impl Ledger {
     }
 
     /// A new seat, which has claimed and made nothing. The old one is as before.
-    #[tactic(auto, using(crate::proofs::Allowed::allowed))]
+    #[tactic(auto, using(crate::proofs::Allowed::seat_steps))]
     pub fn split(&self, seat: &mut LedgerSeat) -> LedgerSeat
         requires seat { IsSeatOf self.now seat.old }
         ensures same { seat.new ≡ seat.old }
@@ -133,7 +133,7 @@ impl Ledger {
 
     /// Joins another seat to this one, which then has what both have claimed, made and seen. Both hands are
     /// empty.
-    #[tactic(auto, using(crate::proofs::Allowed::allowed))]
+    #[tactic(auto, using(crate::proofs::Allowed::seat_steps))]
     pub fn join(&self, into: &mut LedgerSeat, other: LedgerSeat)
         requires seat { IsSeatOf self.now into.old }
         requires other { IsSeatOf self.now other }

@@ -82,4 +82,8 @@ nth_behind p k [] ys past = grind (arith, common_steps)
 nth_behind p k (x ∷ xs) ys past =
     search (rules, passes, nth_next, fails, nth_other, cases_Bool, nth_behind p (k - 1) xs ys, nth_behind p k xs ys)
 
+-- a place counted from the front
+pub ruleset nth_steps = (nth_past_other, nth_past_own, nth_found, nth_none_left)
+
+-- the first place taken out
 pub ruleset remove_first_steps = (nth_inside, nth_in_front, nth_is_first, length-remove)

@@ -44,4 +44,5 @@ pub none_left : (left : List (List ℕ)) {queues : Queues} {cells all : List Que
     HaveTold (concat left) queues cells all → length left ≡ 0 → cells ≡ all
 none_left left t none = grind (arith, common_steps, append-nil)
 
+-- what is told, one after the other
 pub ruleset tell_steps = (some_left, can_next, told_next, drop_more, drop_all)

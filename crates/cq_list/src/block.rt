@@ -35,7 +35,7 @@ impl Model for Block {
 }
 
 // The place of an output that has so many of its places ahead, or the number of places where there is none.
-#[tactic(auto, using(crate::proofs::Nth::nth_past_other, crate::proofs::Nth::nth_past_own, crate::proofs::Nth::nth_found, crate::proofs::Nth::nth_none_left))]
+#[tactic(auto, using(crate::proofs::Nth::nth_steps))]
 fn nth(places: &[Port], output: Port, ahead: usize) -> usize
     ensures { result ≡ place_of_nth (is_output output) ahead places.now }
 {

@@ -647,7 +647,7 @@ impl Places {
     }
 
     /// Takes the first place of an output out, of so many in all, which gives its room back.
-    #[tactic(auto, using(crate::proofs::Nth::nth_is_first, crate::proofs::Nth::remove_first_steps))]
+    #[tactic(auto, using(crate::proofs::Nth::remove_first_steps))]
     pub fn remove_first(&mut self, output: Port, all: usize)
         requires all { all ≡ count_of output self.old.outputs }
         requires some { 0 < all }

@@ -32,4 +32,6 @@ pub parted-next : (n ports : ℕ) (m : Partners) → n < ports → ArePartedBefo
     ArePartedBefore (n + 1) ports (without_pair m n)
 parted-next n ports m inside before = grind (arith, common_steps, length-set, take_more_set)
 
-pub ruleset free_steps = (last_left, left_by, not_there, few_offers, offers-more, offers-same)
+pub ruleset fill_steps = (few_offers, offers-more, offers-same)
+
+pub ruleset leave_steps = (last_left, left_by, not_there)

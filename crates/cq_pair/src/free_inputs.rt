@@ -55,7 +55,7 @@ impl FreeInputs {
     }
 
     /// The inputs that have an offer, in place of those that were there.
-    #[tactic(auto, using(crate::proofs::Leaving::free_steps))]
+    #[tactic(auto, using(crate::proofs::Leaving::fill_steps))]
     pub fn fill(&mut self, offers: &Offers)
         ensures { self.new ≡ inputs_with_offers offers.now (ports offers.now) }
     {
@@ -80,7 +80,7 @@ impl FreeInputs {
 
     /// Takes an input out. It may be out already. Of the others only those behind it move, and it is looked for from
     /// the last on.
-    #[tactic(auto, using(crate::proofs::Leaving::free_steps))]
+    #[tactic(auto, using(crate::proofs::Leaving::leave_steps))]
     pub fn remove(&mut self, input: Port)
         requires { IsDistinct nat_eq self.old }
         ensures { self.new ≡ without input self.old }

@@ -16,4 +16,4 @@ pub refused_map : {A : Type 0} (result : Result A PcapRefusal) (P Q : PcapRefusa
     → IfErr result (λ refusal. IfSome (fault_of refusal) Q)
 refused_map result P Q f h = search (arith, rules, IfErr-weaker)
 
-pub ruleset refusals = (IfErr-weaker, named_fault, some_is)
+pub ruleset refusal_steps = (IfErr-weaker, named_fault, some_is)

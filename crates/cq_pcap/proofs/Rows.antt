@@ -73,4 +73,4 @@ pub rows_all : (form : Form) (bytes : List ℕ) (rows : List PacketRow) (at : �
     → AreRowsTo form bytes at rows → AreSpelt bytes rows
 rows_all form bytes rows at e so_far = grind (arith, common_steps, take_all)
 
-pub ruleset row_faults = (IfOk-weaker, IfErr-weaker, rows_none, rows_fault, header_fault)
+pub ruleset row_steps = (IfOk-weaker, IfErr-weaker, rows_none, rows_fault, header_fault)

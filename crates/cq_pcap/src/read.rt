@@ -74,7 +74,7 @@ const SECOND: u64 = 1_000_000_000;
 ///
 /// The refusals are those of the header alone, the first in the order of `PcapRefusal`, and never want
 /// of memory.
-#[tactic(auto, using(crate::proofs::Rows::row_faults))]
+#[tactic(auto, using(crate::proofs::Rows::row_steps))]
 pub fn form_of(bytes: &[u8]) -> Result<Form, PcapRefusal>
     ensures form { IfOk result (λ form. AreRowsTo form bytes.now 24 []) }
     ensures fault { IfErr result (IsFaultAt bytes.now None) }
@@ -139,7 +139,7 @@ fn row_of(form: Form, bytes: &[u8], place: usize) -> Result<PacketRow, PcapRefus
 /// it are a capture of this form. `None` says that the file ends there.
 ///
 /// The refusals are those of a record, with the place as their offset, and never want of memory.
-#[tactic(auto, using(crate::proofs::Rows::row_faults))]
+#[tactic(auto, using(crate::proofs::Rows::row_steps))]
 pub fn row_at(bytes: &[u8], form: Form, at: u64) -> Result<Option<PacketRow>, PcapRefusal>
     requires small { length bytes.now ≤ longest_file }
     requires before { (rows : List PacketRow) × AreRowsTo form bytes.now at rows }
@@ -157,7 +157,7 @@ pub fn row_at(bytes: &[u8], form: Form, at: u64) -> Result<Option<PacketRow>, Pc
 }
 
 // The rows of the records, which fill the file from its header on.
-#[tactic(auto, using(crate::proofs::Refused::refusals))]
+#[tactic(auto, using(crate::proofs::Refused::refusal_steps))]
 fn rows_of(alloc: Global, bytes: &[u8]) -> Result<Vec<PacketRow>, PcapRefusal>
     requires { length bytes.now ≤ longest_file }
     ensures rows { IfOk result (λ rows. AreSpelt bytes.now rows.items) }

@@ -32,7 +32,8 @@ module _ (o : Orders) (v : AreOffers o) (s : State) where
   pub partner-is : (i : ℕ) → partner_of (matching_of o s) i ≡ keeper o s i
   unfolding matching_of
   partner-is i =
-      let long = length-map-range_with_len (keeper o s) 0 (ports o) in let past = λ (j : ℕ) (e : keeper o s i ≡ Some j).
+      let long = length-map-range_with_len (keeper o s) 0 (ports o) in
+      let past = λ (j : ℕ) (e : keeper o s i ≡ Some j).
       input_in_range o i j (v.shown_back i j (keeper-holds o s i j e).1) in
       search (arith, rules, get_or-map-range_with_len, get_or_past, none_unless (keeper o s i), past, cases_lt)
 
@@ -59,6 +60,8 @@ module _ (o : Orders) (v : AreOffers o) (s : State) where
   unfolding is_free
   free_only_if i f =
       and_from _ _ (lt-ltb _ _ f.left) (ap is_none (none_unless _ (λ j e. f.unheld j (keeper-holds o s i j e))))
+
+  -- ## In a sound state
 
   module _ (w : IsSound o s) where
     -- an output that does not hold nobody holds its holder

@@ -46,6 +46,7 @@ turns o v (suc n) = search (rules, one_turn, turns o v n)
 pub input_best-best : (o : Orders) → AreOffers o → IsInputBest o (best o)
 unfolding best
 input_best-best o v =
-    let t = turns o v (ports o * ports o) in let most = λ (i : ℕ). events_at_most o v (i ∷ t.events) in
+    let t = turns o v (ports o * ports o) in
+    let most = λ (i : ℕ). events_at_most o v (i ∷ t.events) in
     let quiet : IsQuiescent o (state_after o t.events) = search (arith, rules, most, t.ended) in
     rw t.is (input_best-quiet o v t.events t.are_events quiet)

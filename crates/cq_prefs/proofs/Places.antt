@@ -61,4 +61,6 @@ pub no_offers_are : (n : ℕ) → AreOffers (no_offers n)
 unfolding IsDistinct
 no_offers_are n = search (arith, rules, get_or-replicate, get_or_past, length-replicate, cases_lt)
 
-pub ruleset places_of = (length-replicate, no_offers_are, place_of-at)
+pub ruleset nothing_offered = (length-replicate, no_offers_are)
+
+pub ruleset asked_place = (place_of-at)

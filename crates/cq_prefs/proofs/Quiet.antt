@@ -65,7 +65,8 @@ module _ (o : Orders) (v : AreOffers o) (s : State) (w : IsSound o s) (q : IsQui
       HasBetterOutput o (matching_of o s) i j ⊎ HasBetterInput o (matching_of o s) i j
   settled i j offered apart =
       let at = position_of-at o v j (position_held s j) in
-      let none = kept i None in let some = λ (k : ℕ). kept i (Some k) in
+      let none = kept i None in
+      let some = λ (k : ℕ). kept i (Some k) in
       search (arith, rules, w.asked_before, v.shown, partner-from, at, none, some, cases_lt)
 
   pub stable-quiet : IsStable o (matching_of o s)

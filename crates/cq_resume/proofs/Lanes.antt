@@ -8,7 +8,7 @@
 -- stand by input and then by slot. It is compared with the last one of its flow, for which a place is kept. And how
 -- many cells stand ahead of each in its input's list, counted on from one cell to the next. Where an input begins,
 -- none stands ahead, since the cells before it are of earlier inputs.
-use Rattle.cq_resume.proofs.Terms.{common_steps, rules, ◌≡◌, ◌≢◌, ℕ, ◌+◌, ◌-◌, ◌<◌, ◌≤◌, ◌⊎◌, ◌↔◌, Bool, true, false, List, length, map, get_or, set, replicate, Option, None, Some, refl, inl, inr, arith, ltb, ◌*◌, IfSome, ◌&&◌, AllPairs, AllByRecursion, cases_eq, cases_lt, and_from, lt-ltb, get_or-replicate, get_or-set_other, get_or-set_same, get_or_default, get_or_past, length-replicate, get_or_read, begins_at, FlowsStand, IsNameBefore, Leaves, IsBefore, Queued, Name, length-append, slice_get, ne_eqb, get_or-take, SlackStands, cushion_in, thread_in, filter_more, slice_get-get_or, key_laws, most_classes, All-from_recursion, zero, suc, AllAdjacentBelow, all_weaker, [], ◌∷◌, ◌++◌, take, filter, eqb, append-nil, eqb-true, cases_Bool, eq-eqb}
+use Rattle.cq_resume.proofs.Terms.{common_steps, rules, ◌==◌, ◌≡◌, ◌≢◌, ℕ, ◌+◌, ◌-◌, ◌<◌, ◌≤◌, ◌⊎◌, ◌↔◌, Bool, true, false, List, length, map, get_or, set, replicate, Option, None, Some, refl, inl, inr, arith, ltb, ◌*◌, IfSome, ◌&&◌, AllPairs, AllByRecursion, cases_eq, cases_lt, and_from, lt-ltb, get_or-replicate, get_or-set_other, get_or-set_same, get_or_default, get_or_past, length-replicate, get_or_read, begins_at, FlowsStand, IsNameBefore, Leaves, IsBefore, Queued, Name, length-append, slice_get, ne_eqb, get_or-take, SlackStands, cushion_in, filter_more, slice_get-get_or, key_laws, most_classes, All-from_recursion, zero, suc, AllAdjacentBelow, all_weaker, [], ◌∷◌, ◌++◌, take, filter, eqb, append-nil, eqb-true, cases_Bool, eq-eqb}
 use Rattle.cq_resume.specs.Neighbours.{IsOfNeighbours}
 use Rattle.cq_base.proofs.Each.{one_there}
 use Rattle.cq_resume.proofs.Cut.{none_kept}
@@ -201,6 +201,10 @@ push_cases : (xs : List Queued) (y : Queued) (n : ℕ) (c : Queued) → slice_ge
     (slice_get xs n ≡ Some c) ⊎ ((n ≡ length xs) × (y ≡ c))
 push_cases [] y n c is = grind (arith, common_steps)
 push_cases (x ∷ xs) y n c is = grind (arith, common_steps, push_cases xs y)
+
+-- the cells ahead of a place in the list of this input
+abbrev thread_in : List Queued → ℕ → ℕ → List Queued
+thread_in listed place input = filter (λ o. o.key.input == input) (take place listed)
 
 -- the cells before a place have slack, and so many of them are of the input of the one before it
 pub record Threads (listed buffered : List Queued) (n thread : ℕ) : Type 0 where

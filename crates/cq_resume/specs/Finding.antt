@@ -124,10 +124,6 @@ begins_at inputs n = nat_lt 0 n && nat_lt (slice_index inputs (n - 1)) (slice_in
 abbrev pub cushion_in : List Queued → Queued → List Queued
 cushion_in buffered t = filter (λ o. o.cell.output == t.cell.output && is_before o.key t.key) buffered
 
--- the cells ahead of a place in the list of this input
-abbrev pub thread_in : List Queued → ℕ → ℕ → List Queued
-thread_in listed place input = filter (λ o. o.key.input == input) (take place listed)
-
 -- of each cell in the list of an input there are more in the cushion than ahead in that list
 abbrev pub SlackStands : List Queued → List Queued → Type 0
 SlackStands listed buffered =

@@ -224,4 +224,4 @@ pub all_packed : (t : Tables) (captures : List (List Captured)) (sent left : Lis
 unfolding packets_out
 all_packed t captures sent left places so_far none = search (arith, rules, all_are_made)
 
-pub ruleset originals = (length-rows_from, get_or_default, original_at)
+pub ruleset original_steps = (length-rows_from, get_or_default, original_at)

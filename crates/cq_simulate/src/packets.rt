@@ -160,7 +160,7 @@ pub(crate) fn stamp_of(slot: Slot, tables: &Tables, t0: u64) -> u128
 }
 
 /// The original length of a captured packet.
-#[tactic(auto, using(crate::proofs::AllPacked::originals))]
+#[tactic(auto, using(crate::proofs::AllPacked::original_steps))]
 pub(crate) fn original_of(captures: &[Capture], input: Port, packet: u32) -> u32
     requires input { input < length captures.now }
     requires packet { packet < length (packets_at captures.now input) }

@@ -102,4 +102,5 @@ pub log_clashes : (t : Tables) (r : TableRefusal) → bytes_eq t.log t.trace ≡
 unfolding first
 log_clashes t r clashes told = rw clashes told
 
-pub ruleset differs = (apart_all, apart_first, apart_next, apart_stops, log_clashes, port_apart, port_read, port_write)
+pub ruleset differ_steps =
+    (apart_all, apart_first, apart_next, apart_stops, log_clashes, port_apart, port_read, port_write)

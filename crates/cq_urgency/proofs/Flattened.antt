@@ -53,4 +53,4 @@ pub flattened-halved : (blocks : List (List Queued)) (i : ℕ) → i < length bl
     flattened (halved blocks i) ≡ flattened blocks
 flattened-halved blocks i inside = search (rules, split_in, take-append-drop)
 
-pub ruleset few_steps = (some_blocks, length-flattened, few_kept)
+pub ruleset cushion_steps = (some_blocks, length-flattened, few_kept)

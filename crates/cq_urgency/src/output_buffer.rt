@@ -115,7 +115,7 @@ fn spot_of(blocks: &Blocks, key: Key) -> Spot
 }
 
 // How many of so many cells have a lesser key.
-#[tactic(auto, using(crate::proofs::Flattened::few_steps))]
+#[tactic(auto, using(crate::proofs::Flattened::cushion_steps))]
 fn cushion_in(blocks: &Blocks, key: Key, len: u64) -> u64
     requires rising { IsRising (flattened blocks.now.blocks) }
     requires filled { AreFilled blocks.now.blocks }

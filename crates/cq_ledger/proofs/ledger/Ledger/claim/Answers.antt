@@ -17,7 +17,7 @@ fetch_or-found-requires c =
 -- the step found the input unclaimed
 taken : (c : Else-has_bit) → c.fetch_or-found.new.seat.me
     ≡ (claim_taken c.seat.inside.seat.me.0 c.args.input, c.seat.inside.seat.me.1)
-taken c = search (arith, rules, bits.lt)
+taken c = search (arith, rules, bits.small)
 
 pub invariant_of-seat-2 : goal.invariant_of-seat-2
 invariant_of-seat-2 c =
