@@ -44,7 +44,7 @@ pub fn go_straight(queues: &Queues, came: &Newcomers, gone: &mut Gone) -> bool
     queues.are_empty() && fill(gone, came, queues.ports())
 }
 
-// Each cell that came is note_steps as one that crosses in the first phase.
+// Each cell that came is noted as one that crosses in the first phase.
 #[tactic(auto, using(crate::proofs::StraightSlot::note_steps))]
 fn note_each(came: &Newcomers, inputs: usize, slot: Slot, note: &mut Room<Transfer>)
     requires few { inputs ≤ most_ports }
