@@ -20,7 +20,8 @@ pub enum PhaseFault {
 
 /// The stable matching that the lines of a phase tell. The error is the least input whose line does not name its
 /// first cell for an output that is still free; or, where each line does, the first pair that shows that their
-/// matching is not stable, by the orders of the offers: no list is read for that. It takes no memory.
+/// matching is not stable, by the orders of the offers: no list is read for that. It takes no memory. The slot and the
+/// phase are given for the clauses alone.
 pub fn stable_told(
     lists: &[InputList],
     offers: &Offers,
