@@ -196,7 +196,7 @@ impl<R: Rank> Ranks<R> {
 
     /// The cells that are admitted in a slot are ranked in order of input, each by its output's machine, and put into
     /// `came` at the places of their inputs, in place of those that stood there. The error is the first rank that does
-    /// not fit 128 bits, and then it is not told what stands in `came`.
+    /// not fit 128 bits, and then it is told neither what stands in `came` nor in which states the machines are.
     pub fn take(
         &mut self,
         slot: Slot,

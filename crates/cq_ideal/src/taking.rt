@@ -11,7 +11,8 @@ use cq_rank::Rank;
 /// The arrivals of a slot are judged. Those that are admitted are ranked in order of input, and put into `came` in
 /// place of what stood there, and those that are refused are counted.
 ///
-/// The error is the first rank, in order of input, that does not fit 128 bits. Then nothing is counted.
+/// The error is the first rank, in order of input, that does not fit 128 bits. Then nothing is counted, and it is told
+/// neither what stands in `came` nor in which states the machines are.
 #[tactic(auto, using(crate::proofs::Changed::item_steps))]
 pub fn take_in<R: Rank>(
     ranks: &mut Ranks<R>,
