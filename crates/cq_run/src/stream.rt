@@ -1,4 +1,4 @@
-//! The top call that reads ahead. It is the one public function of this crate that waits.
+//! The top call that reads ahead. It is the one public function of this crate that needs `Wait`.
 ghost use Rattle.std.specs.Prelude.{◌≡◌, ◌≢◌, None, Some, IfSome, map, string_bytes};
 ghost use Rattle.cq_run.specs.Terms.{Fails, FailsTaking, Reads, Writes, Closed, as_run, command_for, Emulates, Ahead, pace_of, Plan, known_by, Reader, verdict, IsDone, world, taken_by, EndsIn, WhereHalted, Answers, StatusCauses};
 

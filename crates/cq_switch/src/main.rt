@@ -1,7 +1,7 @@
 //! `cq_switch`, the program: the top call gets the words of the call, the system's files and the standard streams, and
 //! the code of its status ends the program.
 //!
-//! The module exists to be the one place that touches the system, and it decides nothing that the
+//! The module exists to be the one place that is given the system, and it decides nothing that the
 //! top call's contract speaks of. Codes 0 to 9 are those of the statuses. Code 10 is this file's own.
 #![tactic(auto)]
 
