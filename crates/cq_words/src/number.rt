@@ -3,7 +3,7 @@ ghost use Rattle.std.specs.Prelude.{◌≡◌, ◌≤◌, IfSome, None, Some, if
 ghost use Rattle.cq_words.specs.Numbers.{is_numeral, number_from, value_of};
 
 // The most digits of a number: as many as the greatest of 64 bits has.
-const MOST_DIGITS: usize = 20;
+const MOST_NUMERAL_DIGITS: usize = 20;
 
 /// The number that the text writes, where it is 1 to 20 digits with a value from `least` to `most`.
 pub fn number(text: &str, least: u64, most: u64) -> Option<u64>
@@ -21,7 +21,7 @@ pub fn number(text: &str, least: u64, most: u64) -> Option<u64>
 fn numeral(text: &[u8]) -> Option<u128>
     ensures { result ≡ (if is_numeral text.now then Some (value_of text.now) else None) }
 {
-    if text.is_empty() || text.len() > MOST_DIGITS {
+    if text.is_empty() || text.len() > MOST_NUMERAL_DIGITS {
         return None;
     }
     let mut value: u128 = 0;
