@@ -57,8 +57,9 @@ impl OpenPackets {
         })
     }
 
-    /// Puts the piece of the cell with this number behind those of the packet that is open at the place, or
-    /// opens the packet with it, with memory for so many bytes. The error is want of memory, and then all is as before.
+    /// Puts the piece of the cell with this index behind those of the packet that is open at the place, or opens
+    /// with it the packet with this number, with memory for so many bytes. The error is want of memory, and then all
+    /// is as before.
     pub fn add(
         &mut self,
         place: usize,
