@@ -210,7 +210,7 @@ pub fn passes<R: Threads + Sync>(
     }
 }
 
-/// The names that a command of a trial may write.
+/// The names that a command of a trial may write, but for its state.
 pub const WRITTEN: &[&str] = &[
     "b",
     "out0.pcap",
