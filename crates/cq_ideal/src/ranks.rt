@@ -41,6 +41,7 @@ fn tell_idle<R: Rank>(rank: &mut R)
     ensures state { R.state rank.new ≡ told (R.machine (R.fixed rank.old)) (R.state rank.old) None }
     ensures sized { length (R.state rank.old) ≡ (R.machine (R.fixed rank.old)).size }
 {
+    // Its contract tells that the state has its size.
     let _classes = rank.classes();
     rank.idle();
 }

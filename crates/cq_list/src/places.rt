@@ -373,6 +373,7 @@ fn spot_with_room(blocks: &mut SummedBlocks, _place: usize, spot: Spot) -> Spot
     ensures room { length (slice_index_or blocks.new.blocks result.block []) < most_places }
     ensures capacity { blocks.old.capacity ≤ blocks.new.capacity }
 {
+    // Its contract tells that there are no more places than can be counted.
     let _count = blocks.len();
     if blocks.at(spot.block).len() < MOST_PLACES {
         return spot;
@@ -409,6 +410,7 @@ fn join_next(blocks: &mut SummedBlocks, at: usize)
     ensures joined { blocks.new.blocks ≡ joined blocks.old.blocks at }
     ensures capacity { blocks.new.capacity ≡ blocks.old.capacity }
 {
+    // Its contract tells that there are no more places than can be counted.
     let _count = blocks.len();
     let next = blocks.remove(at + 1);
     blocks.append(at, &next);
@@ -423,6 +425,7 @@ fn pull_next(blocks: &mut SummedBlocks, at: usize)
     ensures pulled { blocks.new.blocks ≡ pulled blocks.old.blocks at }
     ensures capacity { blocks.new.capacity ≡ blocks.old.capacity }
 {
+    // Its contract tells that there are no more places than can be counted.
     let _count = blocks.len();
     let output = blocks.take(at + 1, 0);
     blocks.put(at, blocks.at(at).len(), output);
