@@ -71,7 +71,7 @@ fn may_come(ports: u16, last: Option<Transfer>, transfer: &Transfer) -> bool
 fn is_of(ports: u16, transfer: &Transfer) -> bool
     ensures { IsTrue result ↔ IsOf ports transfer.now }
 {
-    1 <= transfer.phase && transfer.phase <= 2 && transfer.input < ports && transfer.output < ports
+    (1..=2).contains(&transfer.phase) && transfer.input < ports && transfer.output < ports
 }
 
 fn may_follow(last: Option<Transfer>, transfer: &Transfer) -> bool

@@ -52,10 +52,8 @@ fn slack_of(queues: &Queues, input: usize, came: Option<Queued>) -> Option<u64>
     requires newest { (c : Queued) → came ≡ Some c → IsNewest c (list_of queues.now.inputs input) }
     ensures { result ≡ arriving_slack queues.now input came }
 {
-    match came {
-        None => None,
-        Some(queued) => Some(queues.slack_of(input, &queued)),
-    }
+    let queued = came?;
+    Some(queues.slack_of(input, &queued))
 }
 
 // The slack that is seen at an input, if a cell is looked at there.

@@ -77,7 +77,7 @@ fn kind_of(output: Port) -> Kind
 fn kinds(alloc: Global, ports: Port) -> Result<Vec<Kind>, AllocError>
     ensures { IfOk result (λ kinds. kinds.items ≡ map soak_kind (range_with_len 0 ports)) }
 {
-    (0..ports).map(|output| kind_of(output)).collect(alloc)
+    (0..ports).map(kind_of).collect(alloc)
 }
 
 // The ports, none of which has a file.

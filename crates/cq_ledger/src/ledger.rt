@@ -104,9 +104,8 @@ impl Ledger {
         ensures few { IsFew seat.new.view }
         ensures told { seat.new.view.told ≡ option_map (λ h. (h.0, result)) seat.old.view.hand }
     {
-        let (input, place) = match seat.hand {
-            Some(hand) => hand,
-            None => unreachable!(),
+        let Some((input, place)) = seat.hand else {
+            unreachable!();
         };
         let asked = self.offers.asked(input, place);
         let found = self.table.shared.fetch_min::<Proposal>(

@@ -6,7 +6,6 @@ ghost use Rattle.cq_prefs.specs.Proposals.{State, IsSound, matching_of};
 ghost use Rattle.cq_ledger.specs.Reading.{Shows};
 
 use atomic_table::Closed;
-use cq_base::Port;
 use cq_prefs::{Matching, Offers};
 use std::alloc::Global;
 
@@ -23,8 +22,8 @@ pub(crate) fn read_matching(offers: &Offers, closed: &Closed<(), Global>) -> Mat
     for output in 0..ports {
         let word = closed.word(output as usize + 1);
         if word != ports as u64 {
-            let input = offers.inputs_of(output as Port)[word as usize];
-            matching.join(input, output as Port);
+            let input = offers.inputs_of(output)[word as usize];
+            matching.join(input, output);
         }
     }
     matching

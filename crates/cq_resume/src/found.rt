@@ -151,7 +151,7 @@ fn names_of(
     ensures ordered { IfOk result (λ names. AllAdjacentBelow IsNameNotAfter names.items (length names.items)) }
 {
     let mut names = all_names(alloc, listed, buffered, sent)?;
-    names.sort_unstable_by_key(|name| arrived(name));
+    names.sort_unstable_by_key(arrived);
     Ok(names)
 }
 

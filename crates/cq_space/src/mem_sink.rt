@@ -24,7 +24,6 @@ pub struct MemSink {
 }
 
 impl Model for MemSink {
-    ghost use Rattle.cq_space.specs.Lasting.{cut_lasts};
     ghost use Rattle.cq_space.specs.MemTaken.{MemTaken};
 
     ghost Value = { MemTaken };

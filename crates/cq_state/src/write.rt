@@ -110,11 +110,11 @@ fn put_inputs(text: &mut Vec<u8>, inputs: &[Seen]) -> Result<(), NoMemory>
 fn input_fields(input: usize, seen: Seen) -> [Option<u128>; 3]
     ensures { result ≡ Some input ∷ Some seen.longest ∷ seen.slack ∷ [] }
 {
-    let slack = match seen.slack {
-        Some(slack) => Some(u128::from(slack)),
-        None => None,
-    };
-    [Some(input as u128), Some(u128::from(seen.longest)), slack]
+    [
+        Some(input as u128),
+        Some(u128::from(seen.longest)),
+        seen.slack.map(u128::from),
+    ]
 }
 
 #[tactic(auto, using(std::proofs::lemmas::List::take_all))]

@@ -47,10 +47,7 @@ impl Intake {
         ensures told { told self.new ≡ told self.old }
         ensures reader { SameReader self.old self.new }
     {
-        match self.items.pop() {
-            Ok(item) => Some(item),
-            Err(_) => None,
-        }
+        self.items.pop().ok()
     }
 
     /// Brings both ends of both rings together, once the reader has left its own. Here they show that it

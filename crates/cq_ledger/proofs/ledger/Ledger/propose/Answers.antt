@@ -5,18 +5,18 @@ use Rattle.cq_ledger.proofs.ledger.Ledger.propose.Goals as goal
 pub asked-asked-requires : goal.asked-asked-requires
 asked-asked-requires c =
     let m = matched c.args.self.now c.args.seat.now _ _ _ _ c.self.view_is c.seat.view_is c.requires.seat in
-    rw m.offers_are at (c.seat.invariant.placed c.in-Some.hand.0 c.in-Some.hand.1
+    rw m.offers_are at (c.seat.invariant.placed c.in-Some.input c.in-Some.place
     (c.seat.invariant.in_hand ∙ c.in-Some.is))
 
 pub fetch_min-found-requires : goal.fetch_min-found-requires
 fetch_min-found-requires c =
     let m = matched c.args.self.now c.args.seat.now _ _ _ _ c.self.view_is c.seat.view_is c.requires.seat in (
       m.table_is,
-      (let r = output_in_range c.self.inside.offers c.asked-asked.ensures.offers c.in-Some.hand.0
+      (let r = output_in_range c.self.inside.offers c.asked-asked.ensures.offers c.in-Some.input
           c.asked-asked.result.output c.asked-asked.ensures.offered in
           omega arith),
       proposal-allowed c.self.inside.table.shared.key c.self.inside.offers c.self.invariant.0 _
-          c.seat.inside.seat.id c.in-Some.hand.0 c.in-Some.hand.1 c.seat.inside.seat.me
+          c.seat.inside.seat.id c.in-Some.input c.in-Some.place c.seat.inside.seat.me
           (c.seat.invariant.in_hand ∙ c.in-Some.is) m.offers_are
           (c.asked-asked.result.output + 1) c.asked-asked.result.position c.asked-asked.result.output
           c.asked-asked.ensures.output c.asked-asked.ensures.position (add-one _),
@@ -25,8 +25,8 @@ fetch_min-found-requires c =
 pub invariant_of-seat : goal.invariant_of-seat
 invariant_of-seat c =
     let m = matched c.args.self.now c.args.seat.now _ _ _ _ c.self.view_is c.seat.view_is c.requires.seat in
-    let i = c.in-Some.hand.0 in
-    let p = c.in-Some.hand.1 in
+    let i = c.in-Some.input in
+    let p = c.in-Some.place in
     proposed-seat c.seat.inside.seat.me c.seat.inside.claims c.seat.inside.hand c.seat.inside.made c.seat.invariant
     c.fetch_min-found.new.seat.me
     i p c.fetch_min-found.result c.answered-answer.result c.hand_next-seat-inside.result
