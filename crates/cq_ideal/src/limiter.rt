@@ -158,9 +158,8 @@ impl Limiter {
     {
         let ports = self.len();
         'inputs: for input in 0..ports {
-            match arrivals.at(input) {
-                None => {}
-                Some(cell) => self.turn(input, cell),
+            if let Some(cell) = arrivals.at(input) {
+                self.turn(input, cell);
             }
         }
     }
@@ -217,9 +216,8 @@ impl Limiter {
         }
         let ports = self.len();
         'inputs: for input in 0..ports {
-            match self.refused_at(arrivals, input) {
-                None => {}
-                Some(cell) => self.tally(cell),
+            if let Some(cell) = self.refused_at(arrivals, input) {
+                self.tally(cell);
             }
         }
     }

@@ -27,14 +27,13 @@ pub fn none_refused(alloc: Global, limits: &[Option<u64>]) -> Result<Vec<Refused
 {
     let mut refused = Vec::new(alloc);
     'outputs: for output in 0..limits.len() {
-        match limits[output] {
-            None => {}
-            Some(limit) => refused.push(Refused {
+        if let Some(limit) = limits[output] {
+            refused.push(Refused {
                 output: output as Port,
                 limit,
                 packets: 0,
                 cells: 0,
-            })?,
+            })?;
         }
     }
     Ok(refused)

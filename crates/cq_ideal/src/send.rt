@@ -32,13 +32,12 @@ pub fn send<R: Rank>(
         let gone = queues.pop(output);
         ranks.told(output, gone);
         limiter.sent(output, gone);
-        match gone {
-            None => {}
-            Some(queued) => sent.push(Departure {
+        if let Some(queued) = gone {
+            sent.push(Departure {
                 slot,
                 output,
                 queued,
-            }),
+            });
         }
     }
 }

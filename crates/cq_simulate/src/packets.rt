@@ -68,9 +68,8 @@ fn put_together(
     'departures: for departure in sent {
         if departure.output == output {
             let left = take(joiner, departure, captures, tables, t0)?;
-            match left {
-                None => {}
-                Some(packet) => packets.push(packet)?,
+            if let Some(packet) = left {
+                packets.push(packet)?;
             }
         }
     }

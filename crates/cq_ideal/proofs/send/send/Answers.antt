@@ -3,7 +3,7 @@ use Rattle.cq_ideal.proofs.Holding.{holds_some, holds_without}
 use Rattle.cq_ideal.proofs.Sending.{HasSent, sending_next, sending_last, length-told}
 use Rattle.cq_ideal.proofs.Came.{fit_same}
 use Rattle.cq_ideal.proofs.send.send.Goals as goal
-use Rattle.cq_ideal.proofs.send.send.Goals.{in-Some, in-None}
+use Rattle.cq_ideal.proofs.send.send.Goals.{in-Some, in_default}
 
 pub sent-requires : goal.sent-requires
 sent-requires g c =
@@ -15,7 +15,7 @@ outputs-preserved g c =
     let inv = c.outputs.invariant in
     let put : HasSent c.args.slot c.outputs.output gone c.outputs.sent c.match-gone.sent = elim c.match-gone.branch [
       | in-Some w ↦ rw (w.sent-is, w.in-Some.is) (search (arith, rules))
-      | in-None w ↦ rw (w.sent-is, w.in-None.is) (search (arith, rules, append-nil))
+      | in_default w ↦ rw (w.sent-is, w.in_default.is) (search (arith, rules, append-nil))
     ] in
     let holds = holds_without c.outputs.queues.lists c.outputs.limiter c.outputs.output (omega arith) inv.holds gone
     c.pop-gone.new.self.lists c.sent.new.self c.pop-gone.ensures.first c.pop-gone.ensures.lists in
