@@ -6,7 +6,7 @@ ghost use Rattle.cq_engine.specs.Terms.{is_for, IsAmong, input, fabric_in, fabri
 use cq_base::{Figures, NoMemory, Port, Queued, Sequence};
 use cq_ideal::Limiter;
 use cq_laws::Frozen;
-use std::alloc::Global;
+use std::alloc::{AllocError, Global};
 
 /// The same figures. The error is want of memory.
 #[tactic(auto, using(crate::proofs::Going::same_figures))]
@@ -24,17 +24,18 @@ pub fn copied_figures(alloc: Global, figures: &Figures) -> Result<Figures, NoMem
     })
 }
 
-// How many cells each of these has. The error is want of memory.
-#[tactic(auto, using(std::proofs::lemmas::List::take_all))]
-fn lengths_of(alloc: Global, buffers: &[Sequence<Queued>]) -> Result<Sequence<u64>, NoMemory>
-    ensures { IfOk result (λ counts. counts ≡ map length buffers.now) }
+fn length_of(cells: &Sequence<Queued>) -> u64
+    ensures { result ≡ length cells.now }
 {
-    let mut counts = Vec::with_capacity(alloc, buffers.len())?;
-    'outputs: for output in 0..buffers.len() {
-        let cells = buffers[output].as_slice();
-        counts.push(cells.len() as u64)?;
-    }
-    Ok(Sequence::of(counts))
+    cells.as_slice().len() as u64
+}
+
+// How many cells each of these has.
+#[tactic(auto, using(std::proofs::lemmas::Iterator::items_from_collect))]
+fn lengths_of(alloc: Global, buffers: &[Sequence<Queued>]) -> Result<Vec<u64>, AllocError>
+    ensures { IfOk result (λ counts. counts.items ≡ map length buffers.now) }
+{
+    buffers.iter().map(length_of).collect(alloc)
 }
 
 // One cell more is counted for an output. The error is want of memory: no memory holds more cells than 64 bits count.
@@ -73,7 +74,7 @@ fn held_in(alloc: Global, from: &Frozen) -> Result<Sequence<u64>, NoMemory>
 {
     let buffers = from.buffers.as_slice();
     let lists = from.lists.as_slice();
-    let mut held = lengths_of(alloc, buffers)?;
+    let mut held = Sequence::of(lengths_of(alloc, buffers)?);
     'inputs: for input in 0..lists.len() {
         count_each(&mut held, lists[input].as_slice())?;
     }

@@ -1,5 +1,5 @@
 //! The tables of the switch.
-ghost use Rattle.std.specs.Prelude.{◌≡◌, ◌≤◌, None, map, replicate, IfOk};
+ghost use Rattle.std.specs.Prelude.{◌≡◌, ◌<◌, ◌≤◌, None, map, replicate, IfOk};
 ghost use Rattle.std.specs.List.{range_with_len};
 ghost use Rattle.cq_base.specs.Limits.{most_ports};
 ghost use Rattle.cq_gen.specs.Tables.{soak_address, soak_class, soak_kind, soak_port, soak_rule, soak_setup, soak_tables};
@@ -47,19 +47,23 @@ fn soak_setup(alloc: Global, ports: Port) -> Result<Setup, NoMemory>
     })
 }
 
+fn class_of(class: u8) -> ClassRow
+    requires { class < 8 }
+    ensures { result ≡ soak_class class }
+{
+    ClassRow {
+        level: DEFAULT_LEVEL as u8,
+        priority: u128::from(CLASSES - 1 - class),
+        cost: u128::from(1 + class),
+    }
+}
+
 // The classes, the least urgent first.
-fn classes(alloc: Global) -> Result<Vec<ClassRow>, NoMemory>
+#[tactic(auto, using(std::proofs::lemmas::Iterator::items_from_collect))]
+fn classes(alloc: Global) -> Result<Vec<ClassRow>, AllocError>
     ensures { IfOk result (λ rows. rows.items ≡ map soak_class (range_with_len 0 8)) }
 {
-    let mut rows = Vec::with_capacity(alloc, CLASSES as usize)?;
-    'classes: for class in 0..CLASSES {
-        rows.push(ClassRow {
-            level: DEFAULT_LEVEL as u8,
-            priority: u128::from(CLASSES - 1 - class),
-            cost: u128::from(1 + class),
-        })?;
-    }
-    Ok(rows)
+    (0..CLASSES).map(class_of).collect(alloc)
 }
 
 fn kind_of(output: Port) -> Kind
@@ -102,19 +106,23 @@ fn no_limits(alloc: Global, ports: Port) -> Result<Vec<Option<u64>>, NoMemory>
     Ok(vec![in alloc; None; ports as usize]?)
 }
 
+fn address_of(output: Port) -> AddressRow
+    requires { output < most_ports }
+    ensures { result ≡ soak_address output }
+{
+    AddressRow {
+        mac: output_address(output as u8),
+        output,
+    }
+}
+
 // The address of each output.
-fn addresses(alloc: Global, ports: Port) -> Result<Vec<AddressRow>, NoMemory>
+#[tactic(auto, using(std::proofs::lemmas::Iterator::items_from_collect))]
+fn addresses(alloc: Global, ports: Port) -> Result<Vec<AddressRow>, AllocError>
     requires { ports ≤ most_ports }
     ensures { IfOk result (λ rows. rows.items ≡ map soak_address (range_with_len 0 ports)) }
 {
-    let mut rows = Vec::with_capacity(alloc, ports as usize)?;
-    'outputs: for output in 0..ports {
-        rows.push(AddressRow {
-            mac: output_address(output as u8),
-            output,
-        })?;
-    }
-    Ok(rows)
+    (0..ports).map(address_of).collect(alloc)
 }
 
 // A rule for each priority.
