@@ -4,7 +4,7 @@
 -- which stand by their keys. What the items of a list come to with their places, item by item. The departures of the
 -- cells that were sent stand by slot, and are before the next one. The figures of the outputs change departure by
 -- departure, each those of its own output. And the slots of a run: departures that stand by slot end with the last.
-use Rattle.cq_resume.proofs.Terms.{IsBefore, pairs_kept_with, ◌&&◌, rules, ◌≡◌, ℕ, ◌+◌, ◌-◌, ◌<◌, ◌≤◌, eqb, leb, ltb, Bool, true, false, List, [], ◌∷◌, length, get_or, take, drop, refl, ap, ◌∙◌, length-drop, Bor, arith, ◌++◌, map, common_steps, filter, Called, ComputesKey, Mut, IsPartitionPoint, IsNonDecreasingBy, always_returns_same, append-nil, get_or-drop, get_or-take, length-take-le, take-append-drop, map-append, take_more, filter-append, eq-eqb, leb-false, leb-true, ltb-false, ltb-true, ne_eqb, cases_eq, eqb-true, AllPairs, range_with_len, enumerate_from, IsRising, Queued, IsBufferedBefore, ◌^◌, set, length-append, AllByRecursion, Departure, OutputFigures, output_told, IsSentBefore, IsTimely, departed, with_departure, Gone, recursion_from_All, filter_all, filter_none, cases_Bool, get_or-map-range_with_len, set_one, slots_of, all_weaker, of_images, few_kept, each_pair, all_pairs, EachPair, pairs_mapped, All-from_recursion, map-constant, take_all, flat_map-append, has_at}
+use Rattle.cq_resume.proofs.Terms.{IsBefore, pairs_kept_with, ◌&&◌, rules, ◌≡◌, ℕ, ◌+◌, ◌-◌, ◌<◌, ◌≤◌, eqb, leb, ltb, Bool, true, false, List, [], ◌∷◌, length, get_or, take, drop, refl, ap, ◌∙◌, length-drop, Bor, arith, map, common_steps, filter, Called, ComputesKey, Mut, IsPartitionPoint, IsNonDecreasingBy, always_returns_same, append-nil, get_or-drop, get_or-take, length-take-le, take-append-drop, map-append, take_more, filter-append, eq-eqb, leb-false, leb-true, ltb-false, ltb-true, ne_eqb, cases_eq, eqb-true, AllPairs, range_with_len, IsRising, Queued, IsBufferedBefore, ◌^◌, set, length-append, AllByRecursion, Departure, OutputFigures, output_told, IsSentBefore, IsTimely, departed, with_departure, Gone, recursion_from_All, filter_all, filter_none, cases_Bool, get_or-map-range_with_len, set_one, slots_of, all_weaker, of_images, few_kept, each_pair, all_pairs, EachPair, pairs_mapped, All-from_recursion, map-constant, take_all, flat_map-append, has_at}
 use Rattle.std.proofs.lemmas.List.{take_rest}
 
 -- a test computes what each of its calls answers
@@ -65,17 +65,6 @@ listed_at listed i = filter (λ q. eqb q.key.input i) listed
 
 abbrev pub buffered_at : List Queued → ℕ → List Queued
 buffered_at buffered j = filter (λ q. eqb q.cell.output j) buffered
-
-enumerate_put : {X : Type 0} (n : ℕ) (xs : List X) (x : X) →
-    enumerate_from n (xs ++ x ∷ []) ≡ enumerate_from n xs ++ (n + length xs, x) ∷ []
-enumerate_put {X} n [] x = grind (arith, common_steps)
-enumerate_put {X} n (y ∷ xs) x = grind (arith, common_steps, enumerate_put (n + 1) xs x)
-
-pub placed_more : {X Y : Type 0} (f : ℕ → X → Y) (xs : List X) (i : ℕ) (d : X) (y : Y) (now new : List Y) →
-    i < length xs → now ≡ map (λ at. f at.0 at.1) (enumerate_from 0 (take i xs)) → y ≡ f i (get_or xs i d) →
-    new ≡ now ++ y ∷ [] → new ≡ map (λ at. f at.0 at.1) (enumerate_from 0 (take (i + 1) xs))
-placed_more f xs i d y now new inside so_far is more =
-    grind (arith, common_steps, length-take-le, take_more, enumerate_put, map-append)
 
 -- two tests one after the other are one
 pub filter_both : {X : Type 0} (p q : X → Bool) (xs : List X) → filter p (filter q xs) ≡ filter (λ x. q x && p x) xs

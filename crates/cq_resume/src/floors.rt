@@ -59,10 +59,5 @@ pub fn are_below_floors(setup: &Setup, ranks: &[Sequence<u128>], cells: &[Queued
         × (q.cell.class < length setup.now.classes)) cells.now }
     ensures { IsTrue result ↔ AllByRecursion (StandsBelow setup.now ranks.now) cells.now }
 {
-    'places: for at in 0..cells.len() {
-        if !is_below_floor(setup, ranks, cells[at]) {
-            return false;
-        }
-    }
-    true
+    cells.iter().all(|cell| is_below_floor(setup, ranks, *cell))
 }

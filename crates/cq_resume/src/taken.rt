@@ -96,26 +96,31 @@ fn beside_cells(state: State) -> (Sequence<Sequence<u128>>, Sequence<Transfer>)
     (state.ranks, state.moved)
 }
 
-// What was seen of each input: the cells that are named, and what the lines tell.
-fn inputs_of(
-    alloc: Global,
-    names: &[Name],
-    seen: &[Seen],
-) -> Result<Sequence<InputFigures>, NoMemory>
+// What was seen of an input: the cells that are named, and what its line tells.
+fn figures_at_input(names: &[Name], input: usize, seen: &Seen) -> InputFigures
+    requires few { input < most_ports }
+    requires ordered { AllPairs IsNameBefore names.now }
+    ensures { result ≡ figures_at_input names.now input seen.now }
+{
+    InputFigures {
+        cells: names_at(names, input as Port).len() as u64,
+        longest: seen.longest,
+        slack: seen.slack,
+    }
+}
+
+// What was seen of each input.
+#[tactic(auto, using(std::proofs::lemmas::Iterator::items_from_collect))]
+fn inputs_of(alloc: Global, names: &[Name], seen: &[Seen]) -> Result<Vec<InputFigures>, AllocError>
     requires few { length seen.now ≤ most_ports }
     requires ordered { AllPairs IsNameBefore names.now }
-    ensures { IfOk result (λ inputs. inputs ≡ map (λ at. figures_at_input names.now at.0 at.1)
+    ensures { IfOk result (λ inputs. inputs.items ≡ map (λ at. figures_at_input names.now at.0 at.1)
         (enumerate_from 0 seen.now)) }
 {
-    let mut inputs = Vec::new(alloc);
-    'inputs: for input in 0..seen.len() {
-        inputs.push(InputFigures {
-            cells: names_at(names, input as Port).len() as u64,
-            longest: seen[input].longest,
-            slack: seen[input].slack,
-        })?;
-    }
-    Ok(Sequence::of(inputs))
+    seen.iter()
+        .enumerate()
+        .map(|(input, seen)| figures_at_input(names, input, seen))
+        .collect(alloc)
 }
 
 // The greater of the waits so far, if there are any, and this one.
@@ -235,7 +240,7 @@ pub fn take_up(alloc: Global, state: State, found: Found, tally: Tally) -> Resul
     let inputs = inputs_of(alloc, &found.names, state.inputs.as_slice());
     let (ranks, moved) = beside_cells(state);
     let placed = places_of(alloc, found, head.ports);
-    let inputs = inputs?;
+    let inputs = Sequence::of(inputs?);
     let placed = placed?;
     let figures = Figures {
         slots: placed.slots,
