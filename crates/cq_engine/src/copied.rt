@@ -58,8 +58,8 @@ fn count_each(held: &mut Sequence<u64>, cells: &[Queued]) -> Result<(), NoMemory
     ensures counts { OnOk result ((j : ℕ) → j < length held.old →
         slice_index held.new j ≡ slice_index held.old j + length (filter (is_for j) cells.now)) }
 {
-    'places: for at in 0..cells.len() {
-        count_one(held, cells[at].cell.output)?;
+    'cells: for queued in cells {
+        count_one(held, queued.cell.output)?;
     }
     Ok(())
 }
@@ -75,8 +75,8 @@ fn held_in(alloc: Global, from: &Frozen) -> Result<Sequence<u64>, NoMemory>
     let buffers = from.buffers.as_slice();
     let lists = from.lists.as_slice();
     let mut held = Sequence::of(lengths_of(alloc, buffers)?);
-    'inputs: for input in 0..lists.len() {
-        count_each(&mut held, lists[input].as_slice())?;
+    'inputs: for list in lists {
+        count_each(&mut held, list.as_slice())?;
     }
     Ok(held)
 }

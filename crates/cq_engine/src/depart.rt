@@ -24,8 +24,8 @@ fn send(slot: Slot, gone: &[Option<Queued>], sent: &mut Room<Departure>)
     ensures items { sent.new.items ≡ sent.old.items ++ departures_in slot gone.now }
     ensures spare { sent.new.spare + length (departures_in slot gone.now) ≡ sent.old.spare }
 {
-    'outputs: for output in 0..gone.len() {
-        if let Some(queued) = gone[output] {
+    'outputs: for (output, queued) in gone.iter().enumerate() {
+        if let Some(queued) = *queued {
             sent.push(Departure {
                 slot,
                 output: output as Port,

@@ -176,8 +176,8 @@ pub fn count_outputs(outputs: &mut Sequence<OutputFigures>, slot: Slot, gone: &[
     ensures { outputs.new ≡ map (λ at. output_counted slot (came_to gone.now at.0) at.1)
         (enumerate_from 0 outputs.old) }
 {
-    'outputs: for output in 0..gone.len() {
-        if let Some(queued) = gone[output] {
+    'outputs: for (output, queued) in gone.iter().enumerate() {
+        if let Some(queued) = *queued {
             let counted = output_counted(outputs.as_slice()[output], slot, queued);
             outputs.set(output, counted);
         }

@@ -15,8 +15,8 @@ pub fn tell<R: Rank>(ranks: &mut Ranks<R>, gone: &[Option<Queued>])
     ensures fixed { ranks.new.fixed ≡ ranks.old.fixed }
     ensures states { ranks.new.states ≡ all_told (map R.machine ranks.old.fixed) gone.now ranks.old.states }
 {
-    'outputs: for output in 0..gone.len() {
-        ranks.told(output as Port, gone[output]);
+    'outputs: for (output, queued) in gone.iter().enumerate() {
+        ranks.told(output as Port, *queued);
     }
 }
 
@@ -27,7 +27,7 @@ pub fn release(limiter: &mut Limiter, gone: &[Option<Queued>])
     requires holds { (j : ℕ) → IfSome (came_to gone.now j) (λ _. 0 < slice_index_or limiter.old.held j 0) }
     ensures { HasReleased gone.now limiter.old limiter.new }
 {
-    'outputs: for output in 0..gone.len() {
-        limiter.sent(output as Port, gone[output]);
+    'outputs: for (output, queued) in gone.iter().enumerate() {
+        limiter.sent(output as Port, *queued);
     }
 }

@@ -24,8 +24,8 @@ pub fn filled_list(
     ensures outputs { IfOk result (λ list. list.outputs ≡ outputs) }
 {
     let mut list = InputList::new(alloc, outputs, room)?;
-    'places: for at in 0..cells.len() {
-        list.insert(cells[at], at as u64);
+    'places: for (at, queued) in cells.iter().enumerate() {
+        list.insert(*queued, at as u64);
     }
     Ok(list)
 }
@@ -38,8 +38,8 @@ pub fn filled_buffer(alloc: Global, room: u64, cells: &[Queued]) -> Result<Outpu
     ensures room { IfOk result (λ buffer. buffer_room buffer ≡ room) }
 {
     let mut buffer = OutputBuffer::new(alloc, room)?;
-    'places: for at in 0..cells.len() {
-        buffer.put(cells[at]);
+    'cells: for queued in cells {
+        buffer.put(*queued);
     }
     Ok(buffer)
 }

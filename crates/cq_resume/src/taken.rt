@@ -167,9 +167,9 @@ fn outputs_of(
     ensures { IfOk result (λ outputs. outputs ≡ map (output_told sent.now) (range_with_len 0 ports)) }
 {
     let mut outputs = nothing_sent(alloc, ports)?;
-    'sent: for at in 0..sent.len() {
-        let output = sent[at].output as usize;
-        outputs[output] = with_departure(outputs[output], sent[at]);
+    'sent: for departure in sent {
+        let output = departure.output as usize;
+        outputs[output] = with_departure(outputs[output], *departure);
     }
     Ok(Sequence::of(outputs))
 }

@@ -59,8 +59,8 @@ fn all_numbers(
     ensures { IfOk result (λ copies. copies ≡ ranks.now) }
 {
     let mut copies = Vec::new(alloc);
-    'outputs: for output in 0..ranks.len() {
-        let copy = Sequence::copy_of(alloc, ranks[output].as_slice())?;
+    'outputs: for numbers in ranks {
+        let copy = Sequence::copy_of(alloc, numbers.as_slice())?;
         copies.push(copy)?;
     }
     Ok(Sequence::of(copies))
@@ -79,8 +79,8 @@ fn all_named(alloc: Global, queues: &[Sequence<Queued>]) -> Result<Sequence<Name
     ensures { IfOk result (λ named. named ≡ map named_as (flat_map (λ cells. cells) queues.now)) }
 {
     let mut named = Vec::new(alloc);
-    'queues: for queue in 0..queues.len() {
-        put_named(&mut named, queues[queue].as_slice())?;
+    'queues: for queue in queues {
+        put_named(&mut named, queue.as_slice())?;
     }
     Ok(Sequence::of(named))
 }

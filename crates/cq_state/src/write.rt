@@ -101,8 +101,8 @@ fn put_head(text: &mut Vec<u8>, head: Head) -> Result<(), NoMemory>
 fn put_inputs(text: &mut Vec<u8>, inputs: &[Seen]) -> Result<(), NoMemory>
     ensures { OnOk result (text.new.items ≡ text.old.items ++ flat_map spelled (numbered input_line 0 inputs.now)) }
 {
-    'inputs: for input in 0..inputs.len() {
-        put_numbers(text, Kind::Input, &input_fields(input, inputs[input]))?;
+    'inputs: for (input, seen) in inputs.iter().enumerate() {
+        put_numbers(text, Kind::Input, &input_fields(input, *seen))?;
     }
     Ok(())
 }
@@ -121,8 +121,8 @@ fn input_fields(input: usize, seen: Seen) -> [Option<u128>; 3]
 fn put_ranks(alloc: Global, text: &mut Vec<u8>, ranks: &[Sequence<u128>]) -> Result<(), NoMemory>
     ensures { OnOk result (text.new.items ≡ text.old.items ++ flat_map spelled (numbered rank_line 0 ranks.now)) }
 {
-    'outputs: for output in 0..ranks.len() {
-        let fields = rank_fields(alloc, output, ranks[output].as_slice())?;
+    'outputs: for (output, numbers) in ranks.iter().enumerate() {
+        let fields = rank_fields(alloc, output, numbers.as_slice())?;
         put_numbers(text, Kind::Rank, &fields)?;
     }
     Ok(())

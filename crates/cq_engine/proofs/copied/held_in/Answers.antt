@@ -4,10 +4,10 @@ use Rattle.cq_engine.proofs.copied.held_in.Goals as goal
 use Rattle.cq_engine.proofs.copied.held_in.Goals.{After-as_slice}
 
 -- the cells that are counted are those of the input's list
-here : (c : After-as_slice) → c.as_slice.result.now ≡ list_of (fabric_in c.args.from.now).inputs c.inputs.input
+here : (c : After-as_slice) → c.as_slice.result.now ≡ list_of (fabric_in c.args.from.now).inputs c.inputs.list-index
 here c = search (arith, rules, get_or_read)
 
-inside : (c : After-as_slice) → c.inputs.input < length c.args.from.now.lists
+inside : (c : After-as_slice) → c.inputs.list-index < length c.args.from.now.lists
 inside c = let long = ap length c.as_slice-lists.ensures in omega arith
 
 pub count_each-requires : goal.count_each-requires
