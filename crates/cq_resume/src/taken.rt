@@ -181,10 +181,10 @@ fn slots_of(sent: &[Departure]) -> Slot
     requires low { AllByRecursion (λ d. d.slot < 2 ^ 63) sent.now }
     ensures { result ≡ slots_of sent.now }
 {
-    if sent.is_empty() {
-        return 0;
+    match sent.last() {
+        Some(last) => last.slot + 1,
+        None => 0,
     }
-    sent[sent.len() - 1].slot + 1
 }
 
 // Where the cells that were found are: those that wait, in their queues, and those that left, with how many slots they
