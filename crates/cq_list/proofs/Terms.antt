@@ -10,7 +10,7 @@ pub use Rattle.slab.specs.Slab.{Slab, Updates, get, slab_len}
 pub use Rattle.cq_list.specs.InputList.{AreWaiting, StandFor, Waiting, cells_in}
 pub use Rattle.cq_list.specs.Places.{AreFilled, HaveMemory, IsAhead, IsSpot, PlacesView, joined, least_places, pulled}
 pub use Rattle.cq_list.specs.Fingers.{AreFingers, AreSet, AreShifted, EndsAt, IsShifted, finger_at}
-pub use Rattle.cq_list.specs.Pool.{AreLinked, HaveFingers, IsChained, IsLinked, IsPool, Nodes, OthersStay, PoolView, behind_first, cells, cells_in_queues, chain, followed, linked, no_queue, places, queue_at, queue_of}
+pub use Rattle.cq_list.specs.Pool.{AreLinked, HaveFingers, IsChained, IsLinked, IsPool, LeadsTowards, Nodes, OthersStay, PoolView, behind_first, cells, cells_in_queues, chain, followed, linked, no_queue, places, queue_at, queue_of}
 pub use Rattle.cq_list.specs.Split.{CanTell, HaveTold, IsSplit, Queues, count_of, is_output, merged, place_of_nth, without_head}
 pub use Rattle.cq_list.specs.{declared.fingers.Ahead.Ahead, declared.pool.Node.Node, declared.pool.Queue.Queue}
 pub use Rattle.cq_base.proofs.Each.{all_back, all_filter, all_weaker, map-insert, position_or_len-map, few_kept}

@@ -1,6 +1,6 @@
 -- A pool of cells that are linked into a queue for each output, and what clauses see of it.
-use Rattle.std.specs.Prelude.{◌≡◌, ◌≢◌, ℕ, zero, suc, ◌-◌, ◌≤◌, List, [], ◌∷◌, length, map, Option, None, Some, slice_index_or}
-use Rattle.std.specs.List.{AllByRecursion, sum_by}
+use Rattle.std.specs.Prelude.{◌≡◌, ◌≢◌, ℕ, zero, suc, ◌+◌, ◌-◌, ◌≤◌, Bool, List, [], ◌∷◌, length, map, Option, None, Some, slice_index_or}
+use Rattle.std.specs.List.{AllByRecursion, position_or_len, sum_by}
 use Rattle.slab.specs.Slab.{Slab, get, slab_len}
 use Rattle.cq_base.specs.declared.cell.Queued.{Queued}
 use Rattle.cq_base.specs.Cells.{IsRising}
@@ -96,3 +96,21 @@ pub record IsPool (nodes : Slab Node) (queues : List Queue) (fingers : List (Lis
   pub counted : sum_by (λ queue. queue.len) queues ≡ slab_len nodes
   pub fits : slab_len nodes ≤ room
   pub memory : room ≤ nodes.capacity
+
+-- the pool has one node more, and the nodes with cells for other outputs than j stay
+pub record HasOneMore (j : ℕ) (old new : Slab Node) : Type 0 where
+  pub others : OthersStay j (get old) (get new)
+  pub len : slab_len new ≡ slab_len old + 1
+  pub capacity : new.capacity ≡ old.capacity
+
+-- ## What stands ahead of a place in a queue
+
+-- so many nodes stand ahead of the first cell that passes a test, and the last of them is known
+pub record LeadsTo (p : Queued → Bool) (chained : List (ℕ × Queued)) (ahead : Ahead) : Type 0 where
+  pub count : ahead.count ≡ position_or_len p (cells chained)
+  pub last : EndsAt (places chained) ahead.count ahead.last
+
+-- so many of the nodes that stand ahead of it, of which the last is known
+pub record LeadsTowards (p : Queued → Bool) (chained : List (ℕ × Queued)) (ahead : Ahead) : Type 0 where
+  pub count : ahead.count ≤ position_or_len p (cells chained)
+  pub last : EndsAt (places chained) ahead.count ahead.last

@@ -1,11 +1,11 @@
 //! The cells that wait, in a queue for each output.
-ghost use Rattle.std.specs.Prelude.{◌≡◌, ◌-◌, ◌+◌, ◌<◌, ◌≤◌, ℕ, ◌==◌, ◌^◌, [], ◌∷◌, Some, IfOk, IsTrue, length, replicate, drop, insert, slice_get, slice_set, not, if◌then◌else◌};
+ghost use Rattle.std.specs.Prelude.{◌≡◌, ◌-◌, ◌+◌, ◌<◌, ℕ, ◌==◌, ◌^◌, [], ◌∷◌, Some, IfOk, IsTrue, length, replicate, drop, insert, slice_get, slice_set, not, if◌then◌else◌};
 ghost use Rattle.std.specs.List.{position_or_len};
 ghost use Rattle.cq_base.specs.Key.{is_before};
 ghost use Rattle.cq_base.specs.Cells.{HasOtherKey, has_id, put};
 ghost use Rattle.cq_list.specs.Fingers.{AreFingers, EndsAt};
-ghost use Rattle.cq_list.specs.Pool.{queue_of, behind_first, chain, linked, places, cells, IsChained, IsLinked, OthersStay};
-ghost use Rattle.slab.specs.Slab.{get, slab_len, HasRoomFor};
+ghost use Rattle.cq_list.specs.Pool.{queue_of, behind_first, chain, linked, places, cells, HasOneMore, IsChained, IsLinked, LeadsTo, LeadsTowards};
+ghost use Rattle.slab.specs.Slab.{get, HasRoomFor};
 
 use crate::fingers::{Ahead, Fingers};
 use cq_base::{CellId, Key, NoMemory, Port, Queued};
@@ -72,13 +72,9 @@ fn is_same(key: Key, other: Key) -> bool
 // A finger, where it has more nodes ahead than the one that was found and the last of them is more urgent.
 fn further(nodes: &Slab<Node>, _queue: Queue, found: Ahead, finger: Ahead, key: Key) -> Ahead
     requires chained { IsChained (get nodes.now) _queue }
-    requires count { found.count ≤
-        position_or_len (λ x. not (is_before x.key key)) (cells (linked (get nodes.now) _queue)) }
-    requires last { EndsAt (places (linked (get nodes.now) _queue)) found.count found.last }
+    requires found { LeadsTowards (λ x. not (is_before x.key key)) (linked (get nodes.now) _queue) found }
     requires finger { EndsAt (places (linked (get nodes.now) _queue)) finger.count finger.last }
-    ensures count { result.count ≤
-        position_or_len (λ x. not (is_before x.key key)) (cells (linked (get nodes.now) _queue)) }
-    ensures last { EndsAt (places (linked (get nodes.now) _queue)) result.count result.last }
+    ensures { LeadsTowards (λ x. not (is_before x.key key)) (linked (get nodes.now) _queue) result }
 {
     if finger.count > found.count && nodes[finger.last].queued.key.precedes(key) {
         return finger;
@@ -90,9 +86,7 @@ fn further(nodes: &Slab<Node>, _queue: Queue, found: Ahead, finger: Ahead, key: 
 fn nearest(nodes: &Slab<Node>, queue: Queue, fingers: &[Ahead], key: Key) -> Ahead
     requires chained { IsChained (get nodes.now) queue }
     requires fingers { AreFingers (places (linked (get nodes.now) queue)) fingers.now }
-    ensures count { result.count ≤
-        position_or_len (λ x. not (is_before x.key key)) (cells (linked (get nodes.now) queue)) }
-    ensures last { EndsAt (places (linked (get nodes.now) queue)) result.count result.last }
+    ensures { LeadsTowards (λ x. not (is_before x.key key)) (linked (get nodes.now) queue) result }
 {
     let mut found = Ahead {
         count: 0,
@@ -120,12 +114,8 @@ fn next_of(nodes: &Slab<Node>, queue: Queue, ahead: Ahead) -> usize
 // How many cells of a queue are more urgent, cell by cell behind some that are.
 fn walk(nodes: &Slab<Node>, queue: Queue, from: Ahead, key: Key) -> Ahead
     requires chained { IsChained (get nodes.now) queue }
-    requires count { from.count ≤
-        position_or_len (λ x. not (is_before x.key key)) (cells (linked (get nodes.now) queue)) }
-    requires last { EndsAt (places (linked (get nodes.now) queue)) from.count from.last }
-    ensures count { result.count ≡
-        position_or_len (λ x. not (is_before x.key key)) (cells (linked (get nodes.now) queue)) }
-    ensures last { EndsAt (places (linked (get nodes.now) queue)) result.count result.last }
+    requires from { LeadsTowards (λ x. not (is_before x.key key)) (linked (get nodes.now) queue) from }
+    ensures { LeadsTo (λ x. not (is_before x.key key)) (linked (get nodes.now) queue) result }
 {
     let mut last = from.last;
     let mut place = next_of(nodes, queue, from);
@@ -159,9 +149,7 @@ fn is_behind_all(nodes: &Slab<Node>, queue: Queue, key: Key) -> bool
 fn ahead_of(nodes: &Slab<Node>, queue: Queue, fingers: &[Ahead], key: Key) -> Ahead
     requires chained { IsChained (get nodes.now) queue }
     requires fingers { AreFingers (places (linked (get nodes.now) queue)) fingers.now }
-    ensures count { result.count ≡
-        position_or_len (λ x. not (is_before x.key key)) (cells (linked (get nodes.now) queue)) }
-    ensures last { EndsAt (places (linked (get nodes.now) queue)) result.count result.last }
+    ensures { LeadsTo (λ x. not (is_before x.key key)) (linked (get nodes.now) queue) result }
 {
     if is_behind_all(nodes, queue, key) {
         return Ahead {
@@ -221,9 +209,7 @@ fn put_first(nodes: &mut Slab<Node>, queue: Queue, queued: Queued) -> usize
     requires room { HasRoomFor nodes.old 1 }
     requires linked { IsLinked (get nodes.old) queued.cell.output queue }
     ensures chained { chain (get nodes.new) (queue.len + 1) result ≡ (result, queued) ∷ linked (get nodes.old) queue }
-    ensures others { OthersStay queued.cell.output (get nodes.old) (get nodes.new) }
-    ensures len { slab_len nodes.new ≡ slab_len nodes.old + 1 }
-    ensures capacity { nodes.new.capacity ≡ nodes.old.capacity }
+    ensures more { HasOneMore queued.cell.output nodes.old nodes.new }
 {
     nodes.insert_reserved(Node {
         queued,
@@ -239,14 +225,28 @@ fn put_behind(nodes: &mut Slab<Node>, _queue: Queue, queued: Queued, ahead: Ahea
     requires last { EndsAt (places (linked (get nodes.old) _queue)) ahead.count ahead.last }
     ensures chained { chain (get nodes.new) (_queue.len + 1) _queue.first ≡
         insert (linked (get nodes.old) _queue) ahead.count (result, queued) }
-    ensures others { OthersStay queued.cell.output (get nodes.old) (get nodes.new) }
-    ensures len { slab_len nodes.new ≡ slab_len nodes.old + 1 }
-    ensures capacity { nodes.new.capacity ≡ nodes.old.capacity }
+    ensures more { HasOneMore queued.cell.output nodes.old nodes.new }
 {
     let next = nodes[ahead.last].next;
     let place = nodes.insert_reserved(Node { queued, next });
     nodes[ahead.last].next = place;
     place
+}
+
+// A node behind so many of a queue's: the place of the first one then, and its own.
+fn put_node(nodes: &mut Slab<Node>, queue: Queue, queued: Queued, ahead: Ahead) -> (usize, usize)
+    requires room { HasRoomFor nodes.old 1 }
+    requires linked { IsLinked (get nodes.old) queued.cell.output queue }
+    requires last { EndsAt (places (linked (get nodes.old) queue)) ahead.count ahead.last }
+    ensures chained { chain (get nodes.new) (queue.len + 1) result.0 ≡
+        insert (linked (get nodes.old) queue) ahead.count (result.1, queued) }
+    ensures more { HasOneMore queued.cell.output nodes.old nodes.new }
+{
+    if ahead.count == 0 {
+        let place = put_first(nodes, queue, queued);
+        return (place, place);
+    }
+    (queue.first, put_behind(nodes, queue, queued, ahead))
 }
 
 // The place of the last node, where a node was put at this place.
@@ -265,31 +265,20 @@ fn put_into(nodes: &mut Slab<Node>, queue: Queue, queued: Queued, ahead: Ahead) 
     requires room { HasRoomFor nodes.old 1 }
     requires linked { IsLinked (get nodes.old) queued.cell.output queue }
     requires other_key { HasOtherKey queued (cells (linked (get nodes.old) queue)) }
-    requires count { ahead.count ≡
-        position_or_len (λ x. is_before queued.key x.key) (cells (linked (get nodes.old) queue)) }
-    requires last { EndsAt (places (linked (get nodes.old) queue)) ahead.count ahead.last }
+    requires ahead { LeadsTo (λ x. is_before queued.key x.key) (linked (get nodes.old) queue) ahead }
     requires fits { queue.len + 1 < 2 ^ 64 }
     ensures linked { IsLinked (get nodes.new) queued.cell.output result }
     ensures places { (place : ℕ) × (places (linked (get nodes.new) result) ≡
         insert (places (linked (get nodes.old) queue)) ahead.count place) }
     ensures cells { cells (linked (get nodes.new) result) ≡ put queued (cells (linked (get nodes.old) queue)) }
-    ensures others { OthersStay queued.cell.output (get nodes.old) (get nodes.new) }
-    ensures len { slab_len nodes.new ≡ slab_len nodes.old + 1 }
-    ensures capacity { nodes.new.capacity ≡ nodes.old.capacity }
+    ensures more { HasOneMore queued.cell.output nodes.old nodes.new }
     ensures longer { result.len ≡ queue.len + 1 }
 {
-    let len = queue.len + 1;
-    if ahead.count == 0 {
-        let first = put_first(nodes, queue, queued);
-        let last = last_of(queue, ahead, first);
-        return Queue { first, last, len };
-    }
-    let place = put_behind(nodes, queue, queued, ahead);
-    let last = last_of(queue, ahead, place);
+    let (first, place) = put_node(nodes, queue, queued, ahead);
     Queue {
-        first: queue.first,
-        last,
-        len,
+        first,
+        last: last_of(queue, ahead, place),
+        len: queue.len + 1,
     }
 }
 

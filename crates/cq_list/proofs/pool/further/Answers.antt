@@ -5,6 +5,9 @@ use Rattle.cq_list.proofs.pool.further.Goals as goal
 pub index-requires : goal.index-requires
 index-requires c = ap is_some (finger_there c.requires.chained c.requires.finger (omega arith)).1
 
-pub returns-then-precedes-clause-count : goal.returns-then-precedes-clause-count
-returns-then-precedes-clause-count c = all_sooner c.requires.chained c.requires.finger (omega arith) c.index.ensures
-    c.args.key (sym c.precedes.ensures ∙ c.if-precedes.true)
+pub returns-then-precedes : goal.returns-then-precedes
+returns-then-precedes c = record {
+  count = all_sooner c.requires.chained c.requires.finger (omega arith) c.index.ensures c.args.key
+      (sym c.precedes.ensures ∙ c.if-precedes.true);
+  last = c.requires.finger;
+}

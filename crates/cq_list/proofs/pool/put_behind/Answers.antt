@@ -12,9 +12,8 @@ returns c =
     let put = c.insert_reserved-place in
     let led = Updates-with_value put.new.self c.args.ahead.last _ (ap is_some c.index_mut.ensures.value) in
     let behind = is_behind put.ensures.was_vacant c.index.ensures put.ensures.updates c.index_mut.ensures.value led in
+    let stay = others_stay c.requires.linked c.args.ahead.count c.requires.last c.requires.some behind in
     record {
       chained = chain_more c.requires.linked c.args.ahead.count c.requires.last c.requires.some behind;
-      others = others_stay c.requires.linked c.args.ahead.count c.requires.last c.requires.some behind;
-      len = grind (arith, common_steps);
-      capacity = put.ensures.capacity;
+      more = grind (arith, common_steps, stay);
     }

@@ -4,13 +4,13 @@ use Rattle.cq_list.proofs.Walk.{node_there, search_ends, search_on, ends_on, sea
 use Rattle.cq_list.proofs.pool.walk.Goals as goal
 
 pub nodes-init : goal.nodes-init
-nodes-init c = (record { reached = c.next_of-place.ensures; behind = c.requires.count }, c.requires.last)
+nodes-init c = (record { reached = c.next_of-place.ensures; behind = c.requires.from.count }, c.requires.from.last)
 
 pub index-node-requires : goal.index-node-requires
 index-node-requires c = ap is_some (node_there c.requires.chained c.nodes.invariant.0.reached c.nodes-test.true).1
 
-pub returns-then-is_no_sooner-clause-count : goal.returns-then-is_no_sooner-clause-count
-returns-then-is_no_sooner-clause-count c = search (arith, rules, search_ends, is_no_sooner)
+pub returns-then-is_no_sooner : goal.returns-then-is_no_sooner
+returns-then-is_no_sooner c = search (arith, rules, search_ends, is_no_sooner)
 
 pub nodes-preserved : goal.nodes-preserved
 nodes-preserved c =
@@ -18,10 +18,10 @@ nodes-preserved c =
     (sym c.is_no_sooner.ensures ∙ c.if-is_no_sooner.false) in
     (on, ends_on c.requires.chained c.nodes.invariant.0 c.nodes-test.true c.index-node.ensures)
 
-pub returns-clause-count : goal.returns-clause-count
-returns-clause-count c = searched_all _ c.requires.chained c.nodes.invariant.0.behind c.nodes-test.false
-
-pub returns-clause-last : goal.returns-clause-last
-returns-clause-last c m is =
-    let end = c.nodes.auto.count-end (within c.requires.chained c.requires.last) in
-    c.nodes.invariant.1 m (omega arith)
+pub returns : goal.returns
+returns c =
+    let end = c.nodes.auto.count-end (within c.requires.chained c.requires.from.last) in
+    record {
+      count = searched_all _ c.requires.chained c.nodes.invariant.0.behind c.nodes-test.false;
+      last = λ m is. c.nodes.invariant.1 m (omega arith);
+    }

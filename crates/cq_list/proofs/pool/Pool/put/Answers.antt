@@ -33,15 +33,15 @@ invariant_of-self c =
     let spare = ap (λ (v : PoolView). v.spare) c.self.view_is in
     let fingers = fingers_read c.self.invariant read.inside c.index-queue.ensures c.index_mut-2.ensures.value in
     let placed = c.put_into.ensures.places in
-    is_pool_changed c.put_into.new.nodes c.self.invariant read c.put_into.ensures.others c.put_into.ensures.linked
+    is_pool_changed c.put_into.new.nodes c.self.invariant read c.put_into.ensures.more.others c.put_into.ensures.linked
     c.put.new.self (rw placed.1 (c.put.ensures _ placed.0 (all_placed read.is_linked.chained) fingers
     c.ahead_of-ahead.ensures.last))
-    (omega arith) (omega arith) c.put_into.ensures.capacity
+    (omega arith) (omega arith) c.put_into.ensures.more.capacity
 
 pub returns : goal.returns
 returns c =
     let read = read_of c.self.invariant c.self.view_is c.requires.in_range c.index-queue.ensures in
     let spare = ap (λ (v : PoolView). v.spare) c.self.view_is in
-    let now = view_changed c.put_into.new.nodes c.self.invariant read c.put_into.ensures.others
+    let now = view_changed c.put_into.new.nodes c.self.invariant read c.put_into.ensures.more.others
     c.put_into.ensures.linked (put c.args.queued) c.put_into.ensures.cells in
     search (arith, rules, read, spare, now, no_sooner_is_later)
