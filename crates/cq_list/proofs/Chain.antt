@@ -52,9 +52,8 @@ module _ {old new : Nodes} {a k : ℕ} {ahead : Node} {c : Queued} (b : IsBehind
       (suc p) (k, c)
   chain_behind zero first p whole rising at = cc
   chain_behind (suc n) first zero whole rising at =
-      let seen = chain-at old n first ahead in
       let stays = chain_stays old new (λ x. x ≢ ahead.queued) other_cell n ahead.next in
-      search (arith, rules, chain-at, same_Some, seen, stays, rest_whole, all_weaker, differs)
+      search (arith, rules, chain-at, same_Some, stays, rest_whole, all_weaker, differs)
   chain_behind (suc n) first (suc p) whole rising at =
       let node : Node = (begins old n first whole).0 in
       let later = all_at (IsBefore node.queued) (cells (chain old n node.next)) p ahead.queued in

@@ -1,6 +1,6 @@
 -- The fingers of a queue that has a node more or less. A finger tells where the last of some nodes stands, so one of no
 -- more nodes than stand ahead of the new one stays, and one of more has it among them.
-use Rattle.cq_list.proofs.Terms.{common_steps, rules, ◌≡◌, ℕ, suc, ◌+◌, ◌-◌, ◌<◌, ◌≤◌, List, ◌∷◌, length, arith, ◌∙◌, insert, slice_get, cases_eq, cases_lt, length-insert, slice_get-get_or, slice_get_within, get_or-insert_below, ⊎_elim, append-nil, drop_all, take_all, Ahead, AreFingers, AreSet, AreShifted, EndsAt, finger_at}
+use Rattle.cq_list.proofs.Terms.{common_steps, rules, ◌≡◌, ℕ, suc, ◌+◌, ◌-◌, ◌<◌, ◌≤◌, List, ◌∷◌, length, arith, ◌∙◌, insert, slice_get, cases_eq, cases_lt, length-insert, slice_get-get_or, slice_get_within, get_or-insert_below, ⊎_elim, append-nil, drop_all, take_all, Ahead, AreFingers, AreSet, AreShifted, EndsAt}
 use Rattle.std.specs.List.{refill}
 use Rattle.std.proofs.lemmas.List.Edits.{get_or-insert_above}
 
@@ -51,9 +51,8 @@ module _ (places : List ℕ) (fingers : List Ahead) where
 
   pub fingers_less : (x : ℕ) (new : List Ahead) → AreFingers (x ∷ places) fingers → AreShifted 0 1 0 fingers new →
       AreFingers places new
-  fingers_less x new had moved k = ⊎_elim
-      (λ more. rw ((moved k).moves more) (λ m is. had k (suc m) (omega arith)))
-      (λ few. rw ((moved k).stays few) (λ m is. absurd (omega arith))) (cases_lt 0 (finger_at fingers k).count)
+  fingers_less x new had moved k =
+      let later = λ (m : ℕ). had k (suc m) in search (arith, rules, moved k, later, cases_lt 0)
 
 -- ## Written back
 

@@ -63,7 +63,6 @@ module _ {outputs : ℕ} {places : PlacesView} {pool : PoolView} {w : Waiting}
       (put c (queue_of pool.queues c.cell.output)) → new_places.spare + 1 ≡ places.spare →
       new_pool.spare + 1 ≡ pool.spare → StandFor outputs new_places new_pool (with_arrival cushion c w.cells)
   arrived cushion c {place = place} inside other urgent a l p outs queues less fewer =
-      let as_seen = ap (λ (v : Waiting). v.outputs) is in
       let known = had in
       let at : place ≡ place_of_arrival cushion c w.cells =
       grind (arith, common_steps, both_is_nth places.outputs (queue_of pool.queues) w.cells c.cell.output, as_many) in

@@ -91,9 +91,8 @@ module _ {nodes : Nodes} {j : ℕ} {queue : Queue} {node : Node} (had : IsLinked
   linked_behind =
       let rising = subst IsRising cells_behind had.chained.rising in
       let own = subst (AllByRecursion (λ c. c.cell.output ≡ j)) cells_behind had.own in
-      let last : EndsAt (places (linked nodes (behind_first queue node.next))) (queue.len - 1) queue.last =
-      λ m is. ap (λ l. slice_get (places l) (suc m)) (sym begins_with) ∙ had.chained.last (suc m) (omega arith) in
-      search (arith, rules, begins_with, rising, own, last)
+      let last = rw begins_with at had.chained.last in
+      search (arith, rules, begins_with, rising, own, λ (m : ℕ). last (suc m))
 
 -- taken out
 module _ {old new : Slab Node} {j : ℕ} {queue : Queue} {node : Node} (had : IsLinked (get old) j queue)

@@ -1,6 +1,6 @@
 -- A cell put into a queue whose cells rise in their keys: it goes in at the place of the first less urgent cell, and
 -- the queue still rises, since a cell that has another key and is not before it is after it.
-use Rattle.cq_list.proofs.Terms.{rules, ◌≡◌, ℕ, zero, suc, ◌≤◌, Bool, true, not, List, [], ◌∷◌, Some, refl, ap, ◌∙◌, arith, common_steps, insert, slice_get, position_or_len, cond_both, cases_Bool, not-true, Queued, Key, is_before, IsBefore, IsRising, HasOtherKey, put, key_laws, all_at, first_here, first_later, after_other}
+use Rattle.cq_list.proofs.Terms.{rules, ◌≡◌, ℕ, zero, suc, ◌≤◌, Bool, true, false, not, List, [], ◌∷◌, Some, refl, arith, common_steps, insert, slice_get, position_or_len, cases_Bool, not-true, Queued, Key, is_before, IsBefore, IsRising, HasOtherKey, put, key_laws, all_at, first_here, first_later, after_other}
 
 -- the test that finds its place
 abbrev pub is_later : Key → Queued → Bool
@@ -8,11 +8,10 @@ is_later key x = is_before key x.key
 
 pub put_is : (c : Queued) (xs : List Queued) → put c xs ≡ insert xs (position_or_len (is_later c.key) xs) c
 put_is c [] = refl
-put_is c (x ∷ xs) = cond_both (is_before c.key x.key) (c ∷ x ∷ xs) (x ∷ put c xs)
-    (λ l. l ≡ insert (x ∷ xs) (position_or_len (is_later c.key) (x ∷ xs)) c) (search (arith, rules, first_here)) (λ e.
-    let place : suc (position_or_len (is_later c.key) xs) ≡ position_or_len (is_later c.key) (x ∷ xs) =
-    let later = first_later (is_later c.key) x xs e in omega arith in
-    ap (λ l. x ∷ l) (put_is c xs) ∙ ap (λ i. insert (x ∷ xs) i c) place)
+put_is c (x ∷ xs) =
+    let place : is_before c.key x.key ≡ false → suc (position_or_len (is_later c.key) xs)
+    ≡ position_or_len (is_later c.key) (x ∷ xs) = λ e. omega (arith, first_later (is_later c.key) x xs e) in
+    search (arith, rules, first_here, place, cases_Bool, put_is c xs)
 
 -- ## How many are more urgent
 

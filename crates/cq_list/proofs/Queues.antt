@@ -81,8 +81,7 @@ pub fingers_read : {nodes : Slab Node} {queues : List Queue} {fingers : List (Li
     {own : List Ahead} → IsPool nodes queues fingers room → j < length queues → queue ≡ get_or queues j queue →
     own ≡ get_or fingers j own → AreFingers (places (linked (get nodes) queue)) own
 fingers_read {queues = queues} {fingers} {j = j} {queue} {own} had inside read is =
-    let long = had.even in let at = get_or_read fingers j own (omega arith) is [] in
-    rw (get_or_read queues j queue inside read no_queue, at) (had.have_fingers j)
+    search (arith, rules, get_or_read, had.have_fingers j)
 
 -- what stands first in it stands first in what is seen
 pub first_seen : {nodes : Slab Node} {queues : List Queue} {fingers : List (List Ahead)} {room spare : ℕ}

@@ -22,18 +22,15 @@ module _ {old : List (List ℕ)} {from to : ℕ} {s : SumView} (had : IsBetween 
 
   these : {some : List ℕ} → ((m : List ℕ → ℕ) → IsAdded m → ahead m old from + m some ≤ ahead m old to) →
       HasThese s some
-  these inside = record {
-    places = omega (arith, inside length length_added);
-    counts = λ j known. omega (arith, inside (count_of j) (count_added j), had.counts j known);
-  }
+  these inside =
+      search (arith, rules, inside length length_added, λ (j : ℕ). inside (count_of j) (count_added j), had.counts)
 
   -- where they are none of its blocks, and there are no more places than can be counted
   room : {more : List ℕ} {all : ℕ} → all < 2 ^ 64 →
       ((m : List ℕ → ℕ) → IsAdded m → ahead m old to + m more ≤ ahead m old from + all) → HasRoom s more
-  room fits apart = record {
-    places = omega (arith, apart length length_added);
-    counts = λ j known. omega (arith, apart (count_of j) (count_added j), had.counts j known);
-  }
+  room fits apart =
+      let own = λ (j : ℕ). apart (count_of j) (count_added j) in
+      search (arith, rules, apart length length_added, own, had.counts)
 
 -- ## A sum that is exchanged
 
@@ -42,11 +39,9 @@ same_sum s = record { places = refl; counts = λ j known. refl; each = refl }
 
 exchanged : {s t : SumView} {gone new old now : List ℕ} → IsExchanged gone new s t →
     ((m : List ℕ → ℕ) → IsAdded m → m now + m gone ≡ m old + m new) → IsExchanged old now s t
-exchanged had is = record {
-  places = omega (arith, is length length_added);
-  counts = λ j known. omega (arith, is (count_of j) (count_added j), had.counts j known);
-  each = had.each;
-}
+exchanged had is =
+    let own = λ (j : ℕ). is (count_of j) (count_added j) in
+    search (arith, rules, is length length_added, own, had.counts)
 
 -- ## A run
 
@@ -91,10 +86,7 @@ module _ {old now : List (List ℕ)} {p lost come : ℕ} {gone new : List ℕ} {
   edge : (m : List ℕ → ℕ) → IsAdded m → (k : ℕ) →
       (k ≤ run → ahead m now (ends k) ≡ ahead m old (begins k))
       × (run < k → ahead m now (ends k) + m gone ≡ ahead m old (begins k) + m new)
-  edge m added k = (
-    (λ le. rw ((low k le).1) (change.before m added (begins k) (low k le).0)),
-    (λ lt. change.behind m added (begins k) (ends k) (high k lt).0 (high k lt).1),
-  )
+  edge m added k = search (arith, rules, low k, high k, change.before m added, change.behind m added)
 
   runs_changed : {sums : List SumView} {count most : ℕ} {s t : SumView} → AreRuns old sums begins count →
       run < length sums → s ≡ get_or sums run s → IsExchanged gone new s t → most ≤ run_blocks * length sums →
@@ -201,12 +193,7 @@ pub settled : {blocks : List (List ℕ)} {sums : List SumView} {begins right : �
     ((k : ℕ) → k ≤ length sums → right k < length blocks → begins k ≡ right k) → AreRuns blocks sums right count
 settled {blocks} {sums} {begins} {right} had one other =
     let same = λ (k : ℕ) (le : k ≤ length sums). same_ahead blocks (begins k) (right k) (one k le) (other k le) in
-    record {
-      enough = had.enough;
-      few = had.few;
-      each = λ r none there. between (had.each r none there) (same_sum (get_or sums r none)) (λ m added v w e was.
-          rw (← same r (omega arith), ← same (r + 1) (omega arith)) (omega arith));
-    }
+    search (arith, rules, same, had.each)
 
 -- ## A place, or some, of one block
 
@@ -280,9 +267,7 @@ module _ {blocks : List (List ℕ)} {offset capacity : ℕ} {sums : List SumView
     module _ (front back : List ℕ) (whole : block ≡ front ++ back) where
       pub split_fits : length (concat (set blocks i front)) + length back < 2 ^ 64
       split_fits =
-          let all = (set_changed front).all length length_added in
-          let long = length_added.both front back in
-          omega (arith, ap length whole)
+          let all = (set_changed front).all length length_added in omega (arith, ap length whole, length_added.both)
 
       pub split_in_two : {new : List (List ℕ)} → length front ≡ 32 → new ≡ insert (set blocks i front) (i + 1) back →
           new ≡

@@ -29,8 +29,7 @@ module _ (m : List ℕ → ℕ) (added : IsAdded m) where
 
   pub ahead_next : (blocks : List (List ℕ)) (i : ℕ) (block : List ℕ) → i < length blocks → block ≡ get_or blocks i [] →
       ahead m blocks (i + 1) ≡ ahead m blocks i + m block
-  ahead_next blocks i block inside is =
-      rw (is, take_more blocks i [] inside, joined, append-nil) refl
+  ahead_next blocks i block inside is = grind (arith, common_steps, take_more, joined, append-nil)
 
   -- what stands ahead of any block is no more than all, and so no more than there are places
   part_of : (blocks : List (List ℕ)) (i : ℕ) → ahead m blocks i ≤ m (concat blocks)
@@ -53,9 +52,7 @@ module _ (m : List ℕ → ℕ) (added : IsAdded m) where
 
   pub put_into : (xs : List ℕ) (i x : ℕ) → m (insert xs i x) ≡ m xs + m (x ∷ [])
   put_into xs i x =
-      let whole = ap m (take-append-drop i xs) in
-      let old = added.both (take i xs) (drop i xs) in
-      omega (arith, added.both (take i xs) (x ∷ drop i xs), added.both (x ∷ []) (drop i xs))
+      let whole = ap m (take-append-drop i xs) in omega (arith, added.both (take i xs), added.both (x ∷ []) (drop i xs))
 
   pub taken_from : (xs : List ℕ) (i x : ℕ) → slice_get xs i ≡ Some x → m (remove xs i) + m (x ∷ []) ≡ m xs
   taken_from [] i x at = absurd (search (arith, rules))

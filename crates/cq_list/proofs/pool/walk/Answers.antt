@@ -19,9 +19,4 @@ nodes-preserved c =
     (on, ends_on c.requires.chained c.nodes.invariant.0 c.nodes-test.true c.index-node.ensures)
 
 pub returns : goal.returns
-returns c =
-    let end = c.nodes.auto.count-end (within c.requires.chained c.requires.from.last) in
-    record {
-      count = searched_all _ c.requires.chained c.nodes.invariant.0.behind c.nodes-test.false;
-      last = λ m is. c.nodes.invariant.1 m (omega arith);
-    }
+returns c = search (arith, rules, searched_all, within, c.nodes.auto.count-end, c.nodes.invariant.1)

@@ -1,12 +1,10 @@
-use Rattle.cq_list.proofs.Terms.{rules, ◌∙◌, sym, arith, refl, without_first, taken_none, StandFor}
+use Rattle.cq_list.proofs.Terms.{rules, ◌∙◌, sym, arith, without_first, taken_none, StandFor}
 use Rattle.cq_list.proofs.Kept.{kept, cells_are, position-none, counted, queue_inside, some_places, first_is, left}
 use Rattle.cq_list.proofs.input_list.InputList.take.Goals as goal
 
 pub returns-in-None : goal.returns-in-None
 returns-in-None c =
-    let none = taken_none c.args.output c.args.self.now.cells
-    (position-none c.self.invariant c.self.view_is c.args.output (sym c.first.ensures ∙ c.in-None.is)) in
-    record { first = none.0; cells = none.1; spare = omega arith; outputs = refl }
+    let none = taken_none c.args.output c.args.self.now.cells in search (arith, rules, none, position-none)
 
 pub len_of-requires : goal.len_of-requires
 len_of-requires c = queue_inside _ c.args.output _ (sym c.first.ensures ∙ c.in-Some.is)

@@ -1,4 +1,4 @@
-use Rattle.cq_list.proofs.Terms.{PlacesView, arith, rules, ap, slice_get, ◌≡◌, ◌-◌, Some, concat, get_or_read}
+use Rattle.cq_list.proofs.Terms.{PlacesView, arith, rules, ap, slice_get, ◌-◌, get_or_read}
 use Rattle.cq_list.proofs.Blocks.{shown_front, shown_in}
 use Rattle.cq_list.proofs.First.{shown_later}
 use Rattle.cq_list.proofs.places.Places.at.Goals as goal
@@ -9,6 +9,4 @@ returns-then-place-len c = search (arith, rules, shown_front)
 pub returns : goal.returns
 returns c =
     let seen = ap (λ (v : PlacesView). slice_get v.outputs c.args.place) c.self.view_is in
-    let at : slice_get (concat c.self.inside.others.blocks) (c.args.place - c.len-len.result) ≡ Some c.at-3.result =
-    search (arith, rules, shown_in, get_or_read) in
-    search (arith, rules, seen, at, shown_later)
+    search (arith, rules, seen, shown_in, get_or_read, shown_later)

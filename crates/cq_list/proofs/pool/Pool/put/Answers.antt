@@ -1,4 +1,4 @@
-use Rattle.cq_list.proofs.Terms.{rules, ap, subst, arith, get_or-le-sum_by, HasOtherKey, put, PoolView}
+use Rattle.cq_list.proofs.Terms.{rules, ap, arith, get_or-le-sum_by, put, PoolView}
 use Rattle.cq_list.proofs.Put.{no_sooner_is_later}
 use Rattle.cq_list.proofs.Queues.{read_of, fingers_read, is_pool_changed, view_changed}
 use Rattle.cq_list.proofs.Walk.{all_placed, within}
@@ -14,8 +14,7 @@ pub put_into-requires : goal.put_into-requires
 put_into-requires c =
     let read = read_of c.self.invariant c.self.view_is c.requires.in_range c.index-queue.ensures in
     let spare = ap (λ (v : PoolView). v.spare) c.self.view_is in
-    let other_key = subst (HasOtherKey c.args.queued) read.are_cells c.requires.other_key in
-    search (arith, rules, read, spare, other_key, no_sooner_is_later, get_or-le-sum_by)
+    search (arith, rules, read, spare, no_sooner_is_later, get_or-le-sum_by)
 
 pub put-requires : goal.put-requires
 put-requires c =
