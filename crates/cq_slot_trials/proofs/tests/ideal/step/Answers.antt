@@ -4,17 +4,7 @@ use Rattle.cq_slot_trials.proofs.IdealSlots.{after_slot}
 use Rattle.cq_slot_trials.proofs.tests.ideal.step.Goals as goal
 
 pub slot-requires : goal.slot-requires
-slot-requires g c =
-    let places = c.at-places.ensures.arrivals.places in
-    record {
-      running = c.requires.running;
-      next = c.next.ensures;
-      early = search (arith, rules);
-      arrivals = rw (c.requires.ports, c.requires.classes) c.args.coming.now.for_ports;
-      spare = search (arith, rules, count_most);
-      refused = rw c.requires.ports c.requires.counts;
-      sent = search (arith, rules);
-    }
+slot-requires g c = let places = c.at-places.ensures.arrivals.places in search (arith, rules, count_most)
 
 pub returns-clause-stepped : goal.returns-clause-stepped
 returns-clause-stepped g c =
