@@ -104,8 +104,7 @@ module _ {ms : List Machine} {slot : ℕ} {q0 : Queues} {ranks0 : List (List ℕ
         either_by min y.slack (slack_seen looks q1 i (came_to came i))
         ≡ either_by min y.slack (reduce min (slacks (fabric_of q1 ranks1) i))
     unfolding slack_on_arrival slacks
-    slack_told look.All seen i y at = refl
-    slack_told look.Arriving seen i y at =
+    slack_told looks seen i y at =
         let same = by_arrivals ms slot classes cells _ _ known.ideal of_slot known.agrees (come known) stable x in
         search (rules, told_slack i, same)
 

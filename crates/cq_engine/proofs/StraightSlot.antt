@@ -219,8 +219,7 @@ module _ {ms : List Machine} {slot : ℕ} {q : Queues} {ranks0 : List (List ℕ)
 
   seen_least : (looks : Look) (i : ℕ) → slack_seen looks listed i (came_to came i) ≡ least (came_to came i)
   unfolding slacks
-  seen_least look.Arriving i = arriving_least i (came_to came i)
-  seen_least look.All i = rw (list_is i) (all_least (came_to came i))
+  seen_least looks i = grind (arith, common_steps, arriving_least, list_is, all_least)
 
   one_passed : (looks : Look) (i : ℕ) (o : Option Queued) (x : InputFigures) → list_of lists i ≡ alone o →
       slack_seen looks listed i o ≡ least o → input_passed o x ≡ input_counted looks listed i o x
@@ -247,10 +246,9 @@ module _ {ms : List Machine} {slot : ℕ} {q : Queues} {ranks0 : List (List ℕ)
       AreCounted (λ i. input_passed (came_to came i)) slot gone (length (crossings slot n came)) 0 x y →
       Whole ms slot cells x y (fabric_of q ranks0) (fabric_of q ranks2) known.ideal gone (crossings slot n came)
   whole_straight room x up looks seen ranks2 told y counts =
-      let none = nothing_noted (ports (orders_of q.inputs)) q.inputs slot 2 in
       let long = whole_slot x up known arrived room crossed (sent ranks2 told) crossed_again looks seen y
       (search (arith, rules, fronts_alone, counted_passed looks x.inputs)) in
-      rw (fronts_alone gone, none, append-nil, all_noted) at long
+      rw (fronts_alone gone, nothing_noted, append-nil, all_noted) at long
 
 pub ruleset note_steps =
     (crossings_none, crossings_few, crossings_one, crossings_past, append_assoc, append-nil, length-append)

@@ -18,8 +18,7 @@ rested_in_step ms slot later x f rested le empty had =
 rested_seen : (looks : Look) (x : Figures) (f : Fabric) (rested : List (List ℕ)) → IsEmptyFabric f →
     length f.buffers ≡ length f.inputs → length x.inputs ≡ length f.inputs →
     IsSeen looks x (record { inputs = f.inputs; buffers = f.buffers; ranks = rested })
-rested_seen look.All x f rested empty square ports = tt
-rested_seen look.Arriving x f rested empty square ports = grind (arith, common_steps, empty_is, no_place)
+rested_seen looks x f rested empty square ports = grind (arith, common_steps, empty_is, no_place)
 
 -- what holds where the slots begin
 runs : (g : given.Over) (c : After-self g) →

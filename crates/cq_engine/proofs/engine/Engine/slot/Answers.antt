@@ -1,18 +1,14 @@
-use Rattle.cq_engine.proofs.Terms.{answer_to, rules, sym, ◌≡◌, ◌+◌, ◌*◌, ◌<◌, ◌≤◌, ◌++◌, ℕ, List, length, get_or, map, refl, ap, ◌∙◌, arith, append_assoc, length-append, IfSome, Option, length-map, Queued, Figures, admitted, fronts, ranking, transfers_of, came_to, EngineView, HoldsFabric, fabric_of, HaveArrived, HaveJudged, HaveSent, admits_are, still_holds, came_newest, came_outputs, can_cross_first, can_cross_second, come_apart, few_cross, fits_lists, held_before, its_admission, GoStraight, crossings, length-told, HasJudged, Cell, LimiterView, Queues, RoomView, Transfer}
-use Rattle.cq_engine.specs.{Crossing.HasCrossed, Sending.CanSend}
+use Rattle.cq_engine.proofs.Terms.{answer_to, rules, sym, ◌≡◌, ◌+◌, ◌*◌, ◌≤◌, ◌++◌, ℕ, List, length, map, ap, ◌∙◌, arith, append_assoc, length-append, Option, length-map, admitted, fronts, ranking, transfers_of, EngineView, HoldsFabric, fabric_of, HaveArrived, HaveJudged, HaveSent, admits_are, still_holds, came_newest, came_outputs, can_cross_first, can_cross_second, come_apart, few_cross, fits_lists, held_before, its_admission, GoStraight, crossings, length-told, HasJudged, Cell, LimiterView, Queues, RoomView, Transfer}
+use Rattle.cq_engine.specs.Crossing.{HasCrossed}
 use Rattle.cq_engine.proofs.Shown.{Begun, begun, buffers_room, can_take_in, lists_room, taken}
 use Rattle.cq_engine.proofs.Done.{slot_done}
 use Rattle.cq_engine.proofs.Slot.{HaveCrossed, Whole, moved_of, whole_slot}
 use Rattle.cq_engine.proofs.StraightSlot.{at_most_square, crossings_few, held_straight, whole_straight}
 use Rattle.cq_engine.proofs.engine.Engine.slot.Given as given
 use Rattle.cq_engine.proofs.engine.Engine.slot.Goals as goal
-use Rattle.cq_engine.proofs.engine.Engine.slot.Goals.{After-arrive, After-cross-second, After-depart, After-take_in, After-of_outputs-gone, After-pass-crossed, After-self}
+use Rattle.cq_engine.proofs.engine.Engine.slot.Goals.{After-arrive, After-depart, After-take_in, After-of_outputs-gone, After-pass-crossed, After-self}
 
 -- ## Numbers
-
-once_few : (few ports made now before : ℕ) {n after : ℕ} → few ≤ ports → made ≡ few → ports ≡ n → after ≡ before →
-    before ≡ now → after + (made + 0) ≤ now + 2 * (n * n)
-once_few few ports made now before {n} le is e same seen = omega (arith, at_most_square n)
 
 twice_few : (p q n first second now after : ℕ) → first ≤ p * p → p ≡ n → second ≤ q * q → q ≡ n → after ≡ now →
     after + (first + second) ≤ now + 2 * (n * n)
@@ -50,18 +46,6 @@ judged : {cells : List (Option Cell)} {old new : LimiterView} → HasJudged cell
     HaveJudged (admitted new.marks cells) old new
 judged did = record { limits = did.limits; as_many = did.ports.held ∙ ap length did.limits; more = did.held }
 
--- these cells can be sent, if each output that sends one holds a cell
-can_send : (g : given.Over) (c : After-take_in g) →
-    Begun (map g.R.Rank.machine c.self.inside.ranks.fixed) c.args.slot c.args.arrivals.now c.self.inside.queues
-    c.self.inside.ranks.states c.self.inside.limiter c.self.inside.look c.self.inside.figures →
-    length c.self.inside.queues.inputs ≡ length c.args.self.now.fixed → (gone : List (Option Queued)) →
-    length gone ≡ length c.self.inside.queues.inputs → {x : Figures} →
-    x.outputs ≡ c.self.inside.figures.outputs →
-    ((j : ℕ) → IfSome (came_to gone j) (λ _. 0 < get_or c.take_in.new.limiter.held j 0)) →
-    CanSend c.args.slot gone c.take_in.new.ranks c.take_in.new.limiter x c.args.sent.now
-can_send g c begins seen gone long {x} outputs holds =
-    search (arith, rules, judged, length-map, begins.running.in_step.counts.outputs)
-
 -- once a matching has crossed
 crossed : {slot phase : ℕ} {q q' : Queues} {note note' : RoomView Transfer} {made : ℕ}
     (did : HasCrossed slot phase q q' note note' made) → HaveCrossed did.matching made q q'
@@ -88,17 +72,14 @@ whole g c =
     let begins = known g at.After-self in
     whole_slot c.self.inside.figures begins.running.in_step (taken begins c.in_default.ensures.taken)
     (arrived g at.After-arrive) (buffers_room begins c.take_in.new.limiter.marks) (crossed c.cross-first.ensures)
-    (sent g at.After-depart) (crossed c.cross-second.ensures) c.self.inside.look begins.running.seen
-    c.count_proposals-2.new.figures (search (arith, rules))
+    (sent g at.After-depart) (crossed c.cross-second.ensures) _ begins.running.seen _ (search (arith, rules))
 
 -- ## What is known of the straight way
 
 -- each cell that came is at the place of its output
 straight : (g : given.Over) (c : After-of_outputs-gone g) →
     GoStraight c.self.inside.queues c.take_in.new.came c.of_outputs-gone.result.now
-straight g c =
-    rw (c.of_outputs-gone.ensures, c.ports-ports.ensures.value)
-    (c.go_straight.ensures.sent c.if-go_straight.true)
+straight g c = search rules
 
 -- no more cells cross than there are ports
 few_proposed : (g : given.Over) (c : After-pass-crossed g) →
@@ -106,21 +87,7 @@ few_proposed : (g : given.Over) (c : After-pass-crossed g) →
     GoStraight c.self.inside.queues c.take_in.new.came c.of_outputs-gone.result.now →
     c.pass-crossed.new.figures.proposals + (c.pass-crossed.result + 0)
     ≤ c.args.self.now.figures.proposals + 2 * (length c.args.self.now.fixed * length c.args.self.now.fixed)
-few_proposed g c seen is =
-    once_few _ _ _ _ _ (crossings_few c.args.slot (length c.of_outputs-gone.result.now) c.take_in.new.came)
-    c.pass-crossed.ensures.many (is.ports ∙ seen) c.pass-crossed.ensures.sent.proposals
-    (ap (λ (v : EngineView). v.figures.proposals) c.self.view_is)
-
--- nor do they in the two phases
-few_crossed : (g : given.Over) (c : After-cross-second g) →
-    length c.self.inside.queues.inputs ≡ length c.args.self.now.fixed →
-    c.depart.new.figures.proposals + (c.cross-first.result + c.cross-second.result)
-    ≤ c.args.self.now.figures.proposals + 2 * (length c.args.self.now.fixed * length c.args.self.now.fixed)
-few_crossed g c seen =
-    let first = c.arrive.ensures.ports ∙ seen in
-    let second = ap length c.depart.ensures.inputs ∙ c.cross-first.ensures.moves.ports.0 ∙ first in
-    twice_few _ _ _ _ _ _ _ c.cross-first.ensures.few first c.cross-second.ensures.few second
-    (c.depart.ensures.sent.proposals ∙ ap (λ (v : EngineView). v.figures.proposals) c.self.view_is)
+few_proposed g c seen is = search (arith, rules, crossings_few, at_most_square)
 
 -- all that the slot comes to
 all_straight : (g : given.Over) (c : goal.After-count_proposals g) →
@@ -135,8 +102,7 @@ all_straight g c =
     let begins = known g at.After-self in
     let marks = c.take_in.new.limiter.marks in
     let is = straight g at.After-of_outputs-gone in
-    let many =
-    c.pass-crossed.ensures.many ∙ ap (λ (n : ℕ). length (crossings c.args.slot n c.take_in.new.came)) is.ports in
+    let many = rw is.ports at c.pass-crossed.ensures.many in
     whole_straight (taken begins c.in_default.ensures.taken) (lists_room begins marks) is (buffers_room begins marks)
     c.self.inside.figures begins.running.in_step c.self.inside.look begins.running.seen c.pass-crossed.new.ranks.states
     (rw c.take_in.ensures.fixed at c.pass-crossed.ensures.sent.told) c.count_proposals.new.figures
@@ -146,8 +112,7 @@ all_straight g c =
 
 pub take_in-requires : goal.take_in-requires
 take_in-requires g c =
-    can_take_in (known g (goal.at.take_in-requires g c).After-self) c.ports-ports.ensures.within
-    c.ports-ports.ensures.rooms
+    let begins = known g (goal.at.take_in-requires g c).After-self in search (arith, rules, can_take_in begins)
 
 pub go_straight-requires : goal.go_straight-requires
 go_straight-requires g c =
@@ -165,9 +130,8 @@ pass-crossed-requires g c =
     let is = straight g at.After-of_outputs-gone in
     let holds = held_straight (taken begins c.in_default.ensures.taken) (lists_room begins marks) is
     (buffers_room begins marks) begins.running.holds (judged c.take_in.ensures.judged) in
-    let send = can_send g at.After-take_in begins seen c.of_outputs-gone.result.now is.ports
-    {x = c.self.inside.figures} refl holds in
-    search (arith, rules, begins.running.in_step.counts.inputs)
+    let counts = begins.running.in_step.counts in
+    search (arith, rules, length-map, holds, counts.inputs, counts.outputs)
 
 pub count_proposals-requires : goal.count_proposals-requires
 count_proposals-requires g c =
@@ -180,16 +144,14 @@ arrive-requires g c =
     let at = goal.at.arrive-requires g c in
     let begins = known g at.After-self in
     let come = taken begins c.in_default.ensures.taken in
-    let room = lists_room begins c.take_in.new.limiter.marks in
-    record { fit = fits_lists come room; come = come_apart come }
+    search (arith, rules, lists_room begins, fits_lists come, come_apart come)
 
 pub count_inputs-requires : goal.count_inputs-requires
 count_inputs-requires g c =
     let at = goal.at.count_inputs-requires g c in
     let begins = known g at.After-self in
     let come = taken begins c.in_default.ensures.taken in
-    let newest = came_newest come (arrived g at.After-arrive) in
-    search (arith, rules, came_outputs come, newest, begins.running.in_step.counts.inputs)
+    search (arith, rules, came_outputs come, came_newest come, arrived g at.After-arrive, begins)
 
 pub cross-first-requires-clause-can : goal.cross-first-requires-clause-can
 cross-first-requires-clause-can g c =
@@ -208,9 +170,8 @@ depart-requires g c =
     let moved = moved_of (crossed c.cross-first.ensures) in
     let holds = held_before (taken begins c.in_default.ensures.taken) (arrived g at.After-arrive)
     (buffers_room begins c.take_in.new.limiter.marks) moved begins.running.holds (judged c.take_in.ensures.judged) in
-    let long = length-map buffers _ ∙ moved.moves.ports.1 ∙ ap length c.arrive.ensures.buffers
-    ∙ c.ports-ports.ensures.buffers in
-    can_send g at.After-take_in begins (ports_seen g at.After-self) (fronts buffers) long refl holds
+    let counts = begins.running.in_step.counts in
+    search (arith, rules, length-map, ap length c.arrive.ensures.buffers, holds, counts.outputs)
 
 pub cross-second-requires-clause-can : goal.cross-second-requires-clause-can
 cross-second-requires-clause-can g c =
@@ -218,15 +179,13 @@ cross-second-requires-clause-can g c =
     let begins = known g at.After-self in
     let seen = ports_seen g at.After-self in
     let moved = moved_of (crossed c.cross-first.ensures) in
-    let few = few_cross c.cross-first.ensures.matching c.arrive.new.self.inputs c.args.slot 1 moved.stable.matching in
     let cells = can_cross_second (taken begins c.in_default.ensures.taken) (arrived g at.After-arrive)
     (buffers_room begins c.take_in.new.limiter.marks) moved (sent g at.After-depart) in
-    search (arith, rules)
+    search (arith, rules, few_cross)
 
 pub count_proposals-requires-2 : goal.count_proposals-requires-2
 count_proposals-requires-2 g c =
-    let at = goal.at.count_proposals-requires-2 g c in
-    omega (arith, few_crossed g at.After-cross-second (ports_seen g at.After-self))
+    search (arith, rules, twice_few, ports_seen g (goal.at.count_proposals-requires-2 g c).After-self)
 
 -- ## What the slot comes to
 
@@ -235,7 +194,6 @@ invariant_of-self-2 g c =
     let at = goal.at.returns g c in
     let begins = known g at.After-self in
     let done = whole g c in
-    let next = sent g at.After-depart in
     let gone = fronts c.cross-first.new.queues.buffers in
     let holds = still_holds (taken begins c.in_default.ensures.taken) gone _ c.self.inside.limiter c.take_in.new.limiter
     c.depart.new.limiter done.alike begins.running.holds (judged c.take_in.ensures.judged)
@@ -252,10 +210,8 @@ invariant_of-self-then-go_straight g c =
     let at = goal.at.returns-then-go_straight g c in
     let begins = known g at.After-self in
     let done = all_straight g c in
-    let gone = c.of_outputs-gone.result.now in
-    let holds = still_holds (taken begins c.in_default.ensures.taken) gone _ c.self.inside.limiter c.take_in.new.limiter
-    c.pass-crossed.new.limiter done.alike begins.running.holds (judged c.take_in.ensures.judged)
-    c.pass-crossed.ensures.sent.released in
+    let holds = still_holds (taken begins c.in_default.ensures.taken) _ _ _ _ _ done.alike begins.running.holds
+    (judged c.take_in.ensures.judged) c.pass-crossed.ensures.sent.released in
     search (arith, rules, length-told)
 
 pub returns-then-go_straight : goal.returns-then-go_straight
@@ -269,13 +225,9 @@ returns-then-go_straight g c =
     let did = c.pass-crossed.ensures in
     record {
       answer = sym (ap answer_to (sym (asks g at.After-take_in holds) ∙ c.in_default.ensures.taken.ranked));
-      slot = slot_done g.R.Rank.machine e.ranks.fixed e.ranks.states e.queues e.limiter c.take_in.new.limiter e.figures
-          e.next e.stopped c.self.view_is holds c.take_in.ensures.judged.marks c.in_default.ensures.taken.refused
-          c.pass-crossed.new.ranks.fixed c.pass-crossed.new.ranks.states e.queues c.pass-crossed.new.limiter
-          c.count_proposals.new.figures (slot + 1) (all_straight g c) did.sent.released did.sent.left
-          (did.note ∙ ap (λ (n : ℕ). c.args.note.now.items ++ crossings slot n came) is.ports)
-          (ap (λ (n : ℕ). c.pass-crossed.new.note.spare + length (crossings slot n came)) (sym is.ports)
-          ∙ did.note_room);
+      slot = slot_done _ c.take_in.new.limiter c.self.view_is holds c.take_in.ensures.judged.marks
+          c.in_default.ensures.taken.refused c.pass-crossed.new.limiter (all_straight g c) did.sent.released
+          did.sent.left (rw (← is.ports) did.note) (rw (← is.ports) did.note_room);
       went_on = search (arith, rules, few_proposed g at.After-pass-crossed (ports_seen g at.After-self) is);
       made = search (arith, rules);
       stopped = ap (λ (v : EngineView). v.stopped) c.self.view_is ∙ c.requires.running;
@@ -295,13 +247,11 @@ returns g c =
     let two = c.cross-second.ensures in
     record {
       answer = sym (ap answer_to (sym (asks g at.After-take_in holds) ∙ c.in_default.ensures.taken.ranked));
-      slot = slot_done g.R.Rank.machine e.ranks.fixed e.ranks.states e.queues e.limiter c.take_in.new.limiter e.figures
-          e.next e.stopped c.self.view_is holds c.take_in.ensures.judged.marks c.in_default.ensures.taken.refused
-          c.depart.new.ranks.fixed c.depart.new.ranks.states c.cross-second.new.queues c.depart.new.limiter
-          c.count_proposals-2.new.figures (slot + 1) (whole g c) sent.sent.released sent.sent.left
+      slot = slot_done _ c.take_in.new.limiter c.self.view_is holds c.take_in.ensures.judged.marks
+          c.in_default.ensures.taken.refused c.depart.new.limiter (whole g c) sent.sent.released sent.sent.left
           (two.noted ∙ ap (λ l. l ++ second) one.noted ∙ append_assoc c.args.note.now.items first second)
           (omega (arith, length-append first second));
-      went_on = search (arith, rules, few_crossed g at.After-cross-second (ports_seen g at.After-self));
+      went_on = search (arith, rules, twice_few, ports_seen g at.After-self);
       made = search (arith, rules);
       stopped = ap (λ (v : EngineView). v.stopped) c.self.view_is ∙ c.requires.running;
       stays = tt;
