@@ -14,8 +14,7 @@ insert_end_kept xs i m y le inside =
 insert_kept : {X : Type 0} (xs : List X) (i m : ℕ) (y : X) → m < i → i ≤ length xs →
     slice_get (insert xs i y) m ≡ slice_get xs m
 insert_kept xs i m y lt inside =
-    let here = slice_get-get_or (insert xs i y) m y in
-    grind (arith, common_steps, here, slice_get-get_or xs m y, length-insert, get_or-insert_below)
+    search (arith, rules, slice_get-get_or, length-insert, get_or-insert_below xs i y y m)
 
 -- ## The end of some nodes
 

@@ -3,23 +3,13 @@
 -- Where blocks change in one run, its sum is exchanged, and the others stay. Where the first block goes or comes, all
 -- is done: the first run is short of one more or less. Else a block goes over at each border of two runs behind it:
 -- this border moves by one block, and the others stay.
-use Rattle.cq_list.specs.Sums.{AreRuns, ArePassing, AreOpen, AreSums, AreSummed, AreTaking, BlocksView, HasLess, HasMore, HasRoom, HasThese, IsBetween, IsExchanged, SumView, begin_of, own_in, run_blocks}
+use Rattle.cq_list.specs.Sums.{AreRuns, ArePassing, AreOpen, AreSums, AreSummed, AreTaking, BlocksView, HasLess, HasMore, HasRoom, HasThese, IsBetween, IsExchanged, SumView, begin_of, run_blocks}
 use Rattle.cq_list.proofs.Sums.{HasBoth, IsAdded, IsChanged, ahead, ahead_next, all_ahead, block_came, block_set, block_went, count_added, length_added, one_between}
-use Rattle.cq_list.proofs.Terms.{get_or_read, get_or-set_other, get_or-set_same, length-set, length-insert, length-remove, take_all, cases_eq, cases_lt, common_steps, rules, ◌≡◌, ◌≢◌, ℕ, ◌+◌, ◌-◌, ◌*◌, ◌/◌, ◌^◌, ◌⊎◌, ◌<◌, ◌≤◌, List, [], ◌++◌, length, get_or, set, take, drop, insert, remove, concat, refl, ap, ◌∙◌, arith, count_of, ⊎_elim}
+use Rattle.cq_list.proofs.Terms.{get_or_read, get_or-set_other, get_or-set_same, length-set, length-insert, length-remove, take_all, cases_eq, cases_lt, common_steps, rules, ◌≡◌, ◌≢◌, ℕ, ◌+◌, ◌-◌, ◌*◌, ◌/◌, ◌^◌, ◌⊎◌, ◌<◌, ◌≤◌, List, [], ◌++◌, length, get_or, set, take, drop, insert, remove, concat, refl, ap, ◌∙◌, arith, count_of}
 
 -- ## One sum
 
 module _ {old : List (List ℕ)} {from to : ℕ} {s : SumView} (had : IsBetween old from to s) where
-  between : {now : List (List ℕ)} {first last : ℕ} {t : SumView} {gone new : List ℕ} → IsExchanged gone new s t →
-      ((m : List ℕ → ℕ) → IsAdded m → (v w : ℕ) → w + m gone ≡ v + m new → ahead m old from + v ≡ ahead m old to →
-      ahead m now first + w ≡ ahead m now last) → IsBetween now first last t
-  between {t = t} changed moves = record {
-    places = moves length length_added s.places t.places changed.places had.places;
-    counts = λ j known.
-        moves (count_of j) (count_added j) (own_in s j) (own_in t j) (changed.counts j known) (had.counts j known);
-    each = changed.each ∙ had.each;
-  }
-
   these : {some : List ℕ} → ((m : List ℕ → ℕ) → IsAdded m → ahead m old from + m some ≤ ahead m old to) →
       HasThese s some
   these inside =
@@ -34,9 +24,6 @@ module _ {old : List (List ℕ)} {from to : ℕ} {s : SumView} (had : IsBetween 
 
 -- ## A sum that is exchanged
 
-same_sum : (s : SumView) → IsExchanged [] [] s s
-same_sum s = record { places = refl; counts = λ j known. refl; each = refl }
-
 exchanged : {s t : SumView} {gone new old now : List ℕ} → IsExchanged gone new s t →
     ((m : List ℕ → ℕ) → IsAdded m → m now + m gone ≡ m old + m new) → IsExchanged old now s t
 exchanged had is =
@@ -44,6 +31,9 @@ exchanged had is =
     search (arith, rules, is length length_added, own, had.counts)
 
 -- ## A run
+
+-- the sums where one is set
+ruleset set_sum = (get_or-set_same, get_or-set_other, cases_eq, length-set)
 
 pub read_sum : {blocks : List (List ℕ)} {sums : List SumView} {begins : ℕ → ℕ} {count r : ℕ} {s : SumView} →
     AreRuns blocks sums begins count → r < length sums → s ≡ get_or sums r s →
@@ -73,8 +63,7 @@ module _ {blocks : List (List ℕ)} {sums : List SumView} {begins : ℕ → ℕ}
 
     pub takes : length (concat blocks) < 2 ^ 64 → (begins r ≡ i + 1) ⊎ (begins (r + 1) ≡ i) → HasRoom s block
     takes fits beside = room own fits (λ m added.
-        let all = all_ahead m added blocks in
-        grind (arith, over blocks i inside read m added, all (begins (r + 1)), all (i + 1)))
+        search (arith, rules, over blocks i inside read m added, all_ahead m added blocks))
 
 -- ## Blocks that change in one run
 
@@ -92,19 +81,9 @@ module _ {old now : List (List ℕ)} {p lost come : ℕ} {gone new : List ℕ} {
       run < length sums → s ≡ get_or sums run s → IsExchanged gone new s t → most ≤ run_blocks * length sums →
       run_blocks * length sums < most + run_blocks → AreRuns now (set sums run t) ends most
   runs_changed {sums} {s = s} {t} had there first swap enough few =
-      let long : length (set sums run t) ≡ length sums = length-set sums run t in
-      record {
-        enough = rw long enough;
-        few = rw long few;
-        each = λ r none within. ⊎_elim
-            (λ (here : r ≡ run). rw here (rw (get_or-set_same sums run t none there)
-            (between (read_sum had there first) swap (λ m added v w e was.
-            let first = edge m added run in let last = edge m added (run + 1) in omega arith))))
-            (λ (other : r ≢ run). rw (get_or-set_other sums run r t none other)
-            (between (had.each r none (omega arith)) (same_sum (get_or sums r none)) (λ m added v w e was.
-            grind (arith, edge m added r, edge m added (r + 1)))))
-            (cases_eq r run);
-      }
+      let places = edge length length_added in
+      let counts = λ (j : ℕ). edge (count_of j) (count_added j) in
+      search (arith, rules, places, counts, had.each, swap.counts, set_sum)
 
 module _ {blocks : List (List ℕ)} {offset : ℕ} {sums : List SumView} {block : List ℕ} {s t : SumView} where
   -- the first run is then short of one less
@@ -154,22 +133,9 @@ module _ {blocks : List (List ℕ)} {sums : List SumView} {begins ends : ℕ →
       IsExchanged gone new s t → IsExchanged new gone u v →
       AreRuns blocks (set (set sums (next - 1) t) next v) ends count
   gone_over moved give get =
-      let long : length (set (set sums (next - 1) t) next v) ≡ length sums =
-      length-set (set sums (next - 1) t) next v ∙ length-set sums (next - 1) t in
-      let border : next - 1 + 1 ≡ next = omega arith in
-      let own : IsBetween blocks (begins (next - 1)) (begins next) s =
-      rw border at (read_sum had (omega arith) first) in
-      let other = read_sum had inside (still_read sums next t late second) in
-      let left : IsBetween blocks (ends (next - 1)) (ends next) t = between own give (λ m added v w e was.
-      let moves = moved m added in rw (same (next - 1) (omega arith)) (omega arith)) in
-      let right : IsBetween blocks (ends next) (ends (next + 1)) v = between other get (λ m added v w e was.
-      let moves = moved m added in rw (same (next + 1) (omega arith)) (omega arith)) in
-      record {
-        enough = rw long had.enough;
-        few = rw long had.few;
-        each = λ r none there.
-            search (arith, rules, had.each, left, right, get_or-set_other, get_or-set_same, same, cases_eq r);
-      }
+      let places = moved length length_added in
+      let counts = λ (j : ℕ). moved (count_of j) (count_added j) in
+      search (arith, rules, still_read, had.each, give.counts, get.counts, places, counts, set_sum, same)
 
   module _ (i : ℕ) {block : List ℕ} (there : i < length blocks) (read : block ≡ get_or blocks i block) where
     pub passing_on : begins next ≡ i + 1 → ends next ≡ i → HasLess s t block → HasMore u v block →
@@ -229,9 +195,8 @@ module _ {blocks : List (List ℕ)} {offset capacity : ℕ} {sums : List SumView
         HasBoth block rest some → HasThese s some
     sum_has first both = these (read_sum had.runs there first) (λ m added.
         let run : ℕ = (i + offset) / 32 in
-        let one = one_between m added blocks (begin_of offset run) i (begin_of offset (run + 1)) block (omega arith)
-        (omega arith) inside block_is in
-        omega (arith, both.each m added))
+        let one = one_between m added blocks (begin_of offset run) i (begin_of offset (run + 1)) block in
+        search (arith, rules, one, inside, block_is, both.each m added))
 
     summed_set : {new : List ℕ} {s t : SumView} → s ≡ get_or sums ((i + offset) / 32) s →
         IsExchanged block new s t → length (concat blocks) + length new < 2 ^ 64 + length block →

@@ -106,13 +106,10 @@ outputs_left : (j : ℕ) (xs : List Queued) →
 outputs_left j [] = refl
 outputs_left j (x ∷ xs) =
     let outputs = map (λ c. c.cell.output) in
-    let rest : ℕ = position_or_len (is_output j) (outputs xs) in
-    cond_both (is_for j x) xs (x ∷ without_first j xs)
-    (λ l. outputs l ≡ remove (outputs (x ∷ xs)) (position_or_len (is_output j) (outputs (x ∷ xs))))
-    (search (arith, rules, first_here))
-    (λ e.
-    let place : suc rest ≡ position_or_len (is_output j) (outputs (x ∷ xs)) = search (arith, rules, first_later) in
-    ap (λ l. x.cell.output ∷ l) (outputs_left j xs) ∙ ap (remove (outputs (x ∷ xs))) place)
+    let place : is_for j x ≡ false → suc (position_or_len (is_output j) (outputs xs))
+    ≡ position_or_len (is_output j) (outputs (x ∷ xs)) =
+    λ e. omega (arith, first_later (is_output j) x.cell.output (outputs xs) e) in
+    grind (arith, common_steps, first_here, place, outputs_left j xs)
 
 pub split_left : (places : List ℕ) (queues : Queues) (xs : List Queued) (j : ℕ) → IsSplit places queues xs →
     IsSplit (remove places (position_or_len (is_output j) places)) (without_head j queues) (without_first j xs)

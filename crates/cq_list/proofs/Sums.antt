@@ -95,14 +95,7 @@ spliced front mid more rest = record {
       let was : i ≡ length front + (length mid + n) = omega arith in
       let is : k ≡ length front + (length more + n) = omega arith in
       let parts = parts m added front in
-      rw (
-        was,
-        is,
-        take-append-add front (mid ++ rest) (length mid + n),
-        take-append-add mid rest n,
-        take-append-add front (more ++ rest) (length more + n),
-        take-append-add more rest n,
-      ) (omega arith);
+      rw (was, is) (simp take-append-add (omega arith));
   all = λ m added. omega (arith, parts m added front mid rest, parts m added front more rest);
   long = grind (arith, common_steps, length-append);
 }

@@ -6,5 +6,4 @@ pub returns : goal.returns
 returns c =
     let more = are_more (get c.args.nodes.now) _ _ c.args.queue _ c.args.ahead.count _ c.args.queued c.requires.linked
     refl c.requires.other_key c.requires.ahead.count c.put_node-first.ensures.chained refl c.last_of.ensures in
-    let placed = placed _ _ _ _ _ c.put_node-first.ensures.chained in
-    search (arith, rules)
+    search (arith, rules, placed)

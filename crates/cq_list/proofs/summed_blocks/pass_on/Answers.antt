@@ -1,4 +1,4 @@
-use Rattle.cq_list.proofs.Terms.{rules, arith, inl, ◌-◌}
+use Rattle.cq_list.proofs.Terms.{rules, arith, ◌-◌}
 use Rattle.cq_list.proofs.Runs.{gives, passing_on, settled, still_read, takes}
 use Rattle.cq_list.proofs.summed_blocks.pass_on.Goals as goal
 
@@ -8,10 +8,7 @@ subtract-requires c =
     c.index-first.ensures (omega arith) (omega arith)
 
 pub add-requires : goal.add-requires
-add-requires c =
-    let read = still_read _ c.runs.next _ (omega arith) c.index_mut-in-runs.ensures.value in
-    takes c.runs.invariant.passing c.runs.next (omega arith) read _ (omega arith) c.index-first.ensures
-    c.requires.fits (inl (omega arith))
+add-requires c = search (arith, rules, takes c.runs.invariant.passing c.runs.next, still_read)
 
 pub runs-preserved : goal.runs-preserved
 runs-preserved c = record {

@@ -8,10 +8,7 @@ add-requires c =
     c.index-last.ensures c.requires.fits (inr (omega arith))
 
 pub subtract-requires : goal.subtract-requires
-subtract-requires c =
-    let read = still_read _ c.runs.next _ (omega arith) c.index_mut-in-runs.ensures.value in
-    gives c.runs.invariant.taking c.runs.next (omega arith) read _ (omega arith) c.index-last.ensures
-    (omega arith) (omega arith)
+subtract-requires c = search (arith, rules, gives c.runs.invariant.taking c.runs.next, still_read)
 
 pub runs-preserved : goal.runs-preserved
 runs-preserved c = record {
