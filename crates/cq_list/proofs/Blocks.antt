@@ -54,15 +54,13 @@ push_in blocks y block is = grind (arith, common_steps, concat-append, insert_en
 
 pub joined_in : (blocks : List (List ℕ)) (i : ℕ) → i + 1 < length blocks → concat (joined blocks i) ≡ concat blocks
 joined_in [] i inside = absurd (omega arith)
-joined_in (b ∷ []) i inside = absurd (omega arith)
-joined_in (b ∷ c ∷ bs) zero inside = append_assoc b c (concat bs)
-joined_in (b ∷ c ∷ bs) (suc i) inside = search (arith, rules, joined_in (c ∷ bs) i)
+joined_in (b ∷ bs) zero inside = grind (arith, common_steps, append_assoc)
+joined_in (b ∷ bs) (suc i) inside = search (arith, rules, joined_in bs i)
 
 pub pulled_in : (blocks : List (List ℕ)) (i : ℕ) → i + 1 < length blocks → concat (pulled blocks i) ≡ concat blocks
 pulled_in [] i inside = absurd (omega arith)
-pulled_in (b ∷ []) i inside = absurd (omega arith)
-pulled_in (b ∷ c ∷ bs) zero inside = grind (arith, common_steps, append_assoc, take-append-drop)
-pulled_in (b ∷ c ∷ bs) (suc i) inside = search (arith, rules, pulled_in (c ∷ bs) i)
+pulled_in (b ∷ bs) zero inside = grind (arith, common_steps, append_assoc, take-append-drop)
+pulled_in (b ∷ bs) (suc i) inside = search (arith, rules, pulled_in bs i)
 
 -- a place keeps its spot where the blocks ahead are the same and its own is no shorter
 module _ (blocks : List (List ℕ)) (i : ℕ) (inside : i + 1 < length blocks) where

@@ -26,8 +26,7 @@ module _ (places counts : List ℕ) (had : AreCounts places counts) where
   pub counts_insert : (i j : ℕ) → i ≤ length places → length places < most_places → j < most_ports →
       AreCounts (insert places i j) (set counts j (get_or counts j 0 + 1))
   counts_insert i j inside room in_range =
-      let put = λ (k : ℕ). put_into (count_of k) (count_added k) places i j in
-      grind (arith, common_steps, put, eq-eqb, ne_eqb)
+      grind (arith, common_steps, λ (k : ℕ). put_into (count_of k) (count_added k) places i j, eq-eqb, ne_eqb)
 
   module _ (i j : ℕ) (inside : i < length places) (read : j ≡ get_or places i j) where
     out : (k : ℕ) → count_of k (remove places i) + count_of k (j ∷ []) ≡ count_of k places

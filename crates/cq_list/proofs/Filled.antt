@@ -7,8 +7,7 @@ use Rattle.cq_list.proofs.Blocks.{joined_at, pulled_at, append_in, insert_in}
 pub few_blocks : (blocks : List (List ℕ)) → AreFilled blocks →
     least_places * length blocks ≤ length (concat blocks) + least_places
 few_blocks [] filled = omega arith
-few_blocks (b ∷ []) filled = omega arith
-few_blocks (b ∷ c ∷ bs) filled = grind (arith, common_steps, length-append, few_blocks (c ∷ bs) filled.1)
+few_blocks (b ∷ bs) filled = grind (arith, common_steps, length-append, few_blocks bs)
 
 -- so there is memory for one more
 pub room_for_block :
@@ -19,27 +18,20 @@ room_for_block blocks capacity filled memory = let few = few_blocks blocks fille
 pub many_in :
     (blocks : List (List ℕ)) (i : ℕ) → AreFilled blocks → i + 1 < length blocks →
     least_places ≤ length (get_or blocks i [])
-many_in [] i filled inside = absurd (omega arith)
-many_in (b ∷ []) i filled inside = absurd (omega arith)
-many_in (b ∷ c ∷ bs) zero filled inside = filled.0
-many_in (b ∷ c ∷ bs) (suc i) filled inside = many_in (c ∷ bs) i filled.1 (omega arith)
+many_in blocks zero filled inside = grind (arith, common_steps)
+many_in [] (suc i) filled inside = absurd (omega arith)
+many_in (b ∷ bs) (suc i) filled inside = grind (arith, common_steps, many_in bs i)
 
 -- ## The first block and the others
 
 pub filled_rest : (b : List ℕ) (bs : List (List ℕ)) → AreFilled (b ∷ bs) → AreFilled bs
-filled_rest b [] filled = tt
-filled_rest b (c ∷ bs) filled = filled.1
-
-filled_first :
-    (b : List ℕ) (bs : List (List ℕ)) → (0 < length bs → least_places ≤ length b) → AreFilled bs → AreFilled (b ∷ bs)
-filled_first b [] many filled = tt
-filled_first b (c ∷ bs) many filled = (many (omega arith), filled)
+filled_rest b bs filled = search (arith, rules)
 
 -- others behind the same first block, where there were some
 pub filled_behind :
     (b : List ℕ) (bs cs : List (List ℕ)) → AreFilled (b ∷ bs) → (0 < length cs → 0 < length bs) → AreFilled cs →
     AreFilled (b ∷ cs)
-filled_behind b bs cs filled as_many new = grind (arith, common_steps, filled_first, many_in)
+filled_behind b bs cs filled as_many new = grind (arith, common_steps)
 
 -- ## A block in another one's place, one more, and one less
 
@@ -47,9 +39,8 @@ pub filled_set :
     (blocks : List (List ℕ)) (i : ℕ) (block : List ℕ) → AreFilled blocks →
     (i + 1 < length blocks → least_places ≤ length block) → AreFilled (set blocks i block)
 filled_set [] i block filled many = tt
-filled_set (b ∷ bs) zero block filled many = grind (arith, common_steps, filled_first, filled_rest)
-filled_set (b ∷ bs) (suc i) block filled many =
-    search (rules, filled_behind, length-set, filled_rest, filled_set bs i block (filled_rest b bs filled))
+filled_set (b ∷ bs) zero block filled many = search (arith, rules)
+filled_set (b ∷ bs) (suc i) block filled many = search (arith, rules, length-set, filled_set bs i block)
 
 pub filled_longer :
     (blocks : List (List ℕ)) (i : ℕ) (block : List ℕ) → AreFilled blocks → length (get_or blocks i []) ≤ length block →
@@ -60,23 +51,21 @@ pub filled_pushed :
     (blocks : List (List ℕ)) (block : List ℕ) → AreFilled blocks →
     ((i : ℕ) → i + 1 ≡ length blocks → least_places ≤ length (get_or blocks i [])) → AreFilled (blocks ++ block ∷ [])
 filled_pushed [] block filled many = tt
-filled_pushed (b ∷ []) block filled many = (many 0 (omega arith), tt)
-filled_pushed (b ∷ c ∷ bs) block filled many =
-    (filled.0, filled_pushed (c ∷ bs) block filled.1 (λ i last. many (suc i) (omega arith)))
+filled_pushed (b ∷ bs) block filled many =
+    grind (arith, common_steps, many 0, λ (i : ℕ). many (suc i), filled_pushed bs block)
 
 pub filled_split :
     (blocks : List (List ℕ)) (i : ℕ) (front back : List ℕ) → AreFilled blocks → i < length blocks →
     least_places ≤ length front → least_places ≤ length back → AreFilled (insert (set blocks i front) (i + 1) back)
 filled_split [] i front back filled inside long longer = absurd (omega arith)
-filled_split (b ∷ bs) zero front back filled inside long longer = search (rules, filled_first, filled_rest)
+filled_split (b ∷ bs) zero front back filled inside long longer = search (arith, rules)
 filled_split (b ∷ bs) (suc i) front back filled inside long longer =
-    search (rules, filled_behind, filled_rest, filled_split bs i front back (filled_rest b bs filled))
+    search (rules, filled_behind, filled_rest, filled_split bs i front back)
 
 pub filled_without : (blocks : List (List ℕ)) (i : ℕ) → AreFilled blocks → AreFilled (remove blocks i)
 filled_without [] i filled = grind (arith, common_steps)
 filled_without (b ∷ bs) zero filled = filled_rest b bs filled
-filled_without (b ∷ bs) (suc i) filled =
-    grind (arith, common_steps, filled_behind, filled_rest, filled_without bs i (filled_rest b bs filled))
+filled_without (b ∷ bs) (suc i) filled = grind (arith, common_steps, length-remove, filled_without bs i)
 
 -- ## A short block filled up
 

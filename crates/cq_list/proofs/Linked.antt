@@ -1,7 +1,7 @@
 -- A queue of nodes that are linked, with one node more or less: it is linked again, and its cells are those of the
 -- queue with the cell put in, or without its head. The other queues keep their nodes, for these have cells for other
 -- outputs.
-use Rattle.cq_list.proofs.Terms.{slice_get-get_or, get_or-insert_at, common_steps, rules, ◌≡◌, ◌≢◌, ℕ, suc, ◌+◌, ◌<◌, ◌≤◌, eqb, cond, List, ◌∷◌, length, None, Some, sym, ap, ◌∙◌, subst, arith, insert, slice_get, AllByRecursion, position_or_len, length-insert, length-map, same_Some, none-some, ◌-◌, Queued, Slab, get, Updates, IsRising, HasOtherKey, put, first_inside, all_at, Node, Queue, Nodes, chain, linked, places, cells, EndsAt, IsLinked, OthersStay, behind_first, all_weaker, all_put, rising_put, map-insert}
+use Rattle.cq_list.proofs.Terms.{slice_get-get_or, get_or-insert_at, common_steps, rules, ◌≡◌, ◌≢◌, ℕ, suc, ◌+◌, ◌<◌, ◌≤◌, eqb, cond, List, ◌∷◌, length, None, Some, sym, ap, ◌∙◌, subst, arith, insert, slice_get, position_or_len, length-insert, length-map, same_Some, none-some, ◌-◌, Queued, Slab, get, Updates, IsRising, HasOtherKey, put, first_inside, all_at, Node, Queue, Nodes, chain, linked, places, cells, EndsAt, IsLinked, OthersStay, behind_first, all_weaker, all_put, rising_put, map-insert}
 use Rattle.cq_list.proofs.Chain.{chain_stays, chain-at, differs, IsBehind, chain_behind}
 use Rattle.cq_list.proofs.Finger.{insert_end_kept}
 use Rattle.cq_list.proofs.Walk.{node_ahead, cell_ahead}
@@ -89,10 +89,8 @@ module _ {nodes : Nodes} {j : ℕ} {queue : Queue} {node : Node} (had : IsLinked
 
   pub linked_behind : IsLinked nodes j (behind_first queue node.next)
   linked_behind =
-      let rising = subst IsRising cells_behind had.chained.rising in
-      let own = subst (AllByRecursion (λ c. c.cell.output ≡ j)) cells_behind had.own in
       let last = rw begins_with at had.chained.last in
-      search (arith, rules, begins_with, rising, own, λ (m : ℕ). last (suc m))
+      grind (arith, common_steps, begins_with, cells_behind, λ (m : ℕ). last (suc m))
 
 -- taken out
 module _ {old new : Slab Node} {j : ℕ} {queue : Queue} {node : Node} (had : IsLinked (get old) j queue)

@@ -137,8 +137,7 @@ module _ (nodes : Nodes) (queues : List Queue) {seen : List (List Queued)} (j : 
 
     pub cells_told : cells_in_queues nodes (set queues j rest) ≡ set seen j (drop 1 (queue_of seen j))
     cells_told =
-        let now = cells_changed nodes nodes j queues (behind_first queue node.next) in
-        grind (arith, common_steps, now, cells_behind, head_read, has_head)
+        grind (arith, common_steps, cells_changed nodes nodes j queues, cells_behind, head_read, has_head)
 
 -- a queue that was read
 pub ruleset read_steps = (read_of, fingers_read, first_seen, as_many, inside_some)

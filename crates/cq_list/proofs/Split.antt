@@ -42,8 +42,7 @@ pub merged_queues : (cells : List Queued) (queues : Queues) → ((j : ℕ) → q
     merged (map (λ c. c.cell.output) cells) queues ≡ cells
 merged_queues [] queues same = refl
 merged_queues (x ∷ xs) queues same =
-    let rest = merged_queues xs (without_head x.cell.output queues) (behind_first queues x xs same) in
-    search (arith, rules, passes, eq-eqb, cond_both, fails)
+    search (arith, rules, merged_queues xs, behind_first, passes, eq-eqb, cond_both, fails)
 
 -- ## A cell that arrives
 

@@ -4,8 +4,7 @@ use Rattle.cq_list.proofs.summed_blocks.pass_on.Goals as goal
 
 pub subtract-requires : goal.subtract-requires
 subtract-requires c =
-    gives c.runs.invariant.passing (c.runs.next - 1) (omega arith) c.index_mut.ensures.value _ (omega arith)
-    c.index-first.ensures (omega arith) (omega arith)
+    search (arith, rules, gives c.runs.invariant.passing (c.runs.next - 1) (omega arith) c.index_mut.ensures.value)
 
 pub add-requires : goal.add-requires
 add-requires c = search (arith, rules, takes c.runs.invariant.passing c.runs.next, still_read)

@@ -1,11 +1,10 @@
-use Rattle.cq_list.proofs.Terms.{rules, arith, inr, ◌-◌}
+use Rattle.cq_list.proofs.Terms.{rules, arith, ◌-◌}
 use Rattle.cq_list.proofs.Runs.{gives, settled, still_read, takes, taking_on}
 use Rattle.cq_list.proofs.summed_blocks.take_on.Goals as goal
 
 pub add-requires : goal.add-requires
 add-requires c =
-    takes c.runs.invariant.taking (c.runs.next - 1) (omega arith) c.index_mut.ensures.value _ (omega arith)
-    c.index-last.ensures c.requires.fits (inr (omega arith))
+    search (arith, rules, takes c.runs.invariant.taking (c.runs.next - 1) (omega arith) c.index_mut.ensures.value)
 
 pub subtract-requires : goal.subtract-requires
 subtract-requires c = search (arith, rules, gives c.runs.invariant.taking c.runs.next, still_read)
