@@ -1,6 +1,6 @@
 -- How many cells for an output there are. An arrival brings one more, a transfer moves one from the inputs to the
 -- output's buffer, and a departure takes one away. So it is in each slot with stable matchings, whoever found them.
-use Rattle.cq_fabric.proofs.Terms.{rules, ◌≡◌, ℕ, zero, suc, ◌+◌, ◌≤◌, eqb, Bool, List, [], ◌∷◌, length, Option, Some, None, refl, ap, ⊎_elim, arith, common_steps, if◌then◌else◌, is_some, filter, insert, cond_both, length-drop, length-insert, Cell, Queued, arrival_at, is_for, first_for, without_first, Machine, list_of, HasCellFor, orders_of, list_taken, Partners, partner_of, IsMatching, IsStable, partner_or_free, without_length, length_put, Fabric, input, buffer, list_arrived, Transfers, SlotRecord, FabricSlot, came_cell, rest_of, Marked, admission, count_for, each_once, LimitedFabricSlot, LimitedRecord, waiting_for, held_for, is_output_order, outputs_at, admitted_at, get_or_past, drop}
+use Rattle.cq_fabric.proofs.Terms.{rules, ◌≡◌, ℕ, zero, suc, ◌+◌, ◌≤◌, eqb, Bool, List, [], ◌∷◌, length, Option, Some, None, ap, ⊎_elim, arith, common_steps, if◌then◌else◌, is_some, filter, insert, cond_both, length-drop, length-insert, Cell, Queued, arrival_at, is_for, first_for, without_first, Machine, list_of, HasCellFor, orders_of, list_taken, Partners, partner_of, IsMatching, IsStable, partner_or_free, without_length, length_put, Fabric, input, list_arrived, Transfers, SlotRecord, FabricSlot, came_cell, rest_of, Marked, admission, count_for, each_once, LimitedFabricSlot, LimitedRecord, waiting_for, held_for, is_output_order, outputs_at, admitted_at, get_or_past, drop}
 
 abbrev bit : Bool → ℕ
 bit b = if b then 1 else 0
@@ -66,8 +66,7 @@ sum_less j (x ∷ new) (y ∷ old) (suc k) same each less =
 
 came_one : (f : Fabric) (j : ℕ) (came : Option Queued) (cell : Option Cell) (xs : List Queued) →
     ((c : Queued) → came ≡ Some c → cell ≡ Some c.cell) → count j (list_arrived f came xs) ≤ count j xs + comes j cell
-came_one f j None cell xs is = omega arith
-came_one f j (Some c) cell xs is = grind (arith, common_steps, count_insert, is c refl)
+came_one f j came cell xs is = grind (arith, common_steps, count_insert, is)
 
 -- an input whose partner is output j has a cell for it
 offered : (m : Partners) (f : Fabric) → IsMatching (orders_of f.inputs) m → (i j : ℕ) → partner_of m i ≡ Some j →
@@ -82,8 +81,7 @@ moved m old new matching step j =
     search (arith, rules, step.moves.taken, count_taken) in
     ⊎_elim (λ r.
     let cell = offered m old matching r.0 j r.1 in
-    let given = ap length (step.moves.given r.0 j cell.0 r.1 cell.1) in
-    search (arith, rules, length_put cell.0 (buffer old j), given, step.moves.taken, count_without, sum_less))
+    search (arith, rules, length_put, step.moves.given r.0 j cell.0, cell, step.moves.taken, count_without, sum_less))
     (λ free. search (arith, rules, step.moves.kept, sum_most)) (partner_or_free m j)
 
 module _ (ms : List Machine) (slot : ℕ) (cells : List (Option Cell)) (f g : Fabric) (r : SlotRecord)

@@ -5,8 +5,7 @@ use Rattle.cq_fabric.proofs.Terms.{common_steps, rules, ◌≡◌, ℕ, zero, su
 -- an older cell ahead
 newest_later : (y c : Queued) (xs : List Queued) → y.key.slot < c.key.slot → IsNewest c xs → IsNewest c (y ∷ xs)
 newest_later y c xs older rest =
-    let all = rest.alone in
-    record { place = suc rest.place; at = rest.at; alone = λ t x at same. grind (arith, common_steps, all, same_Some) }
+    record { place = suc rest.place; at = rest.at; alone = search (arith, rules, rest.alone, same_Some) }
 
 newest_insert : (xs : List Queued) (p : ℕ) (c : Queued) → p ≤ length xs → ArrivedBefore c.key.slot xs →
     IsNewest c (insert xs p c)

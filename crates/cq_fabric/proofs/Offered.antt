@@ -3,7 +3,7 @@
 -- is transferred, the lists change in its pairs. All keys of waiting cells differ before and after: a cell that comes
 -- has a key that none had, and cells that leave take theirs away. So the first cells of different lists have
 -- different keys, as the offers ask.
-use Rattle.cq_fabric.proofs.Terms.{common_steps, rules, ◌≡◌, ◌≢◌, ℕ, ◌+◌, ◌<◌, ◌≤◌, ◌⊎◌, true, List, [], length, map, get_or, set, replicate, Option, Some, None, refl, sym, ap, ◌∙◌, arith, All, insert, IsDistinct, cases_eq, cases_lt, length-map, length-replicate, get_or_default, get_or_past, get_or-replicate, get_or-set_same, get_or-set_other, length-set, Queued, MoreUrgentAhead, cushion, with_arrival, place_of_arrival, Waiting, cells_of, list_of, FirstKeysDiffer, AreOrdersOf, first_key, key_before, orders_of, Moves, list_taken, Orders, no_offers, ports, Partners, partner_of, with_pair, are_orders, IsAmong, came_to, among_insert, was_waiting, KeysApart, ComeApart, Comes, list_at, list_with, empty_list, AreSameWithout, one_orders, place_in-le-length, IsSameBut, same_list, same_but_arrival, same_but_taken, same_without, most_ports, cells-at}
+use Rattle.cq_fabric.proofs.Terms.{common_steps, rules, ◌≡◌, ◌≢◌, ℕ, ◌+◌, ◌<◌, ◌≤◌, ◌⊎◌, true, List, [], length, map, get_or, set, replicate, Option, Some, None, sym, ap, ◌∙◌, arith, All, insert, IsDistinct, cases_eq, cases_lt, length-map, length-replicate, get_or_default, get_or_past, get_or-replicate, get_or-set_same, get_or-set_other, length-set, Queued, MoreUrgentAhead, cushion, with_arrival, place_of_arrival, Waiting, cells_of, list_of, FirstKeysDiffer, AreOrdersOf, first_key, key_before, orders_of, Moves, list_taken, Orders, no_offers, ports, Partners, partner_of, with_pair, are_orders, IsAmong, came_to, among_insert, was_waiting, KeysApart, ComeApart, Comes, list_at, list_with, empty_list, AreSameWithout, one_orders, place_in-le-length, IsSameBut, same_list, same_but_arrival, same_but_taken, same_without, most_ports, cells-at}
 use Rattle.std.proofs.Math.ListN.{get_or-map}
 use Rattle.cq_prefs.proofs.BehindFirst.{comes_behind, same_offers}
 use Rattle.cq_fabric.proofs.Queued.{firsts_apart, new_square}
@@ -123,8 +123,7 @@ module _ (m : Partners) (lists lists' : List Waiting) (buffers buffers' : List (
   moved_apart i k c d a b e = apart i k c d (was_waiting moves i c a) (was_waiting moves k d b) e
 
   taken_same : (p : Option ℕ) (old new : List Queued) → new ≡ list_taken p old → IsSameBut p old new
-  taken_same None old new e = same_list None old new e
-  taken_same (Some j) old new e = same_but_taken (Some j) old new j refl e
+  taken_same p old new e = search (arith, rules, same_list p old new, same_but_taken p old new)
 
   -- with the pairs of the matching taken out, the orders are as before
   pub moved_same : (o : Orders) → o ≡ orders_of (cells_of lists) → AreSameWithout m o (orders_of (cells_of lists'))

@@ -1,8 +1,8 @@
 -- Slots in which nothing waits and nothing comes. The first of them tells each machine that its output was idle, and
 -- the others change nothing. After them the fabric is as empty as before, so it is in step with an ideal switch that
 -- is empty too.
-use Rattle.cq_fabric.proofs.Terms.{common_steps, ◌≡◌, ℕ, zero, suc, ◌<◌, Bool, List, Option, length, replicate, refl, arith, rules, no_arrivals, Machine, marked, IdealState, IsInputBest, Agrees, Fabric, IsEmptyFabric, empty_fabric, LimitedFabricRun, LimiterView, fabric_held, HoldsFabric, Queues, fabric_of, empty_ideal, FabricRun, quiet_limited_slots, none_come, run_with, empty_is, quiet_run, empty_agree_at}
-use Rattle.cq_laws.specs.Quiet.{idled, idled_for, quiet_slots}
+use Rattle.cq_fabric.proofs.Terms.{common_steps, ◌≡◌, ℕ, zero, suc, ◌<◌, Bool, List, Option, length, replicate, refl, arith, rules, no_arrivals, Machine, marked, IdealState, IsInputBest, Agrees, Fabric, IsEmptyFabric, empty_fabric, LimitedFabricRun, LimiterView, fabric_held, HoldsFabric, Queues, fabric_of, empty_ideal, quiet_limited_slots, none_come, run_with, empty_is, quiet_run, empty_agree_at}
+use Rattle.cq_laws.specs.Quiet.{idled, idled_for}
 
 -- ## The machines
 
@@ -44,7 +44,5 @@ pub rested_limited_run : (limits : List (Option ℕ)) (marks : List Bool) (ms : 
 rested_limited_run limits marks ms ports count slot f rested empty square long some is again =
     let opening : f ≡ empty_fabric ports f.ranks = search (arith, rules, empty_is f empty square) in
     let once = idle_once ms ports count f.ranks rested some is again in
-    let run : FabricRun IsInputBest ms slot (replicate count no_arrivals) f (quiet_slots ms count slot ports f.ranks)
-    (with_ranks f rested) = rw (opening, ← once) (quiet_run ms count slot ports f.ranks) in
     run_with IsInputBest limits ms marks slot (replicate count no_arrivals) _ _ _
-    (none_come IsInputBest limits ms marks count) run
+    (none_come IsInputBest limits ms marks count) (rw (opening, ← once) (quiet_run ms count slot ports f.ranks))

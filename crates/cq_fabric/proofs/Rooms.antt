@@ -17,5 +17,4 @@ pub one_made : (sizes : List ℕ) (n : ℕ) (buffers more : List Buffered) (b : 
     get_or sizes n 0 < 2 ^ 64 → Made sizes (n + 1) more
 one_made sizes n buffers more b made is inside empty spare one =
     let few = All-push (λ room. room < 2 ^ 64) (take n sizes) (get_or sizes n 0) made.few one in
-    let cells = map_same (λ (x : Buffered). x.cells) [] n buffers more b in
-    grind (arith, common_steps, cells, map_next, take_more sizes n 0)
+    grind (arith, common_steps, map_same (λ (x : Buffered). x.cells), map_next, take_more sizes n 0)

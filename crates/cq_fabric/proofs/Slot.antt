@@ -85,8 +85,7 @@ module _ {ms : List Machine} {slot : ℕ} {q0 : Queues} {ranks0 : List (List ℕ
 
   pub fits_lists : ListsHaveRoom q0 cells → FitLists came q0
   fits_lists room i c is =
-      let fits = fits_list ms slot classes cells came _ known.ideal known.agrees come ranks1 known.ranked i c is in
-      search (arith, rules, room i c.cell (arrival i c is))
+      search (arith, rules, room i, arrival, fits_list ms slot classes cells came _ known.ideal known.agrees come)
 
   module _ {q1 : Queues} (arrived : HaveArrived q0 came q1) where
     pub arrive : Arrives ms slot cells came (fabric_of q0 ranks0) (fabric_of q1 ranks1)

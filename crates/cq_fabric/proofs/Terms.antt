@@ -33,7 +33,7 @@ pub use Rattle.cq_laws.proofs.Falls.{rest_of}
 pub use Rattle.cq_laws.proofs.Members.{among_insert, from_first, was_waiting}
 pub use Rattle.cq_laws.proofs.Sound.{Sound, not_before_itself}
 pub use Rattle.cq_laws.specs.Agreement.{Agrees, SendsAlike}
-pub use Rattle.cq_laws.specs.Fabric.{Fabric, IsAmong, IsEmptyFabric, buffer, cushion_of, empty_fabric, input}
+pub use Rattle.cq_laws.specs.Fabric.{Fabric, IsAmong, IsEmptyFabric, cushion_of, empty_fabric, input}
 pub use Rattle.cq_laws.specs.FabricSlot.{FabricSlot, SlotRecord}
 pub use Rattle.cq_laws.specs.Holding.{held_for, waiting_for}
 unfoldable pub use Rattle.cq_laws.specs.Holding.{fabric_held}
@@ -52,5 +52,5 @@ pub use Rattle.cq_prefs.proofs.{Changes.IsSameBut, Changes.same_list, Changes.sa
 pub use Rattle.cq_prefs.specs.Renewal.{AreSameWithout}
 pub use Rattle.cq_laws.proofs.WholeRuns.{empty_agree_at, empty_list}
 pub use Rattle.cq_laws.proofs.{AfterArrivals.Keyed, AfterArrivals.arrived_sound, AfterArrivals.came_or_was, AfterDepartures.sent_sound, AfterTransfer.moved_sound, Held.hold_as_many, Held.nothing_for, NothingRefused.none_come, NothingRefused.run_with, OneSlot.same_slot, OneSlot.sound_from, QuietSlots.empty_is, QuietSlots.quiet_run}
-pub use Rattle.cq_laws.specs.{FabricRun.FabricRun, LimitedQuiet.quiet_limited_slots}
+pub use Rattle.cq_laws.specs.{LimitedQuiet.quiet_limited_slots}
 pub use Rattle.cq_base.proofs.Having.{all_from_has}

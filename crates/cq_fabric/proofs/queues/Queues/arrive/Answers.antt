@@ -22,9 +22,7 @@ come c = search (arith, rules)
 pub insert_each-requires : goal.insert_each-requires
 insert_each-requires c =
     let fit = fits (goal.at.insert_each-requires c).After-self in
-    let each =
-    fit_each c.self.inside.lists.items c.self.inside.buffers.items c.args.came.now _ c.self.invariant.square fit in
-    search (arith, rules)
+    search (arith, rules, fit_each _ _ c.args.came.now _ c.self.invariant.square fit)
 
 pub invariant_of-self : goal.invariant_of-self
 invariant_of-self c =

@@ -23,10 +23,9 @@ crossed c = search (arith, rules, have)
 
 pub cross_matched-requires-clause-pairs : goal.cross_matched-requires-clause-pairs
 cross_matched-requires-clause-pairs c =
-    let lists = c.self.inside.lists.items in
     let can = subst CanCross (sym c.self.view_is) c.requires.cells in
     let all = have (goal.at.cross_matched-requires-clause-pairs c).After-self in
-    let room = have_room lists c.self.inside.buffers.items c.args.matching.now can all in
+    let room = have_room c.self.inside.lists.items c.self.inside.buffers.items c.args.matching.now can all in
     search (arith, rules, matched_long, length-map, room, all, can.keys)
 
 pub cross_matched-requires-clause-follow : goal.cross_matched-requires-clause-follow

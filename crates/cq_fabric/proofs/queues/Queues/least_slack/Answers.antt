@@ -18,9 +18,8 @@ slack_there : (f : Fabric) (i p : ℕ) (c : Queued) → slice_get (input f i) p 
     get_or (slacks f i) p 0 ≡ cushion_of f c - p
 unfolding slacks
 slack_there f i p c at =
-    let cells = input f i in
-    let read = get_or-map (λ (t : ℕ × Queued). cushion_of f t.1 - t.0) (enumerate_from 0 cells) p (0, c) 0 in
-    let item = get_or-enumerate_from 0 cells p (0, c) in
+    let read = get_or-map (λ (t : ℕ × Queued). cushion_of f t.1 - t.0) (enumerate_from 0 (input f i)) p (0, c) 0 in
+    let item = get_or-enumerate_from 0 (input f i) p (0, c) in
     search (arith, rules, slice_get_within, length-enumerate_from, read, item, get_or_from_slice_get)
 
 -- one cell more is looked at
