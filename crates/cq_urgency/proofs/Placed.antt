@@ -2,7 +2,7 @@
 -- changed in the pool changes at its one place in the order and nowhere else; a block that comes in under a number that
 -- was free or is new stands nowhere in the order, so that the blocks there stay; and so do the others where the first
 -- one becomes free.
-use Rattle.cq_urgency.proofs.Terms.{common_steps, rules, ◌≡◌, ◌≢◌, ℕ, zero, suc, ◌+◌, ◌<◌, ◌≤◌, Bool, List, [], ◌∷◌, ◌++◌, length, get_or, set, take, drop, refl, sym, ap, ◌∙◌, arith, Some, length-set, length-take, length-drop, get_or-set_same, get_or-set_other, get_or-drop, drop-map, ◌==◌, insert, slice_get, sum_by, cases_Bool, cases_eq, cases_lt, ltb-true, lt-ltb, eq-eqb, ne_eqb, cond-true, cond-false, take_more, drop_more, set-set, length_push, length-map, map-set, take-map, get_or-map, get_or_past, get_or_read, length-insert, insert_end, sum_by-cons, sum_by_push, sum_by-insert, get_or-le-sum_by, slice_get_within, get_or_from_slice_get, Queued, BlocksView, block_at, cells_in_all, counts_behind, get_or-insert_below, halved, without_first, in_order, bit, times, has, parted, ArePlaced, ComesIn, map-insert, most_cells, set-get_or}
+use Rattle.cq_urgency.proofs.Terms.{common_steps, rules, ◌≡◌, ◌≢◌, ℕ, zero, suc, ◌+◌, ◌<◌, ◌≤◌, Bool, List, [], ◌∷◌, ◌++◌, length, get_or, set, take, drop, refl, sym, ap, ◌∙◌, arith, Some, length-set, length-take, length-drop, get_or-set_same, get_or-set_other, get_or-drop, drop-map, ◌==◌, insert, slice_get, sum_by, cases_Bool, cases_eq, cases_lt, ltb-true, lt-ltb, eq-eqb, ne_eqb, cond-false, take_more, drop_more, set-set, length_push, length-map, map-set, take-map, get_or-map, get_or_past, get_or_read, length-insert, insert_end, sum_by-cons, sum_by_push, sum_by-insert, get_or-le-sum_by, slice_get_within, get_or_from_slice_get, Queued, BlocksView, block_at, cells_in_all, counts_behind, get_or-insert_below, halved, without_first, in_order, bit, times, has, parted, ArePlaced, ComesIn, map-insert, most_cells, set-get_or}
 use Rattle.std.proofs.lemmas.List.Sums.{sum-map}
 use Rattle.std.proofs.lemmas.List.{drop-set-add, drop-set-lt}
 
@@ -49,16 +49,13 @@ set_order pool block (x ∷ xs) (suc i) number inside is there once =
 -- the cells of the first block and the counts behind it add up to the cells
 pub counts_all : (blocks : List (List Queued)) (counts : List ℕ) → counts ≡ counts_behind blocks → 0 < length blocks →
     length (block_at blocks 0) + sum_by (λ n. n) counts ≡ cells_in_all blocks
-counts_all [] counts is some = absurd (omega arith)
-counts_all (b ∷ bs) counts is some = grind (arith, common_steps, sum_by-cons, sum-map)
+counts_all blocks counts is some = grind (arith, common_steps, sum_by-cons, sum-map)
 
 -- and so do those ahead of a place
 pub counts_ahead : (blocks : List (List Queued)) (counts : List ℕ) (behind place : ℕ) → counts ≡ counts_behind blocks →
     0 < length blocks → place ≡ behind + 1 →
     length (block_at blocks 0) + sum_by (λ n. n) (take behind counts) ≡ cells_in_all (take place blocks)
-counts_ahead [] counts behind place is some next = absurd (omega arith)
-counts_ahead (b ∷ bs) counts behind zero is some next = absurd (omega arith)
-counts_ahead (b ∷ bs) counts behind (suc n) is some next = grind (arith, common_steps, take-map, sum-map, sum_by-cons)
+counts_ahead blocks counts behind place is some next = grind (arith, common_steps, take-map, sum-map, sum_by-cons)
 
 -- where a count is more than nothing, there is a block, of so many cells
 pub count_there : (blocks : List (List Queued)) (counts : List ℕ) (behind within : ℕ) → counts ≡ counts_behind blocks →
@@ -160,8 +157,7 @@ module _ {pool : List (List Queued)} {first : ℕ} {order counts free : List ℕ
 pub started : (pool pool' : List (List Queued)) (first : ℕ) (order counts free free' : List ℕ) (block : List Queued)
     (number : ℕ) → Kept pool first order counts free [] → ComesIn pool free pool' free' block number →
     Kept pool' number (order ++ number ∷ []) counts free' (block ∷ [])
-started pool pool' first [] counts free free' block number w q = grind (arith, common_steps, come, as_many_counts)
-started pool pool' first (x ∷ xs) counts free free' block number w q = absurd (let many = as_many w in omega arith)
+started pool pool' first order counts free free' block number w q = grind (arith, common_steps, come, as_many_counts)
 
 -- a full block split
 pub split : {pool : List (List Queued)} {first : ℕ} {order counts free : List ℕ} {blocks : List (List Queued)}
@@ -184,12 +180,11 @@ count_halved (b ∷ bs) counts i is full e = rw e (cc (length-drop 32 b))
 pub count_halved_behind : (blocks : List (List Queued)) (counts : List ℕ) (i behind : ℕ) →
     counts ≡ counts_behind blocks → length (block_at blocks i) ≡ most_cells → i ≡ behind + 1 →
     insert (set counts behind 32) i 32 ≡ counts_behind (halved blocks i)
-count_halved_behind [] counts i behind is full e = absurd (omega arith)
-count_halved_behind (b ∷ bs) counts zero behind is full e = absurd (omega arith)
 count_halved_behind (b ∷ bs) counts (suc n) behind is full e =
     let same : behind ≡ n = omega arith in
     let next : suc n + 1 ≡ suc (n + 1) = omega arith in
     search (arith, rules, length-take 32 (block_at bs n), length-drop 32 (block_at bs n), map-insert, map-set)
+count_halved_behind blocks counts i behind is full e = absurd (omega arith)
 
 -- ## The upper half of a block goes over to one that came in
 
@@ -247,9 +242,8 @@ upper_first block x at = search (arith, rules, drop_more block 32 x, slice_get_w
 pub freed : (pool : List (List Queued)) (first first' : ℕ) (order counts free : List ℕ) (blocks : List (List Queued)) →
     Kept pool first order counts free blocks → 0 < length blocks → first' ≡ get_or (drop 1 order) 0 first' →
     Kept pool first' (drop 1 order) (drop 1 counts) (free ++ first ∷ []) (drop 1 blocks)
-freed pool first first' [] counts free blocks w some led = absurd (let many = as_many w in omega arith)
-freed pool first first' (x ∷ xs) counts free blocks w some led =
-    grind (arith, common_steps, sum_by-cons, sum_by_push, length_push, drop-map)
+freed pool first first' order counts free blocks w some led =
+    grind (arith, common_steps, as_many w, sum_by-cons, sum_by_push, length_push, drop-map)
 
 -- ## The first cell taken out
 
@@ -259,12 +253,10 @@ read_set pool inside e = grind (arith, common_steps, length-set, get_or_read, ge
 
 pub emptied : (blocks : List (List Queued)) (block : List Queued) → length (block_at blocks 0) ≡ 1 →
     drop 1 (set blocks 0 block) ≡ without_first blocks
-emptied [] block one = absurd (omega arith)
-emptied (b ∷ bs) block one = sym (cond-true (length b == 1) bs (drop 1 b ∷ bs) (eq-eqb (length b) 1 one))
+emptied blocks block one = grind (arith, common_steps, eq-eqb)
 
 pub without_cell : (blocks : List (List Queued)) → 0 < length blocks → 1 < length (block_at blocks 0) →
     without_first blocks ≡ set blocks 0 (drop 1 (block_at blocks 0))
-without_cell [] some more = absurd (omega arith)
-without_cell (b ∷ bs) some more = grind (arith, common_steps, cond-false, ne_eqb)
+without_cell blocks some more = grind (arith, common_steps, cond-false, ne_eqb)
 
 pub ruleset move_steps = (set-get_or, length-take, read_from, read_to, moved_more)

@@ -4,9 +4,13 @@
 -- Where the last cell of all has a lesser key, so have all cells of its block, and the spot is its end.
 --
 -- A full block that is split keeps each place: in its front half, or in its back half behind 32 cells more.
+--
+-- No block is empty, and each but the first has 32 cells at least. Only the first block gets fewer cells, and a block
+-- that is split has 64. So the blocks are few: 32 times their number is at most 31 more than the number of cells, and
+-- where one is split, so it is afterwards.
 use Rattle.cq_urgency.specs.declared.blocks.Spot.{Spot}
-use Rattle.cq_urgency.proofs.Terms.{cases_lt, rules, ◌≡◌, ℕ, zero, suc, ◌+◌, ◌<◌, ◌≤◌, true, false, List, [], ◌∷◌, ◌++◌, length, take, Some, length-append, length-set, length-take, length-drop, get_or-set_same, arith, sym, subst, common_steps, slice_get, AllByRecursion, cases_Bool, take-append-le, take-take, take-set, length-insert, get_or-insert_below, get_or-insert_at, sum_by_more, Key, Queued, is_before, IsBefore, IsRising, cushion, key_laws, all_at, flattened, block_at, halved, AreFilled, AreBegun, IsSpot, starts_before, all_weaker, all_front, all_back, most_cells, ap, few_kept, filter_all, filter_none, refl}
-use Rattle.cq_urgency.proofs.Flattened.{length-flattened}
+use Rattle.cq_urgency.proofs.Terms.{cases_lt, rules, ◌≡◌, ℕ, zero, suc, ◌+◌, ◌*◌, ◌/◌, ◌<◌, ◌≤◌, true, false, List, [], ◌∷◌, ◌++◌, length, take, Some, length-append, length-set, length-take, length-drop, get_or-set_same, arith, sym, subst, common_steps, slice_get, AllByRecursion, cases_Bool, take-append-le, take-take, take-set, length-insert, get_or-insert_below, get_or-insert_at, sum_by_more, Key, Queued, is_before, IsBefore, IsRising, cushion, key_laws, all_at, flattened, block_at, halved, AreFilled, AreBegun, IsSpot, starts_before, all_weaker, all_front, all_back, most_cells, ap, few_kept, filter_all, filter_none}
+use Rattle.cq_urgency.proofs.Flattened.{flattened-halved, length-flattened}
 use Rattle.cq_urgency.proofs.Halving.{cushion-append}
 
 -- ## What holds of joined lists
@@ -34,19 +38,15 @@ abbrev AreSome : List (List Queued) → Type 0
 AreSome blocks = AllByRecursion (λ block. 0 < length block) blocks
 
 filled_some : (blocks : List (List Queued)) → AreFilled blocks → AreSome blocks
-filled_some [] f = tt
-filled_some (b ∷ bs) f = (f.0, all_weaker (λ c. 32 ≤ length c) (λ c. 0 < length c) (λ c long. omega arith) bs f.1)
+filled_some blocks f = search (arith, rules, all_weaker)
 
 none_lesser : (key : Key) (x : Queued) (xs : List Queued) → is_before x.key key ≡ false →
     AllByRecursion (IsBefore x) xs → cushion key (x ∷ xs) ≡ 0
-none_lesser key x xs first after =
-    ap length (filter_none (λ y. is_before y.key key) (x ∷ xs) (search (rules, all_weaker, cases_Bool, key_laws.on)))
+none_lesser key x xs first after = search (rules, filter_none, all_weaker, cases_Bool, key_laws.on)
 
 none_behind : (key : Key) (blocks : List (List Queued)) → IsRising (flattened blocks) → AreSome blocks →
     (0 < length blocks → starts_before key (block_at blocks 0) ≡ false) → cushion key (flattened blocks) ≡ 0
-none_behind key [] r some first = refl
-none_behind key ([] ∷ bs) r some first = absurd (omega arith)
-none_behind key ((x ∷ xs) ∷ bs) r some first = none_lesser key x (xs ++ flattened bs) (first (omega arith)) r.0
+none_behind key blocks r some first = grind (arith, common_steps, none_lesser)
 
 cushion_in : (key : Key) (blocks : List (List Queued)) (i : ℕ) → IsRising (flattened blocks) → AreSome blocks →
     i < length blocks → starts_before key (block_at blocks i) ≡ true →
@@ -127,3 +127,38 @@ module _ (blocks : List (List Queued)) (ahead i o : ℕ) (spot : IsSpot blocks a
   spot_halved was now block within front back =
       let behind = in_back_half now.within in
       search (arith, rules, cases_lt 32 o, in_front_half, behind, front_length, back_length)
+
+-- ## Blocks that are filled
+
+-- each block has 32 cells at least
+abbrev AreHalf : List (List Queued) → Type 0
+AreHalf blocks = AllByRecursion (λ block. 32 ≤ length block) blocks
+
+-- and the first one has so many
+abbrev AreLed : ℕ → List (List Queued) → Type 0
+AreLed least [] = Unit {0}
+AreLed least (block ∷ blocks) = (least ≤ length block) × AreHalf blocks
+
+led_halved : (least : ℕ) (b : List Queued) (bs : List (List Queued)) (i : ℕ) → least ≤ 32 → AreLed least (b ∷ bs) →
+    length (block_at (b ∷ bs) i) ≡ most_cells → AreLed least (halved (b ∷ bs) i)
+led_halved least b bs zero few a full = grind (arith, common_steps, length-take 32 b, length-drop 32 b)
+led_halved least b [] (suc i) few a full = absurd (omega arith)
+led_halved least b (c ∷ bs) (suc i) few a full = search (arith, rules, led_halved 32 c bs i)
+
+pub filled_halved : (blocks : List (List Queued)) (i : ℕ) → AreFilled blocks → length (block_at blocks i) ≡ most_cells →
+    AreFilled (halved blocks i)
+filled_halved [] i f full = absurd (omega arith)
+filled_halved (b ∷ bs) i f full = search (arith, rules, led_halved)
+
+-- ## Few blocks
+
+half_few : (blocks : List (List Queued)) → AreHalf blocks → 32 * length blocks ≤ length (flattened blocks)
+half_few [] a = omega arith
+half_few (b ∷ bs) a = grind (arith, common_steps, length-append, half_few bs a.1)
+
+-- there is room for one more block where a full one is split
+pub room_to_split : (blocks : List (List Queued)) (i most room : ℕ) → AreFilled blocks → i < length blocks →
+    length (block_at blocks i) ≡ most_cells → length (halved blocks i) ≡ length blocks + 1 →
+    length (flattened blocks) ≤ room → most ≡ room / 32 + 1 → length blocks < most
+room_to_split blocks i most room f inside full longer fits enough =
+    search (arith, rules, filled_halved, flattened-halved, half_few, length-append)

@@ -1,7 +1,6 @@
 use Rattle.cq_urgency.proofs.Terms.{refl, rules, ◌≡◌, ◌≤◌, List, length, ap, arith, ℕ, Queued, most_cells}
-use Rattle.cq_urgency.proofs.Filled.{filled_halved, room_to_split}
 use Rattle.cq_urgency.proofs.Flattened.{flattened-halved}
-use Rattle.cq_urgency.proofs.Spots.{longer, spot_halved}
+use Rattle.cq_urgency.proofs.Spots.{filled_halved, longer, room_to_split, spot_halved}
 use Rattle.cq_urgency.proofs.output_buffer.spot_with_room.Goals as goal
 
 -- the block is full

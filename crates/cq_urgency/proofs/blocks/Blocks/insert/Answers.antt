@@ -1,4 +1,4 @@
-use Rattle.cq_urgency.proofs.Terms.{◌-◌, arith, rules, ap, List, length, length-set, length-insert, Queued}
+use Rattle.cq_urgency.proofs.Terms.{◌-◌, arith, rules, ap, length, length-set, length-insert}
 use Rattle.cq_urgency.proofs.Placed.{kept, as_many_counts, in_pool, read_is, changed, count_first, count_grown}
 use Rattle.cq_urgency.proofs.blocks.Blocks.insert.Goals as goal
 
@@ -32,8 +32,7 @@ invariant_of-self-2 c =
     let counted = count_grown c.args.self.now.blocks c.insert.new.self c.args.block (c.args.block - 1) _
     (as_many_counts w) (omega arith) c.requires.block c.index_mut-2.ensures.value
     (omega (arith, ap length same, ap length c.insert.ensures, more)) in
-    let k = changed w c.args.block c.requires.block c.number_at-number.ensures c.insert.new.self _ counted in
-    (k.placed, omega (arith, length-set {A = List Queued}))
+    search (arith, rules, changed w c.args.block, counted, length-set)
 
 pub returns-clause-blocks : goal.returns-clause-blocks
 returns-clause-blocks c =
