@@ -3,9 +3,9 @@
 -- Where blocks change in one run, its sum is exchanged, and the others stay. Where the first block goes or comes, all
 -- is done: the first run is short of one more or less. Else a block goes over at each border of two runs behind it:
 -- this border moves by one block, and the others stay.
-use Rattle.cq_list.specs.Sums.{AreRuns, ArePassing, AreOpen, AreSums, AreSummed, AreTaking, BlocksView, HasLess, HasMore, HasRoom, HasThese, IsBetween, IsExchanged, SumView, begin_of, run_blocks}
+use Rattle.cq_list.specs.Sums.{AreRuns, ArePassing, AreOpen, AreSums, AreSummed, AreTaking, BlocksView, HasLess, HasMore, HasRoom, HasThese, IsBetween, IsExchanged, SumView, begin_of}
 use Rattle.cq_list.proofs.Sums.{HasBoth, IsAdded, IsChanged, ahead, ahead_next, all_ahead, block_came, block_set, block_went, count_added, length_added, one_between}
-use Rattle.cq_list.proofs.Terms.{get_or_read, get_or-set_other, get_or-set_same, length-set, length-insert, length-remove, take_all, cases_eq, cases_lt, common_steps, rules, ◌≡◌, ◌≢◌, ℕ, ◌+◌, ◌-◌, ◌*◌, ◌/◌, ◌^◌, ◌⊎◌, ◌<◌, ◌≤◌, List, [], ◌++◌, length, get_or, set, take, drop, insert, remove, concat, refl, ap, ◌∙◌, arith, count_of}
+use Rattle.cq_list.proofs.Terms.{get_or_read, get_or-set_other, get_or-set_same, length-set, take_all, cases_eq, cases_lt, common_steps, rules, ◌≡◌, ◌≢◌, ℕ, ◌+◌, ◌-◌, ◌/◌, ◌^◌, ◌⊎◌, ◌<◌, ◌≤◌, List, [], ◌++◌, length, get_or, set, take, drop, insert, remove, concat, ap, ◌∙◌, arith, count_of}
 
 -- ## One sum
 
@@ -70,17 +70,17 @@ module _ {blocks : List (List ℕ)} {sums : List SumView} {begins : ℕ → ℕ}
 -- the borders of runs ahead of a run and its own stay, and those behind it move on by what came
 module _ {old now : List (List ℕ)} {p lost come : ℕ} {gone new : List ℕ} {begins ends : ℕ → ℕ} {run : ℕ}
     (change : IsChanged p lost come gone new old now)
-    (low : (k : ℕ) → k ≤ run → (begins k ≤ p) × (ends k ≡ begins k))
-    (high : (k : ℕ) → run < k → (p + lost ≤ begins k) × (ends k + lost ≡ begins k + come)) where
+    (moves : (k : ℕ) → (k ≤ run → (begins k ≤ p) × (ends k ≡ begins k))
+    × (run < k → (p + lost ≤ begins k) × (ends k + lost ≡ begins k + come))) where
   edge : (m : List ℕ → ℕ) → IsAdded m → (k : ℕ) →
       (k ≤ run → ahead m now (ends k) ≡ ahead m old (begins k))
       × (run < k → ahead m now (ends k) + m gone ≡ ahead m old (begins k) + m new)
-  edge m added k = search (arith, rules, low k, high k, change.before m added, change.behind m added)
+  edge m added k = search (arith, rules, moves k, change.before m added, change.behind m added)
 
   runs_changed : {sums : List SumView} {count most : ℕ} {s t : SumView} → AreRuns old sums begins count →
-      run < length sums → s ≡ get_or sums run s → IsExchanged gone new s t → most ≤ run_blocks * length sums →
-      run_blocks * length sums < most + run_blocks → AreRuns now (set sums run t) ends most
-  runs_changed {sums} {s = s} {t} had there first swap enough few =
+      run < length sums → s ≡ get_or sums run s → IsExchanged gone new s t → most ≡ count →
+      AreRuns now (set sums run t) ends most
+  runs_changed {sums} {s = s} {t} had there first swap as_many =
       let places = edge length length_added in
       let counts = λ (j : ℕ). edge (count_of j) (count_added j) in
       search (arith, rules, places, counts, had.each, swap.counts, set_sum)
@@ -90,32 +90,28 @@ module _ {blocks : List (List ℕ)} {offset : ℕ} {sums : List SumView} {block 
   pub came_first : AreSums blocks offset sums → 0 < offset → offset ≤ 32 → s ≡ get_or sums 0 s → HasMore s t block →
       AreSums (insert blocks 0 block) (offset - 1) (set sums 0 t)
   came_first had some most first more =
-      let long = length-insert blocks 0 block (omega arith) in
-      runs_changed (block_came blocks 0 block (omega arith)) (λ k le. (omega arith, omega arith))
-      (λ k lt. (omega arith, omega arith)) had (omega arith) first more (omega arith) (omega arith)
+      let came = block_came blocks 0 block (omega arith) in
+      runs_changed came (λ k. search (arith, rules)) had (omega arith) first more (omega arith)
 
   module _ {p run : ℕ} (own : run ≡ (p + offset) / 32) (first : s ≡ get_or sums run s) (short : offset < 32) where
     pub came_passing : AreOpen blocks offset sums → p ≤ length blocks → HasMore s t block →
         ArePassing (insert blocks p block) offset (set sums run t) (run + 1)
     came_passing had inside more =
-        let long = length-insert blocks p block inside in
-        runs_changed (block_came blocks p block inside) (λ k le. (omega arith, omega arith))
-        (λ k lt. (omega arith, omega arith)) had (omega arith) first more (omega arith) (omega arith)
+        let came = block_came blocks p block inside in
+        runs_changed came (λ k. search (arith, rules)) had (omega arith) first more (omega arith)
 
     module _ (had : AreSums blocks offset sums) (inside : p < length blocks) (read : block ≡ get_or blocks p [])
         (less : HasLess s t block) where
       pub went_taking : AreTaking (remove blocks p) offset (set sums run t) (run + 1)
       went_taking =
-          let long = length-remove blocks p inside in
-          runs_changed (block_went blocks p block inside read) (λ k le. (omega arith, omega arith))
-          (λ k lt. (omega arith, omega arith)) had (omega arith) first less (omega arith) (omega arith)
+          let went = block_went blocks p block inside read in
+          runs_changed went (λ k. search (arith, rules)) had (omega arith) first less (omega arith)
 
       -- the first run is then short of one more
       pub went_first : p ≡ 0 → AreSums (remove blocks p) (offset + 1) (set sums run t)
       went_first is =
-          let long = length-remove blocks p inside in
-          runs_changed (block_went blocks p block inside read) (λ k le. (omega arith, omega arith))
-          (λ k lt. (omega arith, omega arith)) had (omega arith) first less (omega arith) (omega arith)
+          let went = block_went blocks p block inside read in
+          runs_changed went (λ k. search (arith, rules)) had (omega arith) first less (omega arith)
 
 -- ## A border that moves
 
@@ -202,13 +198,11 @@ module _ {blocks : List (List ℕ)} {offset capacity : ℕ} {sums : List SumView
         IsExchanged block new s t → length (concat blocks) + length new < 2 ^ 64 + length block →
         AreSummed (set blocks i new) offset (set sums ((i + offset) / 32) t)
     summed_set {new} first swap few =
-        let run : ℕ = (i + offset) / 32 in
         let inside = inside in
-        let long = length-set blocks i new in
-        let all = (set_changed new).all length length_added in
+        let changed = set_changed new in
+        let all = changed.all length length_added in
         record {
-          runs = runs_changed (set_changed new) (λ k le. (omega arith, refl)) (λ k lt. (omega arith, refl)) had.runs
-              there first swap (omega arith) (omega arith);
+          runs = runs_changed changed (λ k. search (arith, rules)) had.runs there first swap (omega arith);
           short = had.short;
           fits = omega arith;
         }
