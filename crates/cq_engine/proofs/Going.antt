@@ -26,10 +26,9 @@ keys_differ f i differ = each_pair _ (input f i) (λ s t d l inside e.
 pub can_hold : (ms : List Machine) (limits : List (Option ℕ)) (from to : List ℕ) (x : Frozen) →
     CanGoOn ms limits from to x → CanHold from to x.lists x.buffers
 can_hold ms limits from to x can =
-    let outputs = can.sound.fabric.outputs in
-    let rising = can.sound.fabric.rising in
+    let f = can.sound.fabric in
     let differ = keys_differ (fabric_in x) in
-    search (arith, rules, can.list_rooms, all_from_has, outputs, can.sound.order, differ, can.buffer_rooms, rising)
+    search (arith, rules, can.list_rooms, all_from_has, f.outputs, can.sound.order, differ, can.buffer_rooms, f.rising)
 
 -- ## The engine
 

@@ -1,6 +1,6 @@
 -- A slot of the engine: that of the fabric below, with the figures that are counted of it. What each phase asks for
 -- is shown there, for any stable matchings, and input-best ones are stable.
-use Rattle.cq_engine.proofs.Terms.{slice_get_within, slice_get-get_or, common_steps, rules, ◌≡◌, ℕ, zero, suc, ◌+◌, ◌-◌, ◌≤◌, eqb, Bool, List, [], ◌∷◌, ◌++◌, length, map, Option, Some, None, refl, ap, ◌∙◌, arith, if◌then◌else◌, min, max, slice_get, is_some, enumerate_from, list_any, position_or_len, reduce, option_map, same_Some, Cell, Queued, Transfer, InputFigures, OutputFigures, Figures, Machine, IdealState, fronts, list_of, orders_of, Moves, transfers_of, Partners, IsInputBest, IsStable, proposals, Fabric, cushion_of, came_to, SlotRecord, FabricSlot, figures_after, input_after, output_after, either_by, slacks, slack_on_arrival, proposals_in, stable_slot, Queues, fabric_of, length-by_place, at-by_place, AreRanked, BuffersHaveRoom, HaveArrived, HaveMoved, HaveSent, alike, arrive, come, depart, fill, keyed, recorded, IsInStep, IsSeen, CountsFit, Look, arriving_slack, input_counted, output_counted, slack_seen, SendsAlike, by_arrivals, more_after}
+use Rattle.cq_engine.proofs.Terms.{slice_get_within, slice_get-get_or, common_steps, rules, ◌≡◌, ℕ, zero, suc, ◌+◌, ◌-◌, ◌≤◌, eqb, Bool, List, [], ◌∷◌, ◌++◌, length, map, Option, Some, None, refl, arith, if◌then◌else◌, min, max, slice_get, is_some, enumerate_from, list_any, position_or_len, reduce, option_map, same_Some, Cell, Queued, Transfer, InputFigures, OutputFigures, Figures, Machine, IdealState, fronts, list_of, orders_of, Moves, transfers_of, Partners, IsInputBest, IsStable, proposals, Fabric, cushion_of, came_to, SlotRecord, FabricSlot, figures_after, input_after, output_after, either_by, slacks, slack_on_arrival, proposals_in, stable_slot, Queues, fabric_of, length-by_place, at-by_place, AreRanked, BuffersHaveRoom, HaveArrived, HaveMoved, HaveSent, alike, arrive, come, depart, fill, keyed, recorded, IsInStep, IsSeen, CountsFit, Look, arriving_slack, input_counted, output_counted, slack_seen, SendsAlike, by_arrivals, more_after}
 use Rattle.cq_laws.specs.Records.{transfers_in}
 use Rattle.cq_engine.specs.declared.measure.Look.TheVariants as look
 
@@ -19,8 +19,7 @@ pub by_place_same : {X : Type 0} (f g : ℕ → X → X) (n : ℕ) (xs : List X)
     map (λ at. f at.0 at.1) (enumerate_from n xs) ≡ map (λ at. g at.0 at.1) (enumerate_from n xs)
 by_place_same {X} f g n [] same = refl
 by_place_same {X} f g n (x ∷ xs) same =
-    ap (λ y. y ∷ map (λ (at : ℕ × X). f at.0 at.1) (enumerate_from (n + 1) xs)) (same zero x n (omega arith) refl)
-    ∙ ap (λ l. g n x ∷ l) (by_place_same f g (n + 1) xs (λ i y k e at. same (suc i) y k (omega arith) at))
+    search (arith, rules, same zero x n, by_place_same f g (n + 1) xs, λ (i : ℕ). same (suc i))
 
 -- each item counts one more at most
 count_one : {X : Type 0} (cells : X → ℕ) (after : ℕ → X → X) (moved : List (Option Queued)) (n : ℕ) (xs : List X) →

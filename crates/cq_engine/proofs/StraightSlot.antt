@@ -5,7 +5,7 @@
 -- transfer empties the lists and puts each cell alone into the buffer of its output, which sends it. After that nothing
 -- waits and nothing is offered, and the second matching is empty. The lists and buffers in between are made here for
 -- the proof alone.
-use Rattle.cq_engine.proofs.Terms.{common_steps, rules, ◌≡◌, ℕ, ◌+◌, ◌-◌, ◌*◌, ◌<◌, ◌≤◌, List, [], ◌∷◌, ◌++◌, length, map, drop, get_or, replicate, Option, Some, None, refl, sym, ap, ◌∙◌, ⊎_elim, arith, All, IfSome, min, enumerate_from, filter_map, range_with_len, reduce, sum_by, option_map, cases_lt, cond_both, eq-eqb, row_fits, same_Some, append-nil, ext_get_or, get_or_past, length-map, get_or-map-range_with_len, length-map-range_with_len, sum-map, sum_by-cons, Cell, Queued, Transfer, Figures, InputFigures, first_for, Machine, all_told, fronts, rests, LimiterView, list_of, orders_of, output_order, Moves, list_taken, transfers_of, ports, IsListed, Partners, partner_of, partner_place, proposals, IsFreeOutput, IsInputBest, IsStable, cushion_of, slacks, came_to, HoldsFabric, Queues, fabric_of, AreRanked, BuffersHaveRoom, HaveArrived, HaveJudged, HaveSent, ListsHaveRoom, fits_lists, held_before, keyed, IsInStep, IsSeen, arriving_slack, input_counted, slack_seen, GoStraight, crossing, crossings, input_passed, Look, among, place_head, none_unless, outputs_at, kept_more, kept_few, append_assoc, length-append}
+use Rattle.cq_engine.proofs.Terms.{common_steps, rules, ◌≡◌, ℕ, ◌+◌, ◌-◌, ◌*◌, ◌<◌, ◌≤◌, List, [], ◌∷◌, ◌++◌, length, map, drop, get_or, replicate, Option, Some, None, refl, sym, ap, ◌∙◌, arith, All, IfSome, min, enumerate_from, filter_map, range_with_len, reduce, sum_by, option_map, cases_lt, cond_both, eq-eqb, row_fits, same_Some, append-nil, ext_get_or, get_or_past, length-map, get_or-map-range_with_len, length-map-range_with_len, sum-map, sum_by-cons, Cell, Queued, Transfer, Figures, InputFigures, first_for, Machine, all_told, fronts, rests, LimiterView, list_of, orders_of, output_order, Moves, list_taken, transfers_of, ports, IsListed, Partners, partner_of, partner_place, proposals, IsFreeOutput, IsInputBest, IsStable, cushion_of, slacks, came_to, HoldsFabric, Queues, fabric_of, AreRanked, BuffersHaveRoom, HaveArrived, HaveJudged, HaveSent, ListsHaveRoom, fits_lists, held_before, keyed, IsInStep, IsSeen, arriving_slack, input_counted, slack_seen, GoStraight, crossing, crossings, input_passed, Look, among, place_head, none_unless, outputs_at, kept_more, kept_few, append_assoc, length-append}
 use Rattle.std.proofs.Math.ListN.{get_or-map}
 use Rattle.cq_engine.specs.declared.measure.Look.TheVariants as look
 use Rattle.cq_engine.proofs.NoOffers.{none_best, none_proposed, nothing_moves, nothing_noted}
@@ -183,8 +183,8 @@ module _ {ms : List Machine} {slot : ℕ} {q : Queues} {ranks0 : List (List ℕ)
   -- an output to which nobody crosses sends nothing
   none_sent : (j : ℕ) → IsFreeOutput pairs j → came_to gone j ≡ None
   none_sent j free =
-      none_unless (came_to gone j) (λ c is. ⊎_elim (search (rules, straight.sent.only j c, free, pair_of))
-      (λ past. grind (arith, common_steps, get_or_past)) (cases_lt j n))
+      none_unless (came_to gone j) (λ c is.
+      grind (arith, common_steps, straight.sent.only j c, free, pair_of, get_or_past))
 
   ruleset pair_facts = (listed_facts, pair_cell, buffer_is, pair_gone, none_sent)
 

@@ -33,10 +33,7 @@ module _ (inputs outputs : ℕ) (came gone : List (Option Queued)) (sent : AreSe
 
   sent_past : came_to came inputs ≡ None → AreSent (inputs + 1) outputs came gone
   sent_past none =
-      record {
-        each = search (arith, rules, cases_lt);
-        only = λ j d j_in there. grind (arith, common_steps, sent.only j d j_in there);
-      }
+      record { each = search (arith, rules, cases_lt); only = λ j d. search (arith, rules, sent.only j d) }
 
 apart_past : (inputs : ℕ) (came : List (Option Queued)) → AreApart inputs came → came_to came inputs ≡ None →
     AreApart (inputs + 1) came

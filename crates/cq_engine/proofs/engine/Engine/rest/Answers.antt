@@ -11,8 +11,7 @@ rested_in_step : (ms : List Machine) (slot later : ℕ) (x : Figures) (f : Fabri
     IsEmptyFabric f → IsInStep ms slot x f →
     IsInStep ms later x (record { inputs = f.inputs; buffers = f.buffers; ranks = rested })
 rested_in_step ms slot later x f rested le empty had =
-    let agrees = rested_agrees slot later f had.ideal rested empty had.agrees in
-    grind (arith, common_steps, agrees, had.counts.inputs, had.counts.outputs)
+    grind (arith, common_steps, rested_agrees slot later f had.ideal rested, had.counts.inputs, had.counts.outputs)
 
 -- where no cell waits, each that waits has more slack
 rested_seen : (looks : Look) (x : Figures) (f : Fabric) (rested : List (List ℕ)) → IsEmptyFabric f →

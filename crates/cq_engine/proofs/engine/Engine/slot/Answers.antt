@@ -125,7 +125,6 @@ pub pass-crossed-requires : goal.pass-crossed-requires
 pass-crossed-requires g c =
     let at = goal.at.pass-crossed-requires g c in
     let begins = known g at.After-self in
-    let seen = ports_seen g at.After-self in
     let marks = c.take_in.new.limiter.marks in
     let is = straight g at.After-of_outputs-gone in
     let holds = held_straight (taken begins c.in_default.ensures.taken) (lists_room begins marks) is
@@ -157,10 +156,9 @@ pub cross-first-requires-clause-can : goal.cross-first-requires-clause-can
 cross-first-requires-clause-can g c =
     let at = goal.at.cross-first-requires-clause-can g c in
     let begins = known g at.After-self in
-    let seen = ports_seen g at.After-self in
     let cells = can_cross_first (taken begins c.in_default.ensures.taken) (arrived g at.After-arrive)
     (buffers_room begins c.take_in.new.limiter.marks) in
-    search (arith, rules)
+    search (arith, rules, ports_seen g at.After-self)
 
 pub depart-requires : goal.depart-requires
 depart-requires g c =
@@ -194,10 +192,8 @@ invariant_of-self-2 g c =
     let at = goal.at.returns g c in
     let begins = known g at.After-self in
     let done = whole g c in
-    let gone = fronts c.cross-first.new.queues.buffers in
-    let holds = still_holds (taken begins c.in_default.ensures.taken) gone _ c.self.inside.limiter c.take_in.new.limiter
-    c.depart.new.limiter done.alike begins.running.holds (judged c.take_in.ensures.judged)
-    c.depart.ensures.sent.released in
+    let holds = still_holds (taken begins c.in_default.ensures.taken) _ _ _ _ _ done.alike begins.running.holds
+    (judged c.take_in.ensures.judged) c.depart.ensures.sent.released in
     search (arith, rules, length-told)
 
 pub returns-in-Err-clause-answer : goal.returns-in-Err-clause-answer
