@@ -1,6 +1,6 @@
 -- Lists and buffers with their rooms. A cell that goes into a list takes the room that the list has for it, and a
 -- cell that leaves gives it back, so that no list and no buffer can hold more cells, or fewer, than before.
-use Rattle.cq_fabric.proofs.Terms.{common_steps, rules, ◌≡◌, ℕ, ◌+◌, ◌<◌, ◌≤◌, cond, List, [], ◌∷◌, ◌++◌, length, map, get_or, take, drop, Option, Some, None, refl, ◌∙◌, ⊎_elim, arith, replicate, is_some, slice_get, cases_lt, cond_both, length-map, get_or_default, get_or_past, ext_get_or, drop_all, take_all, append-nil, get_or-replicate, length-insert, Queued, first_for, without_first, fronts, rests, Waiting, cells_of, Buffered, cells_in, list_of, FirstKeysDiffer, orders_of, output_order, Moves, Orders, Partners, IsMatching, are_orders, HaveCells, HaveRoom, MovesRoom, list_spare, buffer_spare, partner_or_free, length_put, came_to, list_arrived, from_first, Queues, FitLists, KeysApart, CanCross, FitEach, AreSquare, list_room, buffer_room, fabric_of, no_list, list_at, list_with, front_of, popped, most_ports, cells-at, cells_in-at, no_buffer}
+use Rattle.cq_fabric.proofs.Terms.{common_steps, rules, ◌≡◌, ℕ, ◌+◌, ◌<◌, ◌≤◌, cond, List, [], ◌∷◌, ◌++◌, length, map, get_or, take, drop, Option, Some, ◌∙◌, ⊎_elim, arith, replicate, is_some, slice_get, cases_lt, cond_both, length-map, get_or_default, get_or_past, ext_get_or, drop_all, take_all, append-nil, get_or-replicate, length-insert, Queued, first_for, without_first, fronts, rests, Waiting, cells_of, Buffered, cells_in, list_of, FirstKeysDiffer, orders_of, output_order, Moves, Orders, Partners, IsMatching, are_orders, HaveCells, HaveRoom, MovesRoom, list_spare, buffer_spare, partner_or_free, length_put, came_to, list_arrived, from_first, Queues, FitLists, KeysApart, CanCross, FitEach, AreSquare, list_room, buffer_room, fabric_of, no_list, list_at, list_with, front_of, popped, most_ports, cells-at, cells_in-at, no_buffer}
 use Rattle.std.proofs.Math.ListN.{get_or-map}
 use Rattle.std.proofs.lemmas.Simd.{map-map}
 
@@ -49,8 +49,7 @@ fit_each lists buffers came n square fit i c inside is =
 
 room_with : (buffers : List (List Queued)) (came : Option Queued) (w : Waiting) →
     ((c : Queued) → came ≡ Some c → 0 < w.spare) → list_room (list_with buffers came w) ≡ list_room w
-room_with buffers None w spare = refl
-room_with buffers (Some c) w spare = let some = spare c refl in omega (arith, length-insert)
+room_with buffers came w spare = search (arith, rules, length-insert, spare)
 
 -- the cells that came went into these lists, which fit
 pub record HaveCome (lists : List Waiting) (buffers : List Buffered) (came : List (Option Queued)) (n : ℕ)
@@ -133,8 +132,7 @@ pub rests_shown : (buffers : List Buffered) → cells_in (map popped buffers) �
 rests_shown buffers = search (rules, map-map)
 
 pub rooms_shown : (buffers : List Buffered) → map buffer_room (map popped buffers) ≡ map buffer_room buffers
-rooms_shown [] = refl
-rooms_shown (b ∷ buffers) = search (arith, rules, rooms_shown buffers)
+rooms_shown buffers = search (rules, map-map)
 
 pub popped_square : (lists : List Waiting) (buffers : List Buffered) (n : ℕ) → AreSquare lists buffers n →
     AreSquare lists (map popped buffers) n

@@ -14,8 +14,7 @@ module _ (ms : List Machine) (ports : ℕ) where
 
   idle_once : (count : ℕ) (ranks rested : List (List ℕ)) → 0 < count → rested ≡ idled ms ports ranks →
       idled ms ports rested ≡ rested → idled_for ms count ports ranks ≡ rested
-  idle_once zero ranks rested some is again = absurd (omega arith)
-  idle_once (suc count) ranks rested some is again = grind (arith, common_steps, stays_idle)
+  idle_once count ranks rested some is again = grind (arith, common_steps, stays_idle)
 
 -- ## The fabric
 
