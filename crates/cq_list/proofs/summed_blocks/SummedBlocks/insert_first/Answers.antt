@@ -9,9 +9,6 @@ add-requires c =
 
 pub invariant_of-self : goal.invariant_of-self
 invariant_of-self c =
-    rw c.push_front_reserved.ensures.items (record {
-      runs = came_first c.open_first-short.ensures.sums c.open_first-short.ensures.some c.open_first-short.ensures.most
-          c.index_mut.ensures.value c.add.ensures;
-      short = omega arith;
-      fits = search (arith, rules, length-append);
-    })
+    let runs = came_first c.open_first-short.ensures.sums c.open_first-short.ensures.some
+    c.open_first-short.ensures.most c.index_mut.ensures.value c.add.ensures in
+    search (arith, rules, runs, length-append, c.push_front_reserved.ensures.items)
