@@ -1,7 +1,7 @@
 -- Lists that change one after another, each in the cells for the partner of its input: a cell came, or the first one
 -- went. The cells of a list are those of its input and came in different slots, so all keys differ. And each list is as
 -- before but for the partner, so the orders are so but for the pairs.
-use Rattle.cq_list_trials.proofs.Terms.{common_steps, rules, ◌≡◌, ◌≢◌, ℕ, ◌+◌, ◌<◌, List, length, get_or, set, Some, refl, sym, ap, ◌∙◌, ⊎_elim, arith, All, cases_eq, length-map, length-set, get_or_past, get_or_default, get_or-set_same, get_or-set_other, find_at, Queued, first_for, all_at, Waiting, cells_of, list_of, FirstKeysDiffer, orders_of, Partners, partner_of, AreSameWithout, cells-at, no_list}
+use Rattle.cq_list_trials.proofs.Terms.{rules, ◌≡◌, ◌≢◌, ℕ, ◌+◌, ◌<◌, List, length, get_or, set, Some, refl, sym, ap, ◌∙◌, ⊎_elim, arith, All, cases_eq, length-map, length-set, get_or_past, get_or_default, get_or-set_same, get_or-set_other, find_at, Queued, first_for, all_at, Waiting, cells_of, list_of, FirstKeysDiffer, orders_of, Partners, partner_of, AreSameWithout, cells-at, no_list}
 use Rattle.cq_base.specs.declared.key.Key.{Key}
 use Rattle.cq_list_trials.proofs.Arrived.{older_still}
 use Rattle.cq_list_trials.specs.Followed.{AreOwn, HasChanged, IsOwn}
@@ -25,9 +25,7 @@ own_keys slot lists own j i k c d a b e = sym (names i c a) ∙ ap (λ (key : Ke
   where
     names : (i : ℕ) (c : Queued) → first_for j (list_of (cells_of lists) i) ≡ Some c → c.key.input ≡ i
     names i c a =
-        let xs = (get_or lists i no_list).cells in
-        let found : first_for j xs ≡ Some c = rw (cells-at lists i) at a in
-        grind (arith, common_steps, all_at, find_at, get_or_past, own, found)
+        search (arith, rules, cells-at, all_at, find_at, get_or_past, own)
 
 -- some of the lists have changed, each for the partner of its input
 pub record Changing (m : Partners) (slot : ℕ) (old now : List Waiting) : Type 0 where
@@ -57,16 +55,11 @@ module _ {m : Partners} {slot : ℕ} {old now : List Waiting} (had : Changing m 
             (changed_same j (get_or now n none).cells w.cells changed) in
             let before = had.same n in
             let both : IsSameBut (partner_of m n) (list_of (cells_of old) n) (list_of (cells_of (set now n w)) n) =
-            record {
-              firsts = λ k other. one.firsts k other ∙ before.firsts k other;
-              order = before.order ∙ one.order;
-            } in
+            search (rules, one.firsts, before.firsts) in
             λ i. ⊎_elim (λ is. rw is both)
             (λ other. search (arith, rules, IsSameBut, cells-at, get_or-set_other)) (cases_eq i n);
       }
 
   pub all_same : (before : ℕ) → AreOwn before old →
       AreSameWithout m (orders_of (cells_of old)) (orders_of (cells_of now))
-  all_same before own = same_without m (cells_of old) (cells_of now)
-      (length-map now (λ (w : Waiting). w.cells) ∙ had.long ∙ sym (length-map old (λ (w : Waiting). w.cells)))
-      had.same (own_keys before old own) (own_keys slot now had.own)
+  all_same before own = search (arith, rules, same_without, length-map, had.same, own_keys)
