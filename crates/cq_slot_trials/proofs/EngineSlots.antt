@@ -1,9 +1,8 @@
 -- The slots of the engine's trials: four ports, and how many cells there are after so many slots.
-use Rattle.cq_slot_trials.proofs.Terms.{rules, ◌≡◌, ℕ, ◌+◌, ◌*◌, ◌^◌, ◌<◌, ◌≤◌, List, [], ◌∷◌, length, get_or, Option, sym, ap, subst, arith, Err, Ok, OnOk, Result, get_or-replicate, Cell, Machine, CanCount, AreForPorts, counts_fit, zero_fits, EngineView, HasGoneOn, HaveBufferRoom, HaveListRoom, SlotDone, fresh_engine, ports_of, HasGrown}
+use Rattle.cq_slot_trials.proofs.Terms.{rules, ◌≡◌, ℕ, ◌+◌, ◌*◌, ◌^◌, ◌<◌, ◌≤◌, List, [], ◌∷◌, length, Option, sym, ap, subst, arith, OnOk, Result, Cell, Machine, CanCount, AreForPorts, counts_fit, zero_fits, EngineView, HasGoneOn, HaveBufferRoom, HaveListRoom, SlotDone, fresh_engine, ports_of, HasGrown}
 use Rattle.cq_base.specs.declared.cell.Departure.{Departure}
 use Rattle.cq_base.specs.declared.cell.Transfer.{Transfer}
 use Rattle.cq_base.specs.Room.{RoomView}
-use Rattle.cq_laws.specs.LimitedFabric.{LimitedRecord}
 use Rattle.cq_laws.proofs.InputBest.{stable_slot}
 use Rattle.cq_laws.specs.Fabric.{input}
 use Rattle.cq_laws.specs.Holding.{held_for}
@@ -14,20 +13,16 @@ use Rattle.cq_slot_trials.proofs.Arriving.{admitted_most, count_most, refusals_m
 
 -- what follows from two facts at one variant
 pub on_both : {T E P Q X : Type 0} (r : Result T E) → (P → Q → X) → OnOk r P → OnOk r Q → OnOk r X
-on_both (Ok x) f p q = f p q
-on_both (Err e) f p q = tt
-
-four_at : (n j : ℕ) → j < 4 → get_or (n ∷ n ∷ n ∷ n ∷ []) j 0 ≡ n
-four_at n j l = get_or-replicate 4 j n 0 l
+on_both r f p q = search (rules, f)
 
 pub list_room : (e : EngineView) (cells : List (Option Cell)) (n : ℕ) → AreForPorts 4 2 cells →
     e.from_inputs ≡ 40 ∷ 40 ∷ 40 ∷ 40 ∷ [] → ((i : ℕ) → length (input e.fabric i) ≤ n) → n < 40 → HaveListRoom cells e
-list_room e cells n come room few early i cell at = search (arith, rules, four_at, come.inputs)
+list_room e cells n come room few early i cell at = search (arith, rules, come.inputs)
 
 pub buffer_room : (e : EngineView) (cells : List (Option Cell)) (n : ℕ) → length cells ≡ 64 → length e.fixed ≡ 4 →
     e.to_outputs ≡ 2560 ∷ 2560 ∷ 2560 ∷ 2560 ∷ [] → ((j : ℕ) → held_for j e.fabric ≤ 64 * n) → n < 40 →
     HaveBufferRoom cells e
-buffer_room e cells n places ports room held early j inside = search (rules, four_at, count_most, held)
+buffer_room e cells n places ports room held early j inside = search (arith, rules, count_most, held)
 
 module _ (ms : List Machine) (slot : ℕ) (cells : List (Option Cell)) (old new : EngineView)
     (sent sent' : RoomView Departure) (note note' : RoomView Transfer)
@@ -35,11 +30,10 @@ module _ (ms : List Machine) (slot : ℕ) (cells : List (Option Cell)) (old new 
   pub grown_after : (n : ℕ) → length cells ≡ 64 → ports_of old ≡ 4 → HasGrown n old → HasGoneOn slot old new →
       HasGrown (n + 1) new
   grown_after n places four had went =
-      let record_is = slot_done.record_of.of_slot in
-      let stable = stable_slot ms slot _ old.fabric new.fabric record_is slot_done.is_slot.runs in
-      let lists = lists_kept ms slot _ old.fabric new.fabric record_is stable in
-      let outputs = outputs_kept ms slot _ old.fabric new.fabric record_is stable in
+      let stable = stable_slot ms slot _ old.fabric new.fabric slot_done.record_of.of_slot slot_done.is_slot.runs in
       let squared = ap (λ (k : ℕ). 2 * (k * k)) four in
+      let lists = lists_kept ms slot _ old.fabric new.fabric _ stable in
+      let outputs = outputs_kept ms slot _ old.fabric new.fabric _ stable in
       search (arith, rules, had.lists, had.held, lists, outputs, admitted_most)
 
   pub counts_after : length cells ≡ 64 → (n : ℕ) → CanCount (n + 64) old.refused → CanCount n new.refused

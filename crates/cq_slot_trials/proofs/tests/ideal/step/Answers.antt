@@ -1,4 +1,4 @@
-use Rattle.cq_slot_trials.proofs.Terms.{map, arith, marked_state, ideal_held, counts_fit, rules}
+use Rattle.cq_slot_trials.proofs.Terms.{map, arith, marked_state, counts_fit, rules}
 use Rattle.cq_slot_trials.proofs.Arriving.{admitted_most, count_most, refusals_most}
 use Rattle.cq_slot_trials.proofs.IdealSlots.{after_slot}
 use Rattle.cq_slot_trials.proofs.tests.ideal.step.Goals as goal
@@ -16,7 +16,6 @@ returns-clause-stepped g c =
     (λ sent is done. record {
       next = search (arith, rules);
       spare = λ j inside. let spare = done.spare j (search (arith, rules)) in search (arith, rules, admitted_most);
-      counts = λ n can.
-          let few = refusals_most c.args.ideal.now.limits (ideal_held old.state) old.marks cells sent.admission is in
-          rw done.refused (counts_fit sent.admission.refused n 64 c.args.ideal.now.refused can (omega arith));
+      counts = λ n can. rw done.refused (counts_fit sent.admission.refused n 64 c.args.ideal.now.refused can
+          (search (arith, rules, refusals_most c.args.ideal.now.limits)));
     })
