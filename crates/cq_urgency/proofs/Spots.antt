@@ -147,8 +147,7 @@ led_halved least b (c ∷ bs) (suc i) few a full = search (arith, rules, led_hal
 
 pub filled_halved : (blocks : List (List Queued)) (i : ℕ) → AreFilled blocks → length (block_at blocks i) ≡ most_cells →
     AreFilled (halved blocks i)
-filled_halved [] i f full = absurd (omega arith)
-filled_halved (b ∷ bs) i f full = search (arith, rules, led_halved)
+filled_halved blocks i f full = search (arith, rules, led_halved 1)
 
 -- ## Few blocks
 

@@ -10,8 +10,7 @@ index_mut-requires c =
 pub insert-requires-clause-room : goal.insert-requires-clause-room
 insert-requires-clause-room c =
     let w = kept c.self.invariant.0 c.self.view_is in
-    let same = read_is w c.args.block c.requires.block c.number_at-number.ensures c.index_mut.ensures.value in
-    search (arith, rules)
+    search (arith, rules, read_is w c.args.block)
 
 pub invariant_of-self : goal.invariant_of-self
 invariant_of-self c =

@@ -3,9 +3,7 @@ use Rattle.cq_urgency.proofs.Placed.{kept, in_pool, read_is, read_set, popped, e
 use Rattle.cq_urgency.proofs.blocks.Blocks.pop.Goals as goal
 
 pub index_mut-requires : goal.index_mut-requires
-index_mut-requires c =
-    let w = kept c.self.invariant.0 c.self.view_is in
-    let there = in_pool w 0 c.requires.block c.self.invariant.0.led in omega arith
+index_mut-requires c = search (arith, rules, in_pool (kept c.self.invariant.0 c.self.view_is) 0)
 
 pub invariant_of-self : goal.invariant_of-self
 invariant_of-self c =
