@@ -2,7 +2,7 @@
 -- below the cushion, since it is more urgent, ahead of the first one that is less urgent, and ahead of the end. So it
 -- stays the first, and the newcomer's output stands behind it in the list of all the cells' outputs, where a repeat
 -- is not seen.
-use Rattle.cq_prefs.proofs.Terms.{common_steps, rules, ◌≡◌, ℕ, suc, ◌<◌, cond, true, List, [], ◌∷◌, length, map, Option, Some, refl, ap, arith, insert, option_map, cases_eq, eq-eqb, ne_eqb, length-map, ext_get_or, find_at, slice_get_within, Queued, IsBefore, MoreUrgentAhead, is_for, first_for, place_for, place_of_later, place_of_arrival, with_arrival, key_laws, first_later, list_of, output_order, orders_of, first_key, key_before, slice_get-get_or, and_parts, passes_at_first}
+use Rattle.cq_prefs.proofs.Terms.{common_steps, rules, ◌≡◌, ℕ, suc, ◌<◌, true, List, [], ◌∷◌, length, map, Some, refl, arith, insert, cases_eq, eq-eqb, ne_eqb, length-map, ext_get_or, find_at, slice_get_within, Queued, IsBefore, MoreUrgentAhead, is_for, first_for, place_for, place_of_later, place_of_arrival, with_arrival, key_laws, first_later, list_of, output_order, orders_of, first_key, key_before, slice_get-get_or, and_parts, passes_at_first}
 use Rattle.cq_base.proofs.Lists.{first_le}
 use Rattle.cq_prefs.proofs.ByKey.{first_is_for}
 use Rattle.cq_prefs.proofs.Changes.{same_but_arrival}
@@ -10,9 +10,6 @@ use Rattle.std.proofs.Math.ListN.{get_or-map}
 use Rattle.cq_prefs.proofs.OneOrder.{same_orders}
 
 -- ## Where it goes in
-
-shown_here : (x : Queued) (xs : List Queued) (k : ℕ) → x.cell.output ≡ k → first_for k (x ∷ xs) ≡ Some x
-shown_here x xs k is = ap (λ b. cond b (Some x) (first_for k xs)) (eq-eqb x.cell.output k is)
 
 -- it stands ahead of the first less urgent one for its output
 first_ahead : (c f : Queued) (xs : List Queued) → first_for c.cell.output xs ≡ Some f → IsBefore f c →
@@ -40,20 +37,15 @@ module _ (c : Queued) where
       place_for c.cell.output xs < length xs → OfferAlike xs (insert xs place c)
   behind_first (x ∷ xs) (suc place) ahead inside =
       let apart = same_but_arrival (Some c.cell.output) xs (insert xs place c) place c refl refl in
-      search (arith, rules, shown_here, first_later, ne_eqb, cases_eq, x.cell.output, behind_first xs place)
+      search (arith, rules, eq-eqb, first_later, ne_eqb, cases_eq, x.cell.output, behind_first xs place)
   behind_first xs place ahead inside = absurd (omega arith)
-
-more_urgent_first : (c : Queued) (first : Option Queued) →
-    key_before (option_map (λ (q : Queued). q.key) first) (Some c.key) ≡ true →
-    (f : Queued) × (first ≡ Some f) × IsBefore f c
-more_urgent_first c first before = grind (arith, common_steps)
 
 -- a cell that comes while a more urgent one for its output waits
 pub comes_behind : (cushion : ℕ) (c : Queued) (xs : List Queued) →
     key_before (first_key c.cell.output xs) (Some c.key) ≡ true → MoreUrgentAhead cushion c xs →
     OfferAlike xs (with_arrival cushion c xs)
 comes_behind cushion c xs before ahead =
-    let first = more_urgent_first c (first_for c.cell.output xs) before in
+    let first : (f : Queued) × (first_for c.cell.output xs ≡ Some f) × IsBefore f c = grind (arith, common_steps) in
     let behind = goes_behind cushion c first.0 xs first.1 first.2 ahead in
     behind_first c xs (place_of_arrival cushion c xs) behind.0 behind.1
 

@@ -4,7 +4,7 @@
 -- What an arrival and a transfer change in the offers. A cell that goes into a list, or the first cell for an output
 -- that leaves it, changes neither the first cells for the other outputs nor the order in which these stand. So with the
 -- pair of the input and of this output taken out, the orders are as before.
-use Rattle.cq_prefs.proofs.Terms.{common_steps, rules, ◌≡◌, ◌≢◌, ℕ, zero, suc, eqb, not, cond, Bool, true, false, List, [], ◌∷◌, length, map, Option, Some, refl, sym, ap, arith, filter, insert, cond_both, cond-false, cases_eq, cases_lt, eq-eqb, ne_eqb, eqb-true, not-true, length-map, Queued, is_for, first_for, without_first, list_of, FirstKeysDiffer, without_repeats, output_order, input_order, orders_of, first_key, key_at, Partners, partner_of, without, is_partner, is_pair, AreSameWithout, kept_has, has_kept, pairs_kept, pairs_kept_with, same_pairs, eqb-false, ◌∙◌, ◌<◌, ◌≤◌, ⊎_elim, remove, IsDistinct, position_or_len, cond-true, cases_Bool, put_by, place_in, IsListed, AllByRecursion, all_of_has, Has, most_ports}
+use Rattle.cq_prefs.proofs.Terms.{common_steps, rules, ◌≡◌, ◌≢◌, ℕ, suc, eqb, not, cond, Bool, true, false, List, [], ◌∷◌, length, map, Option, Some, refl, sym, ap, arith, filter, insert, cond_both, cond-false, cases_eq, cases_lt, eq-eqb, ne_eqb, eqb-true, not-true, length-map, Queued, is_for, first_for, without_first, list_of, FirstKeysDiffer, without_repeats, output_order, input_order, orders_of, first_key, key_at, Partners, partner_of, without, is_partner, is_pair, AreSameWithout, kept_has, has_kept, pairs_kept, pairs_kept_with, same_pairs, eqb-false, ◌∙◌, ◌<◌, ◌≤◌, ⊎_elim, remove, IsDistinct, position_or_len, cond-true, cases_Bool, put_by, place_in, IsListed, AllByRecursion, all_of_has, Has, most_ports}
 use Rattle.cq_prefs.proofs.InputOrder.{before, key_at-first, is_input_order, outputs_at, inputs_at, no_inputs_past}
 use Rattle.cq_prefs.proofs.Members.{among, listed, Apart, place_head, place_next, Rises}
 use Rattle.cq_prefs.proofs.OutputOrder.{outputs}
@@ -87,9 +87,8 @@ same_tail j x xs ys e = ap (λ l. cond (not (eqb x j)) (x ∷ l) l) e
 
 come_outputs : (cells : List Queued) (place : ℕ) (c : Queued) →
     without c.cell.output (outputs cells) ≡ without c.cell.output (outputs (insert cells place c))
-come_outputs cells zero c = sym (without_here c.cell.output c.cell.output (outputs cells) refl)
-come_outputs [] (suc place) c = sym (without_here c.cell.output c.cell.output [] refl)
 come_outputs (x ∷ cells) (suc place) c = grind (arith, common_steps, same_tail, come_outputs cells place c)
+come_outputs cells place c = grind (arith, common_steps, without_here)
 
 gone_outputs : (j : ℕ) (cells : List Queued) → without j (outputs cells) ≡ without j (outputs (without_first j cells))
 gone_outputs j [] = refl
@@ -130,8 +129,7 @@ same_but_arrival p old new place c partner e = rw e (same_but p old (insert old 
 
 pub same_but_taken : (p : Option ℕ) (old new : List Queued) (j : ℕ) → p ≡ Some j → new ≡ without_first j old →
     IsSameBut p old new
-same_but_taken p old new j partner e =
-    rw e (same_but p old (without_first j old) j partner (gone_first j old) (gone_outputs j old))
+same_but_taken p old new j partner e = rw e (search (rules, same_but, gone_first, gone_outputs))
 
 -- ## The order of the inputs
 

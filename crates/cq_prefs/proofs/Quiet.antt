@@ -11,9 +11,10 @@
 -- How many proposals there are. Each event moves one input on by one place, so the events are the sum of the places. No
 -- order is longer than there are ports. Where nobody is free each input stands behind its partner, or at the end of its
 -- order, and that is what it spent.
-use Rattle.cq_prefs.proofs.Terms.{ℕ, ◌≡◌, ◌≢◌, ◌⊎◌, ◌+◌, ◌≤◌, List, length, Option, Some, None, arith, rules, cases_lt, Orders, AreOffers, outputs_of, place_of, IsOffered, Partners, partner_of, depth, IsMatching, IsStable, IsInputBest, HasBetterOutput, HasBetterInput, State, position_held, next_place, IsQuiescent, IsSound, matching_of, state_after, AreEvents, ◌<◌, [], ◌∷◌, cases_eq, position_of, start, IsFree, propose, common_steps, ◌*◌, get_or, suc, refl, range_with_len, sum, map, sum_by-set, sum_by-le, get_or_default, ext_get_or, length-map-range_with_len, get_or-map-range_with_len, ports, spent, proposals, next_output}
+use Rattle.cq_prefs.proofs.Terms.{ℕ, ◌≡◌, ◌≢◌, ◌⊎◌, ◌+◌, ◌≤◌, List, length, Option, Some, None, arith, rules, cases_lt, Orders, AreOffers, outputs_of, place_of, IsOffered, Partners, partner_of, depth, IsMatching, IsStable, IsInputBest, HasBetterOutput, HasBetterInput, State, position_held, next_place, IsQuiescent, IsSound, matching_of, state_after, AreEvents, ◌<◌, [], ◌∷◌, cases_eq, position_of, start, IsFree, propose, common_steps, ◌*◌, range_with_len, sum, map, sum_by-set, sum_by-le, get_or_default, ext_get_or, length-map-range_with_len, get_or-map-range_with_len, ports, spent, proposals}
+use Rattle.std.proofs.lemmas.List.Folds.{sum_by-replicate}
 use Rattle.cq_prefs.proofs.Places.{position_of-at, place_in-le-length, output_in_range, inputs_at_most, input_in_range, outputs_at_most}
-use Rattle.cq_prefs.proofs.Steps.{sound-after, step, held-start, next_place-start}
+use Rattle.cq_prefs.proofs.Steps.{sound-after, step, held-start}
 use Rattle.cq_prefs.proofs.Holding.{matching-of, partner-holds, partner-from}
 
 -- no output holds an input that it prefers to its partner
@@ -35,13 +36,10 @@ module _ (o : Orders) (v : AreOffers o) (s : State) (w : IsSound o s) (m : Partn
   none_passed-step : NonePassed o (propose o s i) m
   none_passed-step k j mk = let st = step o v s w i f in search (arith, rules, never_ousts, cases_eq, cases_lt)
 
-none_passed-start : (o : Orders) → AreOffers o → (m : Partners) → IsMatching o m → NonePassed o (start o) m
-none_passed-start o v m matching i j e =
-    search (arith, rules, held-start, output_in_range, inputs_at_most, v.shown, matching.offered)
-
 pub none_passed-after : (o : Orders) → AreOffers o → (events : List ℕ) → AreEvents o events → (m : Partners) →
     IsStable o m → NonePassed o (state_after o events) m
-none_passed-after o v [] es m stable = none_passed-start o v m stable.matching
+none_passed-after o v [] es m stable =
+    search (arith, rules, held-start, output_in_range, inputs_at_most, v.shown, stable.matching.offered)
 none_passed-after o v (i ∷ events) es m stable = none_passed-step o v (state_after o events)
     (sound-after o v events es.0) m stable (none_passed-after o v events es.0 m stable) i es.1
 
@@ -56,8 +54,7 @@ none_goes_past o v events es m stable i j e =
 module _ (o : Orders) (v : AreOffers o) (s : State) (w : IsSound o s) (q : IsQuiescent o s) where
   -- an input stands behind the output that holds it, or at the end of its order: there it has spent
   kept : (i : ℕ) (p : Option ℕ) → partner_of (matching_of o s) i ≡ p → next_place s i ≡ spent (outputs_of o i) p
-  kept i None e = search (arith, rules, w.within, partner-from, q, cases_lt)
-  kept i (Some j) e = search (rules, w.last, partner-holds)
+  kept i p e = search (arith, rules, w.within, partner-from, q, cases_lt, w.last, partner-holds)
 
   -- an output that is offered and is not the partner was not asked, and the partner is the better one; or it was
   -- asked, and holds a better input
@@ -69,9 +66,6 @@ module _ (o : Orders) (v : AreOffers o) (s : State) (w : IsSound o s) (q : IsQui
       let some = λ (k : ℕ). kept i (Some k) in
       search (arith, rules, w.asked_before, v.shown, partner-from, at, none, some, cases_lt)
 
-  pub stable-quiet : IsStable o (matching_of o s)
-  stable-quiet = record { matching = matching-of o v s; settled = settled }
-
   -- in a matching in which nobody was passed no input has a better partner
   no_better : (n : Partners) → IsMatching o n → NonePassed o s n → (i : ℕ) (p r : Option ℕ) →
       partner_of (matching_of o s) i ≡ p → partner_of n i ≡ r → depth (outputs_of o i) p ≤ depth (outputs_of o i) r
@@ -82,28 +76,23 @@ module _ (o : Orders) (v : AreOffers o) (s : State) (w : IsSound o s) (q : IsQui
 pub input_best-quiet : (o : Orders) → AreOffers o → (events : List ℕ) → AreEvents o events →
     IsQuiescent o (state_after o events) → IsInputBest o (matching_of o (state_after o events))
 input_best-quiet o v events es q =
+    let s = state_after o events in
     let w = sound-after o v events es in
     record {
-      stable = stable-quiet o v (state_after o events) w q;
+      stable = record { matching = matching-of o v s; settled = settled o v s w q };
       best = search (arith, rules, no_better, none_passed-after);
     }
 
 -- ## How many proposals there are
 
-sum-zeros : (xs : List ℕ) → ((i : ℕ) → get_or xs i 0 ≡ 0) → sum xs ≡ 0
-sum-zeros [] h = refl
-sum-zeros (x ∷ xs) h = let rest = sum-zeros xs (λ i. h (suc i)) in let here = h 0 in grind (arith, common_steps)
-
 -- each event moves one input on by one place
 pub sum-places : (o : Orders) → AreOffers o → (events : List ℕ) → AreEvents o events →
     sum (state_after o events).places ≡ length events
-unfolding propose
-sum-places o v [] es = sum-zeros (start o).places (next_place-start o)
+unfolding propose start
+sum-places o v [] es = grind (arith, common_steps, sum_by-replicate)
 sum-places o v (i ∷ events) es =
-    let s = state_after o events in
     let w = sound-after o v events es.0 in
-    let r = input_in_range o i (next_output o s i) (step o v s w i es.1).offered in
-    search (arith, rules, sum_by-set, sum-places o v events es.0)
+    search (arith, rules, sum_by-set, sum-places o v events es.0, input_in_range, step o v _ w i es.1)
 
 pub events_at_most : (o : Orders) → AreOffers o → (events : List ℕ) → AreEvents o events →
     length events ≤ ports o * ports o

@@ -30,8 +30,8 @@ pub in_range_of : (lists : List Waiting) (n : ℕ) → All (λ w. AreWaiting w.o
     All (λ w. w.outputs ≡ n) lists → length lists ≡ n → OutputsInRange (cells_of lists)
 in_range_of lists n waiting same size i j c found =
     let d : Waiting = record { cells = []; outputs = 0; spare = 0 } in
-    let here = cells_at lists i d in let its = waiting i d in
-    search (arith, rules, outputs_below, has_output, here, its, same i d, length-map, get_or_past, cases_lt)
+    let its = waiting i d in
+    search (arith, rules, outputs_below, has_output, cells_at, its, same i d, length-map, get_or_past, cases_lt)
 
 -- ## The orders
 
@@ -48,10 +48,9 @@ pub orders_made : (lists : List Waiting) (n : ℕ) (outputs inputs : List (List 
     outputs ≡ map (λ w. output_order w.cells) lists → Made lists n inputs → length lists ≤ n →
     let o : Orders = record { outputs = outputs; inputs = inputs } in o ≡ orders_of (cells_of lists)
 orders_made lists n outputs inputs e m end =
-    let size = length-map lists (λ (w : Waiting). w.cells) in
-    let order = map-map output_order (λ (w : Waiting). w.cells) lists in
     let long = length-map-range_with_len (input_order (cells_of lists)) 0 (length (cells_of lists)) in
-    let rows = ext_get_or [] inputs in search (arith, rules, same_orders, order, rows, m.row, get_or-map-range_with_len)
+    let rows = ext_get_or [] inputs in
+    search (arith, rules, length-map, map-map, same_orders, rows, m.row, get_or-map-range_with_len)
 
 -- ## Filters
 
@@ -148,25 +147,23 @@ module _ {m : Partners} {n j : ℕ} {outputs inputs : List (List ℕ)} {lists : 
   column_is : inputs_of (orders_of (cells_of lists)) j ≡ input_order (cells_of lists) j
   column_is = grind (arith, common_steps, length-map, x.pairs.ports, inputs_at)
 
-  column_few : length (input_order (cells_of lists) j) ≤ most_ports
-  column_few = grind (arith, common_steps, inputs_at_most (orders_of (cells_of lists)) x.offers.0 j, column_is)
-
   pub column_asks : (column : List ℕ) → column ≡ get_or inputs j column →
       IsDistinct eqb column × (without n column ≡ without n (input_order (cells_of lists) j))
       × (length (input_order (cells_of lists) j) ≤ most_ports)
-  column_asks column e = search (arith, rules, column_few, get_or_default, has_column, column_is)
+  column_asks column e =
+      let few = inputs_at_most (orders_of (cells_of lists)) x.offers.0 j in
+      search (arith, rules, few, get_or_default, has_column, column_is)
 
   -- the order that the input is to have, and what its renewal asks
   module _ (row : List ℕ) (list : Waiting) (at : list ≡ get_or lists n list) where
     row_is : outputs_of (orders_of (cells_of lists)) n ≡ output_order list.cells
     row_is = grind (arith, common_steps, outputs_at, cells_at)
 
-    row_few : length (output_order list.cells) ≤ most_ports
-    row_few = grind (arith, common_steps, outputs_at_most (orders_of (cells_of lists)) x.offers.0 n, row_is)
-
     pub row_asks : row ≡ get_or outputs n row → IsDistinct eqb row
         × (without j row ≡ without j (output_order list.cells)) × (length (output_order list.cells) ≤ most_ports)
-    row_asks e = search (arith, rules, row_few, get_or_default, has_row, row_is)
+    row_asks e =
+        let few = outputs_at_most (orders_of (cells_of lists)) x.offers.0 n in
+        search (arith, rules, few, row_is, get_or_default, has_row)
 
     pub next_renewed : (column : List ℕ) → row ≡ output_order list.cells → column ≡ input_order (cells_of lists) j →
         Renewing m (n + 1) (record { outputs = set outputs n row; inputs = set inputs j column })
