@@ -1,6 +1,6 @@
 -- What holds of each in a list, of whatever type: of its parts, of what passes a test, of images, of what is told for
 -- each number of a row. And of a list what is kept by a test, counted, found, or inserted in its images.
-use Rattle.cq_base.proofs.Terms.{common_steps, ◌≡◌, ℕ, zero, suc, ◌+◌, ◌<◌, ◌≤◌, Bool, true, false, not, cond, List, [], ◌∷◌, ◌++◌, length, map, filter, flat_map, Some, refl, ap, arith, slice_get, insert, AllByRecursion, position_or_len, range_with_len, cond_both, map-append, map-range_with_len_more, take-map, drop-map}
+use Rattle.cq_base.proofs.Terms.{common_steps, ◌≡◌, ℕ, zero, suc, ◌+◌, ◌<◌, ◌≤◌, Bool, true, false, not, cond, List, [], ◌∷◌, ◌++◌, length, map, filter, flat_map, Some, refl, ap, arith, slice_get, insert, AllByRecursion, position_or_len, range_with_len, cond_both, map-append, map-range_with_len_more, take-map, drop-map, append_assoc, take_more}
 
 module _ {X : Type 0} (P : X → Type 0) where
   pub all_both : (xs ys : List X) → AllByRecursion P xs → AllByRecursion P ys → AllByRecursion P (xs ++ ys)
@@ -85,3 +85,5 @@ pub one_there : {X : Type 0} (xs : List X) (k : ℕ) → k < length xs → (x : 
 one_there [] k inside = absurd (omega arith)
 one_there (x ∷ xs) zero inside = (x, refl)
 one_there (x ∷ xs) (suc k) inside = one_there xs k (omega arith)
+
+pub ruleset pack_steps = (map-append, append_assoc, take_more)

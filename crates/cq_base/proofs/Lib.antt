@@ -9,4 +9,3 @@ pub mod Putting
 pub mod Lists
 pub mod Places
 pub mod Supplies
-pub mod Packings

@@ -28,7 +28,7 @@ impl Model for Departures {
 }
 
 // Packs these departures, behind those that are packed.
-#[tactic(auto, using(crate::proofs::Packings::one_packed))]
+#[tactic(auto, using(crate::proofs::Each::pack_steps))]
 fn put_each(packed: &mut Room<PackedDeparture>, sent: &[Departure])
     requires { length sent.now ≤ packed.old.spare }
     ensures items { map unpacked packed.new.items ≡ map unpacked packed.old.items ++ sent.now }
