@@ -1,6 +1,6 @@
 -- Inputs that leave. The last of the free ones is taken out where it stands, since no input is free twice. And inputs
 -- that are parted one after another, from the first on, leave no pair.
-use Rattle.cq_pair.proofs.Terms.{common_steps, ◌≡◌, ℕ, zero, suc, ◌+◌, ◌-◌, ◌<◌, eqb, List, [], ◌∷◌, length, take, replicate, Some, None, arith, slice_get, IsDistinct, length-set, nil_from_length, take_more_set, same_Some, Partners, without_pair, Apart, without_here, without_there, without, Has, has_there, ap, sym, ◌∙◌, get_or, place_in, place_in-get_or, left_by, not_there}
+use Rattle.cq_pair.proofs.Terms.{common_steps, ◌≡◌, ℕ, zero, suc, ◌+◌, ◌-◌, ◌<◌, eqb, List, [], ◌∷◌, length, take, replicate, Some, None, arith, slice_get, IsDistinct, nil_from_length, same_Some, Partners, Apart, without_here, without_there, without, Has, has_there, ap, sym, ◌∙◌, get_or, place_in, place_in-get_or, left_by, not_there, length-set, take_all, take_more_set}
 use Rattle.cq_prefs.proofs.OneOrder.{apart}
 use Rattle.cq_prefs.proofs.Offering.{few_offers, offers-more, offers-same}
 
@@ -28,10 +28,8 @@ pub record ArePartedBefore (n ports : ℕ) (m : Partners) : Type 0 where
   pub size : length m ≡ ports
   pub parted : take n m ≡ replicate n None
 
-pub parted-next : (n ports : ℕ) (m : Partners) → n < ports → ArePartedBefore n ports m →
-    ArePartedBefore (n + 1) ports (without_pair m n)
-parted-next n ports m inside before = grind (arith, common_steps, length-set, take_more_set)
-
 pub ruleset fill_steps = (few_offers, offers-more, offers-same)
 
 pub ruleset leave_steps = (last_left, left_by, not_there)
+
+pub ruleset part_all_steps = (length-set, take_all, take_more_set)

@@ -1,7 +1,7 @@
 -- What is reached by proposals. At the beginning the inputs that wait are those with an offer. Whoever stands in the
 -- list of free inputs is free, and where the list is empty nobody is, so what is held is the matching best for the
 -- inputs.
-use Rattle.cq_pair.proofs.Terms.{rules, ℕ, ◌≡◌, ◌+◌, ◌*◌, ◌<◌, ◌≤◌, List, [], ◌∷◌, Option, None, length, get_or, replicate, ◌∙◌, ap, arith, common_steps, range_with_len, length-replicate, filter_passes, Orders, AreOffers, ports, IsInputBest, proposals, start, IsFree, IsQuiescent, IsSound, is_free, free_inputs, next_output, propose, matching_of, input_in_range, output_in_range, inputs_at_most, sound-start, sound-after, held-start, next_output-offered, nobody, free_if, free_only_if, matching-of, matching_of-is, events_at_most, events-quiet, Progress, IsReached, ShowsWaiting, has_number, has_kept}
+use Rattle.cq_pair.proofs.Terms.{rules, ℕ, ◌≡◌, ◌+◌, ◌*◌, ◌<◌, ◌≤◌, [], ◌∷◌, Option, None, length, get_or, replicate, ◌∙◌, ap, arith, common_steps, range_with_len, length-replicate, filter_passes, Orders, AreOffers, ports, IsInputBest, proposals, start, IsFree, IsQuiescent, IsSound, is_free, free_inputs, next_output, propose, matching_of, input_in_range, output_in_range, inputs_at_most, sound-start, sound-after, held-start, next_output-offered, nobody, free_if, free_only_if, matching-of, matching_of-is, events_at_most, events-quiet, Progress, IsReached, ShowsWaiting, has_number, has_kept}
 use Rattle.cq_prefs.proofs.Quiet.{input_best-quiet}
 use Rattle.cq_pair.proofs.Waiting.{waiting-free, waiting-first}
 
@@ -48,11 +48,6 @@ matching-start o v = matching_of-is o v (start o) (sound-start o v) (replicate (
     (length-replicate {A = Option ℕ} (ports o) None) (search (arith, rules, nobody))
     (search (arith, rules, output_in_range, v.shown_back, held-start, inputs_at_most))
 
-pub start-shown : (o : Orders) (n : ℕ) (positions places : List ℕ) → n ≡ ports o → positions ≡ replicate n n →
-    places ≡ replicate n 0 → record { positions = positions; places = places } ≡ start o
-unfolding start
-start-shown o n positions places e a b = grind (arith, common_steps)
-
 pub reached-begin : (o : Orders) → AreOffers o → (c : Progress) → c.state ≡ start o →
     c.matching ≡ replicate (ports o) None → ShowsWaiting o c → c.made ≡ 0 → IsReached o c
 reached-begin o v c state matching waiting made = grind (arith, common_steps, matching-start, waiting-free)
@@ -77,4 +72,4 @@ size_reached o c v r = ap length r.matching ∙ (matching-of o v c.state).size
 
 pub ruleset asked_steps = (inputs_at_most, next_output-offered, asked_known, free_known, places_known, sound-reached)
 
-pub ruleset begin_steps = (start-shown, reached-begin, waiting-first)
+pub ruleset begin_steps = (reached-begin, waiting-first)

@@ -1,5 +1,5 @@
 -- The words of this crate's proofs that stand elsewhere, each passed on from its place.
-pub use Rattle.cq_base.proofs.Library.{All, AllPairs, Bool, IfSome, IsDistinct, IsDistinct-from_apart, IsNonDecreasingBy, IsPartitionPoint-from_clause, IsPartitionedBy-leb, IsSome, List, None, Option, Some, [], and-true, and_left, and_right, ap, arith, cases_eq, cases_lt, common_steps, cond_both, eq-eqb, eqb, eqb-true, false, filter, filter_agree, filter_passes, get_or, get_or-range_with_len, get_or-set_other, get_or-set_same, get_or-take, is_none, le-ltb, leb, length, length-range_with_len, length-replicate, length-set, length-take-le, lt-ltb, ltb, ltb-true, mul-le-mul, ne_eqb, nil_from_length, range_with_len, refl, replicate, rules, same_Some, set, set-get_or, slice_get, subst, suc, sym, take, take-replicate, take_more_set, tests, true, zero, ℕ, ◌*◌, ◌+◌, ◌-◌, ◌<◌, ◌↔◌, ◌∙◌, ◌∷◌, ◌≡◌, ◌≢◌, ◌≤◌}
+pub use Rattle.cq_base.proofs.Library.{All, AllPairs, Bool, IfSome, IsDistinct, IsDistinct-from_apart, IsNonDecreasingBy, IsPartitionPoint-from_clause, IsPartitionedBy-leb, IsSome, List, None, Option, Some, [], and-true, and_left, and_right, ap, arith, cases_eq, cases_lt, common_steps, cond_both, eq-eqb, eqb, eqb-true, false, filter, filter_agree, filter_passes, get_or, get_or-range_with_len, get_or-set_other, get_or-set_same, get_or-take, is_none, le-ltb, leb, length, length-range_with_len, length-replicate, length-set, length-take-le, lt-ltb, ltb, ltb-true, mul-le-mul, ne_eqb, nil_from_length, range_with_len, refl, replicate, rules, same_Some, set, set-get_or, slice_get, subst, suc, sym, take, take-replicate, take_all, take_more_set, tests, true, zero, ℕ, ◌*◌, ◌+◌, ◌-◌, ◌<◌, ◌↔◌, ◌∙◌, ◌∷◌, ◌≡◌, ◌≢◌, ◌≤◌}
 pub use Rattle.cq_base.specs.Items.{Has}
 pub use Rattle.cq_base.specs.Limits.{most_ports}
 pub use Rattle.cq_prefs.proofs.ByKey.{length-put, put_is, first_at_point, le_not_lt}
@@ -11,7 +11,7 @@ pub use Rattle.cq_prefs.proofs.Places.{get_or-place_in, input_in_range, inputs_a
 pub use Rattle.cq_prefs.proofs.Changes.{IsPut, left_by, not_there, put_back, without_here, without_there}
 pub use Rattle.cq_prefs.proofs.Steps.{IsStep, held-start, next_output-offered, next_place-start, sound-after, sound-start, sound-step, step}
 pub use Rattle.cq_prefs.specs.Orders.{AreOffers, Orders, inputs_of, inputs_with_offers, outputs_of, place_in, ports, position_of}
-pub use Rattle.cq_prefs.specs.Pairing.{IsFreeInput, IsInputBest, Partners, partner_of, proposals, without_pair}
+pub use Rattle.cq_prefs.specs.Pairing.{IsFreeInput, IsInputBest, Partners, partner_of, proposals}
 pub use Rattle.cq_prefs.specs.Proposals.{Holds, IsFree, IsQuiescent, IsSound, State, holder, matching_of, next_output, next_place, outcome_of, position_held}
 unfoldable pub use Rattle.cq_prefs.specs.Proposals.{answer_of, free_inputs, is_free, propose, start}
 pub use Rattle.cq_prefs.specs.Renewal.{without}

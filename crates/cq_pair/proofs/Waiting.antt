@@ -4,7 +4,7 @@
 -- What the steps of a core do to what it shows. Its fields are what was shown; the free inputs that it shows are those
 -- that wait by the places and the pairs, and so they are after a step that takes an input out, or puts it back, as it
 -- waits.
-use Rattle.cq_pair.proofs.Terms.{common_steps, rules, ℕ, ◌≡◌, ◌≢◌, ◌<◌, ◌≤◌, Bool, true, false, is_none, eqb, List, [], ◌∷◌, length, set, get_or, replicate, Option, Some, None, refl, ap, arith, filter, IsDistinct, IsNonDecreasingBy, range_with_len, AllPairs, IsDistinct-from_apart, get_or-range_with_len, cases_lt, and-true, cases_eq, cond_both, eq-eqb, ne_eqb, lt-ltb, le-ltb, and_left, and_right, get_or-set_same, get_or-set_other, filter_agree, length-range_with_len, Orders, AreOffers, ports, outputs_of, Partners, partner_of, State, start, is_free, matching_of, free_inputs, length-put, few_kept, next_place-start, nobody, partner-is, with_input, without, inputs_with_offers, is_waiting, waiting_inputs, ltb, put_is, has_kept, has_number, ltb-true, each_pair, apart_filter, apart_range, IsPut, put_back, ◌+◌, sym, subst, next_place, Progress, ShowsWaiting, MovesOn, Parts, Takes}
+use Rattle.cq_pair.proofs.Terms.{common_steps, rules, ℕ, ◌≡◌, ◌≢◌, ◌<◌, ◌≤◌, Bool, true, false, is_none, eqb, List, [], ◌∷◌, length, set, get_or, replicate, Option, Some, None, refl, ap, arith, filter, IsDistinct, IsNonDecreasingBy, range_with_len, AllPairs, IsDistinct-from_apart, get_or-range_with_len, cases_lt, and-true, cases_eq, cond_both, eq-eqb, ne_eqb, lt-ltb, le-ltb, and_left, and_right, get_or-set_same, get_or-set_other, filter_agree, length-range_with_len, Orders, AreOffers, ports, outputs_of, Partners, partner_of, State, start, is_free, matching_of, free_inputs, length-put, few_kept, next_place-start, nobody, partner-is, with_input, without, inputs_with_offers, is_waiting, waiting_inputs, ltb, put_is, has_kept, has_number, ltb-true, each_pair, apart_filter, apart_range, IsPut, put_back, sym, subst, Progress, ShowsWaiting}
 use Rattle.std.proofs.lemmas.List.Kept.{AllPairs-from_increasing, IsStrictlyIncreasing-filter}
 
 -- ## A test that changes at one number
@@ -35,14 +35,6 @@ back_in p q i n out back same inside =
 -- ## Who waits
 
 module _ (o : Orders) (places : List ℕ) (m : Partners) where
-  -- no input waits twice
-  pub waiting_differ : IsDistinct eqb (waiting_inputs o places m)
-  waiting_differ = search (arith, rules, IsDistinct-from_apart, ne_eqb, kept_rise)
-
-  -- they wait in order of number
-  pub waiting_rise : IsNonDecreasingBy (λ k. k) (waiting_inputs o places m)
-  waiting_rise i j d le inside = grind (arith, common_steps, kept_rise (is_waiting o places m) (ports o), cases_lt i j)
-
   waits-no : (i : ℕ) → partner_of m i ≢ None → is_waiting o places m i ≡ false
   waits-no i h = search (arith, rules, and_right)
 
@@ -54,9 +46,6 @@ module _ (o : Orders) (places : List ℕ) (m : Partners) where
 
   waits-partner : (i : ℕ) (p : Option ℕ) (k : ℕ) → k ≢ i → is_waiting o places (set m i p) k ≡ is_waiting o places m k
   waits-partner i p k apart = grind (arith, common_steps, is_none, get_or-set_other)
-
-  pub few_waiting : length (waiting_inputs o places m) ≤ ports o
-  few_waiting = grind (arith, common_steps, few_kept, length-range_with_len)
 
 module _ (o : Orders) (places : List ℕ) (m : Partners) (i : ℕ) where
   -- an input goes on to place x and has an output left, or has none
@@ -85,7 +74,7 @@ module _ (o : Orders) (places : List ℕ) (m : Partners) (i : ℕ) where
     parted_back = search (arith, rules, back_in, waits-no, get_or-set_same, waits-partner, lt-ltb)
 
     pub room_back : length (waiting_inputs o places m) < ports o
-    room_back = let a = ap length parted_back in omega (arith, length-put, few_waiting)
+    room_back = grind (arith, common_steps, length-put, few_kept, length-range_with_len, ap length parted_back)
 
 -- who waits is free
 pub waiting-free : (o : Orders) → AreOffers o → (s : State) →
@@ -101,89 +90,21 @@ waiting-first o m e = grind (arith, common_steps, filter_agree, nobody, next_pla
 
 -- ## What a core shows
 
--- the fields, with other places, and one proposal more
-abbrev pub moved_on : Progress → List ℕ → List ℕ → Progress
-moved_on fields places free = record {
-  state = record { positions = fields.state.positions; places = places };
-  matching = fields.matching;
-  free = free;
-  made = fields.made + 1;
-}
-
--- with other pairs
-abbrev pub paired : Progress → List ℕ → Partners → List ℕ → Progress
-paired fields positions pairs free = record {
-  state = record { positions = positions; places = fields.state.places };
-  matching = pairs;
-  free = free;
-  made = fields.made;
-}
-
+-- its fields are what was shown
 module _ (o : Orders) (fields now : Progress) (is : fields ≡ now) (shows : ShowsWaiting o now) where
   pub waits : fields.free ≡ waiting_inputs o fields.state.places fields.matching
   waits = subst (ShowsWaiting o) (sym is) shows
 
+  -- no input waits twice
   pub free_differ : IsDistinct eqb fields.free
-  free_differ = subst (IsDistinct eqb) (sym waits) (waiting_differ o fields.state.places fields.matching)
+  free_differ = rw waits (search (arith, rules, IsDistinct-from_apart, ne_eqb, kept_rise))
 
+  -- they wait in order of number
   pub free_rise : IsNonDecreasingBy (λ k. k) fields.free
-  free_rise = subst (IsNonDecreasingBy (λ k. k)) (sym waits) (waiting_rise o fields.state.places fields.matching)
+  free_rise = rw waits (search (arith, rules, kept_rise, cases_lt))
 
-  -- ## An input goes on to its next place
+pub ruleset move_steps = (waits, free_differ, moved_out, moved_still)
 
-  module _ (i next : ℕ) (moved : List ℕ) (set_is : moved ≡ set fields.state.places i (next + 1))
-      (at : next ≡ next_place fields.state i) (inside : i < length now.state.places) where
-    moves : (free : List ℕ) → free ≡ waiting_inputs o (set fields.state.places i (next + 1)) fields.matching →
-        MovesOn o now (moved_on fields moved free) i
-    moves free waiting = grind (arith, common_steps)
+pub ruleset part_steps = (waits, room_back, parted_back, still_out)
 
-    -- one that has no output left then is out
-    pub moves_out : (free : List ℕ) → length (outputs_of o i) ≤ next + 1 → free ≡ without i fields.free →
-        MovesOn o now (moved_on fields moved free) i
-    moves_out free end out = grind (arith, common_steps, moves, waits, moved_out)
-
-    pub moves_still : next + 1 < length (outputs_of o i) →
-        MovesOn o now (moved_on fields moved fields.free) i
-    moves_still left = grind (arith, common_steps, moves, waits, moved_still)
-
-  -- ## An input is parted
-
-  module _ (i : ℕ) (known : i < ports o) (size : length now.matching ≡ ports o)
-      (partner : partner_of now.matching i ≢ None) (left : get_or fields.state.places i 0 < length (outputs_of o i))
-    where
-      inside : i < length fields.matching
-      inside = let same = ap (λ x. length x.matching) is in omega arith
-
-      had : partner_of fields.matching i ≢ None
-      had = let P : Partners → Type 0 = λ m. partner_of m i ≢ None in subst P (sym (ap (λ x. x.matching) is)) partner
-
-      pub parts_room : length fields.free < ports o
-      parts_room = grind (arith, common_steps, room_back, inside, had, waits)
-
-      pub parts_back : (pairs : Partners) (free : List ℕ) → pairs ≡ set fields.matching i None →
-          free ≡ with_input i fields.free →
-          Parts o now (paired fields fields.state.positions pairs free) i
-      parts_back pairs free part_is back = grind (arith, common_steps, waits, parted_back, inside, had)
-
-  -- one that has no output left stays out
-  pub parts_out : (i : ℕ) (pairs : Partners) → pairs ≡ set fields.matching i None →
-      length (outputs_of o i) ≤ get_or fields.state.places i 0 →
-      Parts o now (paired fields fields.state.positions pairs fields.free) i
-  parts_out i pairs part_is end = grind (arith, common_steps, waits, still_out)
-
-  -- ## An output takes an input
-
-  module _ (i j p : ℕ) (positions : List ℕ) (pairs : Partners) (set_is : positions ≡ set fields.state.positions j p)
-      (join_is : pairs ≡ set fields.matching i (Some j)) where
-    takes : (free : List ℕ) → free ≡ waiting_inputs o fields.state.places (set fields.matching i (Some j)) →
-        Takes o now (paired fields positions pairs free) i j p
-    takes free waiting = grind (arith, common_steps)
-
-    pub takes_out : (free : List ℕ) → i < length now.matching → free ≡ without i fields.free →
-        Takes o now (paired fields positions pairs free) i j p
-    takes_out free inside out = grind (arith, common_steps, takes, waits, joined_out)
-
-    -- one that has no output left is out already
-    pub takes_still : length (outputs_of o i) ≤ get_or fields.state.places i 0 →
-        Takes o now (paired fields positions pairs fields.free) i j p
-    takes_still end = grind (arith, common_steps, takes, waits, still_out)
+pub ruleset take_steps = (waits, free_differ, joined_out, still_out)

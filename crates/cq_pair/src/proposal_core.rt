@@ -71,7 +71,7 @@ fn position_ahead(order: &[Port], input: Port, held: u16) -> Option<u16>
 }
 
 // No pair is left, over so many ports. Pairs of as many ports are parted where they stand.
-#[tactic(auto, using(std::proofs::lemmas::List::take_all))]
+#[tactic(auto, using(crate::proofs::Leaving::part_all_steps))]
 fn part_all(matching: &mut Matching, ports: u16)
     requires { ports ≤ most_ports }
     ensures { matching.new ≡ replicate ports None }
@@ -112,7 +112,7 @@ impl Core {
 
     /// Begins anew for these offers, in place of whatever stands here: no output holds an input, and no proposal was
     /// made.
-    #[tactic(auto, using(crate::proofs::Reached::begin_steps))]
+    #[tactic(auto, using(crate::proofs::Reached::begin_steps), unfolding(cq_prefs::specs::Proposals::start))]
     pub fn begin_again(&mut self, offers: &Offers)
         ensures reached { IsReached offers.now self.new }
         ensures state { self.new.state ≡ start offers.now }
@@ -219,6 +219,7 @@ impl Core {
     }
 
     // An input goes on to its next place.
+    #[tactic(auto, using(crate::proofs::Waiting::move_steps))]
     fn move_on(&mut self, offers: &Offers, input: Port)
         requires input { input < length self.old.state.places }
         requires known { input < ports offers.now }
@@ -237,6 +238,7 @@ impl Core {
     }
 
     // An input is parted from its partner, and is free if it has an output left.
+    #[tactic(auto, using(crate::proofs::Waiting::part_steps))]
     fn part(&mut self, offers: &Offers, input: Port)
         requires input { input < length self.old.state.places }
         requires known { input < ports offers.now }
@@ -254,7 +256,7 @@ impl Core {
     }
 
     // An output takes an input that has this position there.
-    #[tactic(auto, using(crate::proofs::Waiting::takes_still))]
+    #[tactic(auto, using(crate::proofs::Waiting::take_steps))]
     fn take(&mut self, offers: &Offers, input: Port, output: Port, position: u16)
         requires { CanTake offers.now self.old input output }
         ensures { Takes offers.now self.old self.new input output position }
