@@ -1,6 +1,5 @@
--- No output is in two pairs: where there is no pair, where an output that is in none is joined to an input, and where
--- an input is parted from its partner.
-use Rattle.cq_prefs.proofs.Terms.{common_steps, rules, ℕ, ◌≡◌, ◌<◌, length, replicate, None, arith, cases_eq, cases_lt, same_Some, length-set, length-replicate, get_or-replicate, get_or_past, get_or-set_same, get_or-set_other, Partners, partner_of, with_pair, without_pair, ArePairs, IsFreeOutput}
+-- No output is in two pairs: where there is no pair, and where an output that is in none is joined to an input.
+use Rattle.cq_prefs.proofs.Terms.{common_steps, rules, ℕ, ◌≡◌, ◌<◌, length, replicate, None, arith, cases_eq, cases_lt, same_Some, length-set, length-replicate, get_or-replicate, get_or_past, get_or-set_same, get_or-set_other, Partners, partner_of, with_pair, ArePairs, IsFreeOutput}
 
 pub nobody : (n i : ℕ) → partner_of (replicate n None) i ≡ None
 nobody n i = grind (arith, common_steps, get_or-replicate, get_or_past, length-replicate, cases_lt)
@@ -12,6 +11,3 @@ pub joined_pairs : (m : Partners) (input output : ℕ) → ArePairs m → input 
     IsFreeOutput m output → ArePairs (with_pair m input output)
 joined_pairs m input output p l inside free =
     search (arith, rules, length-set, same_Some, cases_eq, get_or-set_same, get_or-set_other)
-
-pub parted_pairs : (m : Partners) (input : ℕ) → ArePairs m → input < length m → ArePairs (without_pair m input)
-parted_pairs m input p l = search (arith, rules, length-set, get_or-set_same, get_or-set_other, cases_eq)

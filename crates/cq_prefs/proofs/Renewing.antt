@@ -8,7 +8,7 @@
 -- is renewed.
 -- One order that is known but for one port, which left it. Where there is no cell, what is left is the whole order.
 -- Where there is one, the port goes back in at the place that its first cell tells.
-use Rattle.cq_prefs.proofs.Terms.{common_steps, rules, ◌≡◌, ◌≢◌, ℕ, ◌+◌, ◌<◌, ◌≤◌, eqb, Bool, true, false, List, [], ◌∷◌, length, get_or, set, Option, Some, None, refl, sym, ◌∙◌, arith, not, replicate, map, filter, All, IsDistinct, cond-true, cases_Bool, cases_eq, cases_lt, eq-eqb, ne_eqb, eqb-true, length-map-range_with_len, get_or-map-range_with_len, length-map, length-set, get_or_past, get_or_default, get_or-set_same, get_or-set_other, ext_get_or, length-replicate, Queued, Waiting, cells_of, AreWaiting, list_of, output_order, input_order, orders_of, HasCellFor, FirstKeysDiffer, Orders, AreOffers, ports, outputs_of, inputs_of, Partners, partner_of, ArePairs, with_pair, without, is_partner, is_pair, AreSameWithout, first_for, first_key, kept_has, Has, has_kept, most_ports}
+use Rattle.cq_prefs.proofs.Terms.{common_steps, rules, ◌≡◌, ◌≢◌, ℕ, ◌+◌, ◌<◌, ◌≤◌, eqb, Bool, true, false, List, [], ◌∷◌, length, get_or, set, Option, Some, None, refl, sym, ◌∙◌, arith, not, replicate, map, filter, All, IsDistinct, cond-true, cases_Bool, cases_eq, cases_lt, eq-eqb, ne_eqb, eqb-true, length-map-range_with_len, get_or-map-range_with_len, length-map, length-set, get_or_past, get_or_default, get_or-set_same, get_or-set_other, ext_get_or, length-replicate, Queued, Waiting, cells_of, AreWaiting, list_of, output_order, input_order, orders_of, HasCellFor, FirstKeysDiffer, Orders, AreOffers, ports, outputs_of, inputs_of, Partners, partner_of, ArePairs, with_pair, without, is_partner, is_pair, AreSameWithout, first_key, kept_has, Has, has_kept, most_ports}
 use Rattle.std.proofs.lemmas.List.{get_or-map}
 use Rattle.std.proofs.lemmas.Simd.{map-map}
 use Rattle.cq_prefs.proofs.InputOrder.{OutputsInRange, before, outputs_at, inputs_at, are_offers, is_input_order}
@@ -39,10 +39,6 @@ in_range_of lists n waiting same size i j c found =
 pub record Made (lists : List Waiting) (n : ℕ) (rows : List (List ℕ)) : Type 0 where
   pub size : length rows ≡ length lists
   pub row : (j : ℕ) → j < n → get_or rows j [] ≡ input_order (cells_of lists) j
-
-pub made_more : (lists : List Waiting) (n : ℕ) (rows : List (List ℕ)) (row : List ℕ) → Made lists n rows →
-    n < length lists → row ≡ input_order (cells_of lists) n → Made lists (n + 1) (set rows n row)
-made_more lists n rows row m l e = search (rules, length-set, get_or-set_same, get_or-set_other, m.row, cases_eq)
 
 pub orders_made : (lists : List Waiting) (n : ℕ) (outputs inputs : List (List ℕ)) →
     outputs ≡ map (λ w. output_order w.cells) lists → Made lists n inputs → length lists ≤ n →
@@ -210,9 +206,8 @@ output_put cells = search (rules, is_output_order cells, ahead_one_way, outputs_
 pub output_there : (cells : List Queued) (j : ℕ) → HasCellFor cells j → Has (output_order cells) j
 output_there cells j has = among (output_order cells) j (((is_output_order cells).offered j).1 has)
 
-pub output_gone : (cells : List Queued) (j : ℕ) → first_for j cells ≡ None → Has (output_order cells) j → ⊥
-output_gone cells j none m = search (arith, rules, is_output_order cells, listed)
-
 pub input_put : (lists : List (List Queued)) (j : ℕ) → FirstKeysDiffer lists →
     IsPut (before (map (first_key j) lists)) (input_order lists j)
 input_put lists j differ = search (rules, is_input_order, before_one_way, inputs_rise)
+
+pub ruleset fill_steps = (length-set, get_or-set_same, get_or-set_other, cases_eq)

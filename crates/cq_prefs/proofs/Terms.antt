@@ -12,7 +12,7 @@ pub use Rattle.cq_prefs.specs.FirstCells.{AreOrdersOf, FirstKeysDiffer, HasCellF
 pub use Rattle.cq_prefs.specs.Orders.{AreOffers, IsListed, IsOffered, Orders, has_offer, inputs_of, inputs_with_offers, no_offers, outputs_of, place_of, ports, position_of}
 unfoldable pub use Rattle.cq_prefs.specs.Orders.{place_in}
 pub use Rattle.cq_prefs.specs.Padded.{IsPadded, length_shown}
-pub use Rattle.cq_prefs.specs.Pairing.{ArePairs, HasBetterInput, HasBetterOutput, IsFreeOutput, IsInputBest, IsMatching, IsStable, Partners, depth, partner_of, proposals, spent, with_pair, without_pair}
+pub use Rattle.cq_prefs.specs.Pairing.{ArePairs, HasBetterInput, HasBetterOutput, IsFreeOutput, IsInputBest, IsMatching, IsStable, Partners, depth, partner_of, proposals, spent, with_pair}
 pub use Rattle.cq_prefs.specs.Proposals.{AreEvents, Holds, IsFree, IsQuiescent, IsSound, State, holder, holds, next_output, next_place, position_held, state_after}
 unfoldable pub use Rattle.cq_prefs.specs.Proposals.{is_free, keeper, matching_of, propose, start}
 pub use Rattle.cq_prefs.specs.Renewal.{AreSameWithout, is_pair, is_partner, without}

@@ -85,7 +85,7 @@ impl Offers {
     /// in the order of its first cells for them, an output prefers the inputs by the keys of these cells.
     ///
     /// It takes no memory.
-    #[tactic(auto, using(crate::proofs::Renewing::made_more))]
+    #[tactic(auto, using(crate::proofs::Renewing::fill_steps))]
     pub fn fill(&mut self, lists: &[InputList])
         requires lists { length lists.now ≡ ports self.old }
         requires outputs { All (λ list. list.outputs ≡ ports self.old) lists.now }

@@ -1,6 +1,8 @@
+use Rattle.cq_prefs.proofs.OutputOrder.{is_output_order}
+use Rattle.cq_prefs.proofs.Members.{listed}
 use Rattle.cq_prefs.proofs.Terms.{arith, rules, ◌∙◌, sym, ap, position_or_len, taken_none}
 use Rattle.cq_prefs.proofs.Changes.{none_back, put_back, room_back}
-use Rattle.cq_prefs.proofs.Renewing.{output_gone, output_put, output_there}
+use Rattle.cq_prefs.proofs.Renewing.{output_put, output_there}
 use Rattle.cq_prefs.proofs.ByKey.{found_place, output_parts}
 use Rattle.cq_prefs.proofs.renewal.renew_outputs.Goals as goal
 
@@ -22,4 +24,4 @@ returns-in-Some c =
 pub returns-in_default : goal.returns-in_default
 returns-in_default c =
     none_back (output_put _) c.args.output (c.leave.ensures ∙ c.requires.others)
-    (search (arith, rules, taken_none, output_gone))
+    (search (arith, rules, taken_none, is_output_order c.args.list.now.cells, listed))
