@@ -1,8 +1,7 @@
 -- How a number is written digit by digit. A number below ten is one digit. Any other is the number without its last
 -- digit, and then that digit, so it is one digit longer. A number below 2 ^ 128 is below 10 ^ 39, so it has at most 39
--- digits. A digit that is written right behind those at the front leaves what comes after it as it was, and one that is
--- written right before those that stand there leaves one less to write.
-use Rattle.cq_base.proofs.Terms.{rules, ◌≡◌, ℕ, ◌+◌, ◌*◌, ◌<◌, ◌≤◌, ◌/◌, ◌%◌, ◌^◌, List, [], ◌∷◌, ◌++◌, length, map, ap, arith, lit≤, zero, suc, set, drop, length-append, append_assoc, common_steps, digits_of, digits_of_step, length-digits_of-le, map-append, length-map, one-le-pow, drop-set_at, drop-set, drop_more, set_at}
+-- digits. A digit that is written right behind those at the front leaves what comes after it as it was.
+use Rattle.cq_base.proofs.Terms.{rules, ◌≡◌, ℕ, ◌+◌, ◌*◌, ◌<◌, ◌≤◌, ◌/◌, ◌%◌, ◌^◌, List, [], ◌∷◌, ◌++◌, length, map, ap, arith, lit≤, zero, suc, set, drop, length-append, append_assoc, common_steps, digits_of, digits_of_step, length-digits_of-le, map-append, length-map, one-le-pow, drop_more, set_at}
 use Rattle.cq_base.specs.Decimal.{decimal}
 
 pub decimal_above : (n : ℕ) → 0 < n → decimal n ≡ map (λ d. 48 + d) (digits_of 10 n)
@@ -37,17 +36,6 @@ pub length-decimal_from : (tens n : ℕ) → 10 ^ tens ≤ n → n < 10 * 10 ^ t
 length-decimal_from zero n from below = length-decimal_small n (omega arith)
 length-decimal_from (suc tens) n from below =
     grind (arith, common_steps, one-le-pow tens 10, length-decimal_more n, length-decimal_from tens)
-
--- the number of which one digit is left gets its first one
-pub last_digit : (n end : ℕ) (to all : List ℕ) → n < 10 → 0 < length to → length (decimal n) ≡ end →
-    decimal n ++ drop end to ≡ all → set to 0 (48 + n) ≡ all
-last_digit n end to all h room is had = grind (arith, common_steps, drop-set_at, decimal_small n h)
-
--- a digit that is written right before those that stand there: one less is left
-pub one_digit_less : (n at end : ℕ) (to all : List ℕ) → 10 ≤ n → end ≡ at + 1 → at < length to →
-    decimal n ++ drop end to ≡ all → decimal (n / 10) ++ drop at (set to at (48 + n % 10)) ≡ all
-one_digit_less n at end to all more e room had =
-    search (arith, rules, drop-set to at (48 + n % 10) room, append_assoc, decimal_more n more, had)
 
 -- the digits after the last one was written behind the others
 pub one_more_digit : (n count : ℕ) (to mid : List ℕ) → 10 ≤ n → count ≡ length (decimal (n / 10)) →
