@@ -10,7 +10,7 @@ use Rattle.std.proofs.lemmas.List.Kept.{AllPairs-from_increasing, IsStrictlyIncr
 -- ## A test that changes at one number
 
 -- it fails at i, and is as before elsewhere
-left_out : (p q : ℕ → Bool) (i : ℕ) → q i ≡ false → ((k : ℕ) → k ≢ i → q k ≡ p k) → (xs : List ℕ) →
+pub left_out : (p q : ℕ → Bool) (i : ℕ) → q i ≡ false → ((k : ℕ) → k ≢ i → q k ≡ p k) → (xs : List ℕ) →
     filter q xs ≡ without i (filter p xs)
 left_out p q i out same [] = refl
 left_out p q i out same (x ∷ xs) =
@@ -38,34 +38,21 @@ module _ (o : Orders) (places : List ℕ) (m : Partners) where
   waits-no : (i : ℕ) → partner_of m i ≢ None → is_waiting o places m i ≡ false
   waits-no i h = search (arith, rules, and_right)
 
-  waits-done : (i : ℕ) → length (outputs_of o i) ≤ get_or places i 0 → is_waiting o places m i ≡ false
+  pub waits-done : (i : ℕ) → length (outputs_of o i) ≤ get_or places i 0 → is_waiting o places m i ≡ false
   waits-done i l = and_left _ _ (le-ltb _ _ l)
 
-  waits-place : (i x k : ℕ) → k ≢ i → is_waiting o (set places i x) m k ≡ is_waiting o places m k
+  pub waits-place : (i x k : ℕ) → k ≢ i → is_waiting o (set places i x) m k ≡ is_waiting o places m k
   waits-place i x k apart = grind (arith, common_steps, is_none, get_or-set_other)
 
-  waits-partner : (i : ℕ) (p : Option ℕ) (k : ℕ) → k ≢ i → is_waiting o places (set m i p) k ≡ is_waiting o places m k
+  pub waits-partner : (i : ℕ) (p : Option ℕ) (k : ℕ) → k ≢ i →
+      is_waiting o places (set m i p) k ≡ is_waiting o places m k
   waits-partner i p k apart = grind (arith, common_steps, is_none, get_or-set_other)
 
 module _ (o : Orders) (places : List ℕ) (m : Partners) (i : ℕ) where
-  -- an input goes on to place x and has an output left, or has none
-  pub moved_still : (x : ℕ) → i < length places → get_or places i 0 < length (outputs_of o i) →
-      x < length (outputs_of o i) → waiting_inputs o places m ≡ waiting_inputs o (set places i x) m
-  moved_still x inside before now = search (arith, rules, filter_agree, waits-place, cases_eq, lt-ltb, get_or-set_same)
-
-  pub moved_out : (x : ℕ) → i < length places → length (outputs_of o i) ≤ x →
-      without i (waiting_inputs o places m) ≡ waiting_inputs o (set places i x) m
-  moved_out x inside end = grind (arith, common_steps, left_out, waits-done, get_or-set_same, waits-place)
-
   -- an input gets a partner
   pub joined_out : (j : ℕ) → i < length m →
       without i (waiting_inputs o places m) ≡ waiting_inputs o places (set m i (Some j))
   joined_out j inside = grind (arith, common_steps, left_out, waits-no, get_or-set_same, waits-partner)
-
-  -- an input that has no output left waits with no partner, and with none that it gets
-  pub still_out : (p : Option ℕ) → length (outputs_of o i) ≤ get_or places i 0 →
-      waiting_inputs o places m ≡ waiting_inputs o places (set m i p)
-  still_out p end = grind (arith, common_steps, filter_agree, waits-done, waits-partner, cases_eq)
 
   -- an input is parted, and has an output left: it goes back in, and there is room for it
   module _ (known : i < ports o) (inside : i < length m) (had : partner_of m i ≢ None)
@@ -103,8 +90,9 @@ module _ (o : Orders) (fields now : Progress) (is : fields ≡ now) (shows : Sho
   pub free_rise : IsNonDecreasingBy (λ k. k) fields.free
   free_rise = rw waits (search (arith, rules, kept_rise, cases_lt))
 
-pub ruleset move_steps = (waits, free_differ, moved_out, moved_still)
+pub ruleset move_steps =
+    (waits, free_differ, filter_agree, left_out, waits-done, waits-place, get_or-set_same, cases_eq, lt-ltb)
 
-pub ruleset part_steps = (waits, room_back, parted_back, still_out)
+pub ruleset part_steps = (waits, room_back, parted_back, filter_agree, waits-done, waits-partner, cases_eq)
 
-pub ruleset take_steps = (waits, free_differ, joined_out, still_out)
+pub ruleset take_steps = (waits, free_differ, joined_out, filter_agree, waits-done, waits-partner, cases_eq)
