@@ -5,7 +5,7 @@
 -- A seat keeps the numbers of its view through each kind of step, and a call on a ledger finds there what it was
 -- promised of the seat.
 use Rattle.cq_ledger.proofs.Terms.{rules, ℕ, suc, ◌≡◌, ◌≢◌, ◌*◌, ◌<◌, ◌≤◌, ◌^◌, min, List, get_or, set, Some, None, arith, bit_or, common_steps, none, cases_eq, get_or-le-sum_by, set_here, set_else, set_again, Orders, ports, position_of, IsOffered, state_after, events_at_most, output_in_range, sound-after, next_output-offered, View, Seated, Ruled, proposal, IsClaim, claim, look, IsLedger, output_at, words_proposed, proposed, words_claimed, claim_taken, claim_refused, blank, joined, spent, Sits, bit, claim_word, ◌++◌, [], ◌∷◌, refl, sym, ◌∙◌, ap, set-get_or, AreOffers, State, next_place, start, core_state, first_words, IsClaimed, IsUnclaimed, most_ports, ◌+◌, Option, Outcome, IsProposal, hand_at, hand_after, answer_of, HasClaimed}
-use Rattle.atomic_table.specs.Table.{step, Allows, Splits, Joins}
+use Rattle.atomic_table.specs.Table.{step, Allows}
 use Rattle.cq_ledger.proofs.Proposing.{propose-keeps, claim-keeps, refuse-keeps}
 use Rattle.cq_ledger.proofs.Seats.{split-keeps, join-keeps, start-keeps, longer-keeps, half_of}
 use Rattle.cq_ledger.proofs.Views.{bits, one_power, at_known, dealt}
@@ -88,8 +88,7 @@ pub proposal-keeps : (o : Orders) (words : List ℕ) (views : List View) (k : Is
     (v : View) → Sits views id v → v.hand ≡ Some (i, p) → v.offers ≡ o →
     IsLedger o (words_proposed o words i p) (set views id (proposed v i p (get_or words (suc (output_at o i p)) 0)))
 proposal-keeps o words views k id i p v at h e =
-    let here = k.hands.place id i p v at h in
-    rw (← here) (propose-keeps o words views k id i v at e (rw here h))
+    let here = k.hands.place id i p v at h in search (rules, propose-keeps)
 
 -- at an output, a position and a word that were computed
 pub proposal-allowed : (key o : Orders) → key ≡ o → (slots id i p : ℕ) (me : Seated) → me.0.hand ≡ Some (i, p) →
@@ -130,14 +129,6 @@ module _ (o : Orders) (slots id i : ℕ) (me : Seated) (r : i < ports o) (empty 
   -- by the bit that is found
   pub claim-may : (v : View) × May v
   claim-may = search (arith, rules, bits.small, may_take, may_not, cases_eq)
-
-pub split-allowed : (o : Orders) (id : ℕ) (v : View) → Splits (Ruled o) id v v (blank v.offers)
-split-allowed o id v s k at = split-keeps o s.words s.views k id v at
-
-pub join-allowed : (key offers : Orders) → key ≡ offers → (id : ℕ) (v : View) (gone : ℕ) (w : View) →
-    v.hand ≡ None → w.hand ≡ None → v.offers ≡ offers → Joins (Ruled key) id v gone w (joined v w) spent
-join-allowed key offers same id v gone w empty empty_gone same_offers s k at apart at_gone =
-    grind (arith, common_steps, join-keeps, set_else)
 
 pub claim-allowed-at : (key offers : Orders) → key ≡ offers → (slots id i : ℕ) (me : Seated) → i < ports offers →
     me.0.hand ≡ None → me.0.offers ≡ offers → (m : ℕ) → m ≡ 2 ^ i →
@@ -185,7 +176,7 @@ pub all_claimed : (l : LedgerState) (s : SeatState) (table : TableId) (offers : 
     (i : ℕ) → i < ports offers → HasClaimed view i
 all_claimed l s table offers mine view m all i h = grind (arith, common_steps)
 
-pub ruleset seat_steps = (matched, join-allowed, split-allowed)
+pub ruleset seat_steps = (matched, join-keeps, set_else, split-keeps)
 
 pub ruleset keep_steps = (proposal-keeps, claim-keeps, refused-keeps, split-keeps, join-keeps)
 

@@ -1,6 +1,6 @@
 -- What one proposal does to the hand that made it, and to the free inputs: who is free after it is in the new hand, or
 -- was free before.
-use Rattle.cq_ledger.proofs.Terms.{common_steps, rules, ℕ, ◌≡◌, ◌≢◌, ◌⊎◌, ◌+◌, ◌<◌, ◌≤◌, length, get_or, Option, Some, None, refl, ap, arith, ⊎_elim, cases_lt, cases_eq, ltb-true, lt-ltb, le-ltb, eq-eqb, ne_eqb, Orders, AreOffers, ports, outputs_of, inputs_of, place_of, position_of, IsStep, step, State, position_held, next_place, Holds, IsFree, next_output, propose, holder, IsSound, Outcome, hand_at, hand_after, output_at, answer_of, get_or-place_in, same_at_place, output_in_range, holder-holds, inputs_at_most, outputs_at_most, place_in-le-length}
+use Rattle.cq_ledger.proofs.Terms.{common_steps, rules, ℕ, ◌≡◌, ◌≢◌, ◌⊎◌, ◌+◌, ◌<◌, ◌≤◌, length, get_or, Option, Some, None, refl, arith, ⊎_elim, cases_lt, cases_eq, ltb-true, lt-ltb, le-ltb, eq-eqb, ne_eqb, Orders, AreOffers, ports, outputs_of, inputs_of, place_of, position_of, IsStep, step, State, position_held, next_place, Holds, IsFree, next_output, propose, holder, IsSound, Outcome, hand_at, hand_after, output_at, answer_of, get_or-place_in, same_at_place, output_in_range, holder-holds, inputs_at_most, outputs_at_most, place_in-le-length}
 
 pub hand_at-shows : (o : Orders) (k p i q : ℕ) → hand_at o k p ≡ Some (i, q) →
     (k ≡ i) × (p ≡ q) × (p < length (outputs_of o k))
@@ -59,9 +59,7 @@ module _ (o : Orders) (v : AreOffers o) (s : State) (w : IsSound o s) (i : ℕ) 
   -- the one that is displaced is free now, at the place after this output
   pub displaced_free : (k : ℕ) → Holds o s j k → position_of o j i < position_held s j →
       place_of o k j + 1 < length (outputs_of o k) → (IsFree o t k) × (next_place t k ≡ place_of o k j + 1) × (k ≢ i)
-  displaced_free k h l left =
-      let apart : k ≢ i = λ e. let x = ap (λ n. position_of o j n) e in absurd (omega arith) in
-      search (arith, rules, st.held_asked, st.others_stay, w.last, unheld_now, same_at_place)
+  displaced_free k h l left = search (arith, rules, st.held_asked, st.others_stay, w.last, unheld_now, same_at_place)
 
   -- the one that is refused is free still
   pub refused_free : position_held s j ≤ position_of o j i → next_place s i + 1 < length (outputs_of o i) →

@@ -31,11 +31,9 @@ join-requires c =
 pub loop-output-preserved : goal.loop-output-preserved
 loop-output-preserved c = λ s w shows.
     let is = word (goal.at.loop-output-preserved c).After-word-word s w shows in
-    let r = c.loop-output.invariant s w shows in
-    let v = c.ports-ports.ensures.offers in
     elim c.if-word-ports.branch [
-      | then-word-ports b ↦ search (arith, rules, word_joins _ _ _ _ _ is)
-      | else-word-ports b ↦ search (arith, rules, word_skips _ _ _ _ _ is)
+      | then-word-ports b ↦ search (arith, rules, word_joins _ _ _ _ _ is, c.loop-output.invariant)
+      | else-word-ports b ↦ search (arith, rules, word_skips _ _ _ _ _ is, c.loop-output.invariant)
     ]
 
 pub returns : goal.returns
