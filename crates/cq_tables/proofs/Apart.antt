@@ -1,5 +1,5 @@
 -- The names of files, port by port.
-use Rattle.cq_tables.proofs.Terms.{common_steps, ◌≡◌, ℕ, suc, ◌+◌, ◌<◌, ◌≤◌, Bool, true, false, not, ◌||◌, List, [], ◌∷◌, ◌++◌, length, get_or, take, drop, Some, None, Result, IfErr, codes, refl, ap, ◌∙◌, arith, add-one, append_assoc, append-nil, or-false, drop-cons, list_any, list_any-append, bytes_eq, Tables, DuplicateFile, TableRefusal, Ports, Element, Check, Refuses, at, first, otherwise, refused, unless, path, Named, apart_from, clash, file_check, files_of, names_of}
+use Rattle.cq_tables.proofs.Terms.{common_steps, ◌≡◌, ℕ, suc, ◌+◌, ◌<◌, Bool, true, false, not, ◌||◌, List, [], ◌∷◌, ◌++◌, length, get_or, take, drop, Some, None, Result, IfErr, codes, refl, ap, ◌∙◌, arith, add-one, append_assoc, append-nil, or-false, drop-cons, list_any, list_any-append, bytes_eq, Tables, DuplicateFile, TableRefusal, Ports, Element, Check, Refuses, at, first, otherwise, refused, unless, path, Named, apart_from, clash, file_check, files_of, names_of, ◌≤◌}
 use Rattle.cq_route.specs.declared.tables.PortRow.{PortRow}
 use Rattle.cq_tables.specs.Files.{files_before, is_named, read_clashes, write_clashes}
 use Rattle.cq_tables.proofs.Checks.{first-append, here_in, first_none}
@@ -76,24 +76,10 @@ checked_among : (t : Tables) (i : ℕ) (row : PortRow) (before : List Named) →
 unfolding first
 checked_among t i row before asked = grind (arith, common_steps, list_any-append, asked)
 
-port_checked : (t : Tables) (i : ℕ) (row : PortRow) →
+pub port_checked : (t : Tables) (i : ℕ) (row : PortRow) →
     first (apart_from (files_before t i) (names_of i row))
     ≡ port_checks i (read_clashes t i row) (write_clashes t i row)
 port_checked t i row = checked_among t i row (files_before t i) (taken t i)
-
-pub port_read : (t : Tables) (i : ℕ) (row : PortRow) (r : TableRefusal) → read_clashes t i row ≡ true →
-    Refuses (Some (refused (path (Element Ports i) (codes "read")) DuplicateFile)) r →
-    Refuses (first (apart_from (files_before t i) (names_of i row))) r
-port_read t i row r clashes told = rw (port_checked t i row) (rw clashes told)
-
-pub port_write : (t : Tables) (i : ℕ) (row : PortRow) (r : TableRefusal) → read_clashes t i row ≡ false →
-    write_clashes t i row ≡ true → Refuses (Some (refused (path (Element Ports i) (codes "write")) DuplicateFile)) r
-    → Refuses (first (apart_from (files_before t i) (names_of i row))) r
-port_write t i row r free clashes told = rw (port_checked t i row) (rw (free, clashes) told)
-
-pub port_apart : (t : Tables) (i : ℕ) (row : PortRow) → read_clashes t i row ≡ false → write_clashes t i row ≡ false →
-    first (apart_from (files_before t i) (names_of i row)) ≡ None
-port_apart t i row read write = port_checked t i row ∙ rw (read, write)
 
 -- ---- the log
 
@@ -102,5 +88,4 @@ pub log_clashes : (t : Tables) (r : TableRefusal) → bytes_eq t.log t.trace ≡
 unfolding first
 log_clashes t r clashes told = rw clashes told
 
-pub ruleset differ_steps =
-    (apart_all, apart_first, apart_next, apart_stops, log_clashes, port_apart, port_read, port_write)
+pub ruleset differ_steps = (apart_all, apart_first, apart_next, apart_stops, log_clashes, port_checked)

@@ -1,5 +1,5 @@
 -- What values are seen as.
-use Rattle.cq_tables.proofs.Terms.{rules, arith, ◌≡◌, ℕ, Bool, true, ◌&&◌, nat_lt, ◌≤◌, IfSome, Option, List, [], ◌∷◌, length, map, Some, Result, refl, ap, common_steps, result_ok, and_parts, cases_Bool, leb-true, ltb-true, IsInRange, all_ascii_digits, is_ascii_digit, list_all, digits_value, ParsesUnsigned, IsNumeralModel, numerals_by_value, tells_all_ascii_digits, parse_digits, Data, as_array, view, items_of, items_view, Value, OutOfRange, unless, listed, array_of, elements, is_from, written, not, option_map, String, Bor, Less, string_bytes, nat_list_cmp_total, find, AllByRecursion, list_any, IsStrictlySortedBy, keys_of, bytes_eq, string_cmp, members_view, Entry, is_among, least_unknown, lesser}
+use Rattle.cq_tables.proofs.Terms.{rules, arith, ◌≡◌, ℕ, Bool, true, ◌&&◌, nat_lt, ◌≤◌, IfSome, Option, List, [], ◌∷◌, length, map, Some, Result, refl, ap, common_steps, result_ok, and_parts, cases_Bool, leb-true, ltb-true, IsInRange, all_ascii_digits, is_ascii_digit, list_all, digits_value, ParsesUnsigned, IsNumeralModel, numerals_by_value, tells_all_ascii_digits, parse_digits, Data, as_array, view, items_of, items_view, Value, OutOfRange, unless, listed, array_of, elements, is_from, written, not, option_map, String, Bor, Less, string_bytes, nat_list_cmp_total, find, AllByRecursion, list_any, IsStrictlySortedBy, keys_of, bytes_eq, string_cmp, members_view, Entry, is_among, least_unknown, lesser, nat_tests}
 use Rattle.std.proofs.Common.{Global}
 
 pub listed_items : (ds : List Data) → listed (items_of ds) ≡ ds
@@ -66,3 +66,5 @@ module _ (names : List (Bor (List ℕ))) where
   least_is_first (e ∷ es) h =
       let first = lesser_first e.0 (keys_of es) h.0 in
       grind (arith, common_steps, among_behind names (string_bytes e.0), least_is_first es h.1)
+
+pub ruleset elements_steps = (nat_tests, array_view_in, array_view_elements)

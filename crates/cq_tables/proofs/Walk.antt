@@ -125,9 +125,6 @@ same_at : (ports i : ℕ) (vs : List Value) (d : Data) (known : List (List ℕ))
     → element_check Addresses (λ _. address_keys ports known) i d ≡ address_check ports vs i d
 same_at ports i vs d known rows w = search (arith, rules, take_macs, mac_same)
 
-pub apart_none : (ports : ℕ) (vs : List Value) → Walked_apart ports vs 0 [] []
-apart_none ports vs = grind (arith, common_steps, walked_none)
-
 module _ {ports : ℕ} {vs : List Value} {i : ℕ} {known : List (List ℕ)} {rows : List AddressRow}
     (w : Walked_apart ports vs i known rows) where
   pub apart_more : {known_after : List (List ℕ)} {after : List AddressRow} (v : Value) {row : AddressRow} →

@@ -103,7 +103,7 @@ fn address_in(
 
 /// The addresses that the elements tell, among so many ports. The error is the first check that does not hold, or want
 /// of memory.
-#[tactic(auto, using(crate::proofs::Walk::apart_none))]
+#[tactic(auto, using(crate::proofs::Walk::walked_none))]
 pub fn address_rows(
     alloc: Global,
     values: &[Value],

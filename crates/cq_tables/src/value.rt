@@ -205,7 +205,7 @@ pub fn address(value: &Value) -> Result<[u8; 6], Wrong>
 }
 
 /// The elements of an array of so many.
-#[tactic(auto, using(std::proofs::lemmas::Bool::Decides::nat_tests, crate::proofs::Values::array_view_in, crate::proofs::Values::array_view_elements))]
+#[tactic(auto, using(crate::proofs::Values::elements_steps))]
 pub fn elements<'a>(value: &'a Value, least: usize, most: usize) -> Result<&'a [Value], Wrong>
     ensures held { IfOk result (λ _. array_of least most (view value.now) ≡ None) }
     ensures value { IfOk result (λ items. map view items.now ≡ elements (view value.now)) }
@@ -220,6 +220,7 @@ pub fn elements<'a>(value: &'a Value, least: usize, most: usize) -> Result<&'a [
 }
 
 /// The value at a key.
+#[tactic(auto, using(toml::proofs::Views::table_get))]
 pub fn value_at<'a>(table: &'a Table, key: &str) -> Option<&'a Value>
     ensures { option_map (λ value. view value.now) result ≡ get_member key.now (table_view table.now) }
 {

@@ -15,10 +15,7 @@ addresses-preserved c =
 pub returns : goal.returns
 returns c =
     let walked = c.addresses.invariant.walked in
-    record {
-      held = walk_holds _ _ _ walked.checked (omega arith);
-      value = walked_read walked (omega arith);
-      outputs = walked.kept;
-      differ = c.addresses.invariant.differ;
-      refused = tt;
-    }
+    let differ = c.addresses.invariant.differ in
+    let held = walk_holds _ _ _ walked.checked (omega arith) in
+    let value = walked_read walked (omega arith) in
+    search (arith, rules, walked.kept)

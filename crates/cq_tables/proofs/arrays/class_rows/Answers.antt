@@ -12,10 +12,6 @@ classes-preserved c = walked_more c.classes.invariant _ (omega arith) c.index-va
 pub returns : goal.returns
 returns c =
     let walked = c.classes.invariant in
-    record {
-      held = walk_holds _ _ _ walked.checked (omega arith);
-      value = walked_read walked (omega arith);
-      levels = λ k row h. (walked.kept k row h).0;
-      costs = λ k row h. (walked.kept k row h).1;
-      refused = tt;
-    }
+    let held = walk_holds _ _ _ walked.checked (omega arith) in
+    let value = walked_read walked (omega arith) in
+    search (arith, rules, walked.kept)

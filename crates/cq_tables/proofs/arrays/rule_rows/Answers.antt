@@ -12,10 +12,6 @@ rules-preserved c = walked_more c.rules.invariant _ (omega arith) c.index-values
 pub returns : goal.returns
 returns c =
     let walked = c.rules.invariant in
-    record {
-      held = walk_holds _ _ _ walked.checked (omega arith);
-      value = walked_read walked (omega arith);
-      inputs = λ k row h. (walked.kept k row h).0;
-      classes = λ k row h. (walked.kept k row h).1;
-      refused = tt;
-    }
+    let held = walk_holds _ _ _ walked.checked (omega arith) in
+    let value = walked_read walked (omega arith) in
+    search (arith, rules, walked.kept)
