@@ -74,6 +74,7 @@ pub(crate) fn place_of(
 }
 
 /// Gives the entry these bytes.
+#[tactic(auto, using(crate::proofs::InMemory::given_bytes))]
 pub(crate) fn put_bytes(entries: &mut [Entry], at: usize, bytes: Vec<u8>)
     requires { at < length entries.old }
     ensures { columns_of entries.new ≡ with_bytes (columns_of entries.old) at bytes.items }

@@ -128,6 +128,7 @@ pub fn write_whole<F: Files>(files: &mut F, name: &str, bytes: &[u8]) -> Result<
 ///
 /// After `Ok` they were appended to what the sink has taken. A fault is counted in this call, and then a prefix of
 /// them was.
+#[tactic(auto, using(crate::proofs::Replaced::put_on))]
 pub fn put_all<S: Sink>(sink: &mut S, bytes: &[u8]) -> Result<(), WriteFault>
     ensures all { PutsAll (S.taken sink.old) (S.taken sink.new) (S.faults sink.old)
         (S.faults sink.new) bytes.now result }
