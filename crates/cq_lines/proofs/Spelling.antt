@@ -3,7 +3,7 @@
 -- of no other digit. So a text that goes on with digits behind those of one number begins with no lesser number, and
 -- with none at all behind a 0.
 use Rattle.cq_lines.proofs.Terms.{rules, ◌≡◌, ℕ, zero, suc, ◌+◌, ◌-◌, ◌*◌, ◌^◌, ◌<◌, ◌≤◌, ◌⊎◌, List, [], ◌∷◌, ◌++◌, map, drop, get_or, Option, None, Some, refl, ap, sym, subst, ◌∙◌, arith, lit≤, append_assoc, IsInRange, number_from_digits_after, AllBelowBase, AllByRecursion, append-nil, number_digits_of, all_below_base_digits_of, first_digits_of, decimal, EndsDigits, BeginsWith, all_back, all_both, all_weaker, of_images, map-append, common_steps}
-use Rattle.cq_base.proofs.Decimals.{decimal_small, decimal_above, decimal_more}
+use Rattle.cq_base.proofs.Decimals.{decimal_small, decimal_above}
 use Rattle.std.proofs.Math.ListN.{get_or-map}
 use Rattle.std.proofs.lemmas.Int.Digits.{number_after_append, number_after_ge}
 
@@ -91,13 +91,6 @@ none_goes_on text rest after m d small e f why n end fits begins =
     let all = all_both (IsInRange 48 57) (decimal m) one (decimal_digits m) in
     let more = digits_go_on (decimal m ++ one) (decimal n) after end in
     grind (arith, common_steps, all, more, decimal_digits n, append_assoc, more_digits m n d)
-
-pub digit_alone : (text rest : List ℕ) (n d : ℕ) → d < 10 → n ≡ d → text ≡ (48 + d) ∷ rest → text ≡ decimal n ++ rest
-digit_alone text rest n d small is e = grind (arith, common_steps, decimal_small)
-
-pub one_digit_more : (text rest after : List ℕ) (m n d : ℕ) → d < 10 → 0 < m → n ≡ m * 10 + d →
-    text ≡ decimal m ++ rest → rest ≡ (48 + d) ∷ after → text ≡ decimal n ++ after
-one_digit_more text rest after m n d small above is e f = grind (arith, common_steps, decimal_more, append_assoc)
 
 -- ## Fields
 

@@ -73,11 +73,6 @@ no_end text to count rest had blank feed fs more h = go (had.alone fs more h).0 
     go [] e = feed more e
     go (g ∷ gs) e = blank ((field g ++ ending gs) ++ more) e
 
--- the line is at its end
-pub line_read : (text : List ℕ) (to : List (Option ℕ)) (count : ℕ) (rest after : List ℕ) →
-    ReadSoFar text to count rest → rest ≡ 10 ∷ after → (count ≤ length to) × (text ≡ ending (take count to) ++ after)
-line_read text to count rest after had e = (search (arith, rules, ending_begun))
-
 -- ## One reading
 
 -- one text begins with one line end
@@ -100,14 +95,6 @@ line_spelled word (f ∷ fs) = ap (λ (rest : List ℕ). word ++ 32 ∷ rest) (l
 
 -- ## Writing
 
--- the front of what was copied in from a place on
-pub copied_in : (old copied new digits rest : List ℕ) (at k count : ℕ) → at ≤ length old →
-    take (at + k) new ≡ take at old ++ copied → count ≤ k → copied ≡ digits ++ rest → count ≡ length digits →
-    take (at + count) new ≡ take at old ++ digits
-copied_in old copied new digits rest at k count inside front few spelled long =
-    let front_of = take-take (at + count) (at + k) new in
-    grind (arith, common_steps, length-append, length-take, front_of, append_assoc, take-append-le, take_all)
-
 -- The text with what is gathered behind it is what stood there and the line as far as it goes.
 pub record IsGathered (start word text bytes : List ℕ) (end : ℕ) (fs : List (Option ℕ)) : Type 0 where
   pub spelled : text ++ take end bytes ≡ (start ++ word) ++ begun fs
@@ -115,23 +102,13 @@ pub record IsGathered (start word text bytes : List ℕ) (end : ℕ) (fs : List 
   pub room : end < 128
   pub long : length bytes ≡ 128
 
-pub still_before : (start text new : List ℕ) → take (length start) text ≡ start → take (length text) new ≡ text →
-    take (length start) new ≡ start
-still_before start text new a b = grind (arith, common_steps, length-take, take-take)
-
 pub gathers_on : (start word text bytes text_on bytes_on : List ℕ) (end at end_on : ℕ) (fs : List (Option ℕ)) (i : ℕ)
     (d : Option ℕ) → i < length fs → IsGathered start word text bytes end (take i fs) →
     text_on ++ take at bytes ≡ text ++ take end bytes → take (length text) text_on ≡ text →
     take end_on bytes_on ≡ take at bytes ++ 32 ∷ field (get_or fs i d) → end_on < 128 → length bytes_on ≡ 128 →
     IsGathered start word text_on bytes_on end_on (take (i + 1) fs)
 gathers_on start word text bytes text_on bytes_on end at end_on fs i d inside had same begins put room long =
-    grind (arith, common_steps, begun_more, append_assoc, take_more, still_before)
-
-pub line_ends : (start word text bytes new : List ℕ) (end : ℕ) (fs : List (Option ℕ)) (i : ℕ) → length fs ≤ i →
-    IsGathered start word text bytes end (take i fs) → new ≡ text ++ take (end + 1) (set bytes end 10) →
-    new ≡ start ++ line word fs
-line_ends start word text bytes new end fs i past had put =
-    grind (arith, common_steps, take_more_set, ending_begun, append_assoc, append-nil, take_all)
+    grind (arith, common_steps, begun_more, append_assoc, take_more, length-take, take-take)
 
 -- ## Within ranges
 
@@ -147,3 +124,7 @@ few_within ranges further to fs room within = let few = within.few in omega arit
 pub line_is_some : (word : List ℕ) (fs : List (Option ℕ)) (more : List ℕ) → line word fs ++ more ≢ []
 line_is_some [] [] more e = cc
 line_is_some _ _ more e = cc
+
+pub ruleset number_steps = (length-append, length-take, take-take, append_assoc, take-append-le, take_all)
+
+pub ruleset put_steps = (gathers_on, length-take, take-take)

@@ -26,7 +26,7 @@ pub fn put_line(text: &mut Vec<u8>, word: &[u8], fields: &[Option<u128>]) -> Res
 }
 
 // The same, but that an error leaves what was put before memory ran out.
-#[tactic(auto, using(crate::proofs::Walk::gathers_on, crate::proofs::Walk::still_before))]
+#[tactic(auto, using(crate::proofs::Walk::put_steps))]
 fn put_parts(text: &mut Vec<u8>, word: &[u8], fields: &[Option<u128>]) -> Result<(), NoMemory>
     ensures line { OnOk result (text.new.items ≡ text.old.items ++ line word.now fields.now) }
     ensures before { OnErr result (take (length text.old.items) text.new.items ≡ text.old.items) }
@@ -76,7 +76,7 @@ fn put_field(bytes: &mut [u8; GATHERED], at: usize, told: Option<u128>) -> usize
 }
 
 // Writes a number from a place on, where its most digits have room.
-#[tactic(auto, using(crate::proofs::Walk::copied_in))]
+#[tactic(auto, using(crate::proofs::Walk::number_steps))]
 fn put_number(bytes: &mut [u8; GATHERED], at: usize, number: u128) -> usize
     requires { at + 39 ≤ 128 }
     ensures text { take result bytes.new ≡ take at bytes.old ++ decimal number }

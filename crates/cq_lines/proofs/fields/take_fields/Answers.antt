@@ -1,5 +1,5 @@
-use Rattle.cq_lines.proofs.Terms.{arith}
-use Rattle.cq_lines.proofs.Walk.{one_read_more, no_next, no_end, line_read}
+use Rattle.cq_lines.proofs.Terms.{arith, rules}
+use Rattle.cq_lines.proofs.Walk.{one_read_more, no_next, no_end, ending_begun}
 use Rattle.cq_lines.proofs.fields.take_fields.Goals as goal
 
 pub fields-preserved : goal.fields-preserved
@@ -15,4 +15,4 @@ returns-in_err-after-clause-none c = rw c.from_residual-in_err-after.ensures (λ
     c.fields.invariant c.in_default.ensures c.in_err-after.ensures fs more read)
 
 pub returns-clause-found : goal.returns-clause-found
-returns-clause-found c = line_read _ _ _ _ _ c.fields.invariant c.in_ok-after.ensures
+returns-clause-found c = search (arith, rules, ending_begun)

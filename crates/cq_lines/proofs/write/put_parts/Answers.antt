@@ -1,6 +1,6 @@
-use Rattle.cq_lines.proofs.Walk.{line_ends}
+use Rattle.cq_lines.proofs.Terms.{append-nil, append_assoc, arith, common_steps, take_all, take_more_set}
+use Rattle.cq_lines.proofs.Walk.{ending_begun}
 use Rattle.cq_lines.proofs.write.put_parts.Goals as goal
 
 pub returns-clause-line : goal.returns-clause-line
-returns-clause-line c = line_ends c.args.text.now.items c.args.word.now _ _ _ _ c.args.fields.now
-    c.fields.field-index c.fields-test.false c.fields.invariant c.in_ok-extend_from_slice-2.ensures.items
+returns-clause-line c = grind (arith, common_steps, take_more_set, ending_begun, append_assoc, append-nil, take_all)
