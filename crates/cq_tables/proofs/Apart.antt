@@ -1,5 +1,5 @@
 -- The names of files, port by port.
-use Rattle.cq_tables.proofs.Terms.{common_steps, ◌≡◌, ℕ, suc, ◌+◌, ◌<◌, Bool, true, false, not, ◌||◌, List, [], ◌∷◌, ◌++◌, length, get_or, take, drop, Some, None, Result, IfErr, codes, refl, ap, ◌∙◌, arith, add-one, append_assoc, append-nil, or-false, drop-cons, list_any, list_any-append, bytes_eq, Tables, DuplicateFile, TableRefusal, Ports, Element, Check, Refuses, at, first, otherwise, refused, unless, path, Named, apart_from, clash, file_check, files_of, names_of, ◌≤◌}
+use Rattle.cq_tables.proofs.Terms.{common_steps, ◌≡◌, ℕ, suc, ◌+◌, ◌<◌, Bool, not, ◌||◌, List, [], ◌∷◌, ◌++◌, length, get_or, take, drop, None, Result, IfErr, codes, refl, ap, ◌∙◌, arith, add-one, append_assoc, append-nil, or-false, drop-cons, list_any, list_any-append, bytes_eq, Tables, DuplicateFile, TableRefusal, Ports, Element, Check, Refuses, at, first, otherwise, unless, path, Named, apart_from, clash, file_check, files_of, names_of, ◌≤◌}
 use Rattle.cq_route.specs.declared.tables.PortRow.{PortRow}
 use Rattle.cq_tables.specs.Files.{files_before, is_named, read_clashes, write_clashes}
 use Rattle.cq_tables.proofs.Checks.{first-append, here_in, first_none}
@@ -40,10 +40,6 @@ port_step : (t : Tables) (i : ℕ) (row : PortRow) → i < length t.ports → ro
     ++ apart_from (files_before t (suc i)) (files_of (suc i) (drop (suc i) t.ports))
 port_step t i row small is = grind (arith, common_steps, files_take, files_drop, append-nil, append_assoc)
 
-pub apart_first : (t : Tables) → bytes_eq t.log t.trace ≡ false → Apart t 0
-unfolding first
-apart_first t e = rw e
-
 pub apart_next : (t : Tables) (i : ℕ) (row : PortRow) → i < length t.ports → row ≡ get_or t.ports i row →
     first (apart_from (files_before t i) (names_of i row)) ≡ None → Apart t i → Apart t (i + 1)
 apart_next t i row small is held apart = rw add-one (apart
@@ -67,25 +63,10 @@ port_checks i read write =
     otherwise (at (path (Element Ports i) (codes "read")) (unless (not read) DuplicateFile))
     (at (path (Element Ports i) (codes "write")) (unless (not write) DuplicateFile))
 
--- of names before it of which the code asks so
-checked_among : (t : Tables) (i : ℕ) (row : PortRow) (before : List Named) →
-    ((n : Named) →
-    (bytes_eq n.file t.trace || (bytes_eq n.file t.log || list_any (is_named n.file n.is_read) (take i t.ports)))
-    ≡ list_any (clash n) before) →
-    first (apart_from before (names_of i row)) ≡ port_checks i (read_clashes t i row) (write_clashes t i row)
-unfolding first
-checked_among t i row before asked = grind (arith, common_steps, list_any-append, asked)
-
 pub port_checked : (t : Tables) (i : ℕ) (row : PortRow) →
     first (apart_from (files_before t i) (names_of i row))
     ≡ port_checks i (read_clashes t i row) (write_clashes t i row)
-port_checked t i row = checked_among t i row (files_before t i) (taken t i)
-
--- ---- the log
-
-pub log_clashes : (t : Tables) (r : TableRefusal) → bytes_eq t.log t.trace ≡ true →
-    Refuses (Some (refused (codes "log") DuplicateFile)) r → Refuses (file_check t) r
 unfolding first
-log_clashes t r clashes told = rw clashes told
+port_checked t i row = let asked = taken t i in grind (arith, common_steps, list_any-append, asked)
 
-pub ruleset differ_steps = (apart_all, apart_first, apart_next, apart_stops, log_clashes, port_checked)
+pub ruleset differ_steps = (apart_all, apart_next, apart_stops, port_checked)

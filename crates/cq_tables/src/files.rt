@@ -104,7 +104,7 @@ fn port_files(
 }
 
 /// Refuses the first name of a file that stands before it, where not both are to be read.
-#[tactic(auto, using(crate::proofs::Apart::differ_steps))]
+#[tactic(auto, using(crate::proofs::Apart::differ_steps), unfolding(crate::specs::Check::first))]
 pub fn files_differ(alloc: Global, tables: &Tables) -> Result<(), TableRefusal>
     ensures held { IfOk result (λ _. file_check tables.now ≡ None) }
     ensures refused { IfErr result (Refuses (file_check tables.now)) }
