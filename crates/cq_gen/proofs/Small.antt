@@ -1,7 +1,6 @@
 -- Made packets are small: each fits a record, and all records of an input fit a file. So the file that is written is
--- read again as the same packets, and no fault of a file can come.
-use Rattle.cq_gen.proofs.Terms.{rules, ◌≡◌, ℕ, ◌*◌, ◌<◌, ◌≤◌, ◌^◌, List, [], ◌∷◌, length, map, Ok, Err, IfSome, refl, ap, sym, subst, ◌∙◌, arith, length-append, common_steps, length-map, length-map-range_with_len, AllByRecursion, flat_map, most_soak_slots, Captured, IsWritable, read_again, record_of, written, frame_of, packet_of, packets_to, to_write, fault_of, packets_of, PcapRefusal, OutPacket, spelt_is_read, written_is_spelt, all_made}
-use Rattle.cq_pcap.specs.declared.read.PcapRefusal.TheVariants as refusal
+-- read again as the same packets.
+use Rattle.cq_gen.proofs.Terms.{rules, ◌≡◌, ℕ, ◌*◌, ◌<◌, ◌≤◌, ◌^◌, List, [], ◌∷◌, length, map, Ok, refl, ap, sym, subst, ◌∙◌, arith, length-append, common_steps, length-map, length-map-range_with_len, AllByRecursion, flat_map, most_soak_slots, Captured, IsWritable, read_again, record_of, written, frame_of, packet_of, packets_to, to_write, packets_of, OutPacket, spelt_is_read, written_is_spelt, all_made}
 
 -- a packet of 60 bytes, with a stamp below 2^32 seconds
 record IsSmall (p : Captured) : Type 0 where
@@ -58,8 +57,3 @@ module _ (words : List ℕ) (ports slots input : ℕ) (few : slots ≤ most_soak
       let ps = map to_write packets in
       ap packets_of wrote ∙ spelt_is_read (written ps) (map read_again ps) (written_is_spelt ps (writable ps small))
       ∙ ap Ok (again packets)
-
--- a file that is read has no fault, so a refusal is want of memory
-pub only_memory : (bytes : List ℕ) (packets : List Captured) (why : PcapRefusal) → packets_of bytes ≡ Ok packets →
-    IfSome (fault_of why) (λ fault. packets_of bytes ≡ Err fault) → why ≡ refusal.NoMemory
-only_memory bytes packets why read unread = grind (arith, common_steps)

@@ -12,7 +12,7 @@ use std::alloc::Global;
 
 // The capture of an input. Its packets are written and read again, as a capture keeps the bytes of its
 // file.
-#[tactic(auto, using(crate::proofs::Small::file_read, crate::proofs::Small::only_memory))]
+#[tactic(auto, using(crate::proofs::Small::file_read))]
 fn capture_at(
     alloc: Global,
     words: &[u32],
