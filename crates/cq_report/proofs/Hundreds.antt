@@ -10,13 +10,6 @@ few_digits n below = let fits : n < 10 ^ 20 = omega arith in length-decimal-le 2
 pub some_digit : (n : ℕ) → 1 ≤ length (decimal n)
 some_digit n = grind (arith, common_steps, decimal_small, length-decimal_more, cases_lt)
 
-pub two_digits : (n : ℕ) → 10 ≤ n → n < 100 → decimal n ≡ (48 + n / 10 % 10) ∷ (48 + n % 10) ∷ []
-two_digits n more below = grind (arith, common_steps, decimal_more, decimal_small)
-
-pub three_digits : (n : ℕ) → 100 ≤ n → n < 1000 →
-    decimal n ≡ (48 + n / 100) ∷ (48 + n / 10 % 10) ∷ (48 + n % 10) ∷ []
-three_digits n more below = grind (arith, common_steps, decimal_more, two_digits)
-
 -- the hundreds, and then the last two digits
 pub two_more : (n : ℕ) → 100 ≤ n →
     decimal n ≡ decimal (n / 100) ++ (48 + n % 100 / 10) ∷ (48 + n % 100 % 10) ∷ []
@@ -48,4 +41,4 @@ pub line_feed_behind : (bytes front word : List ℕ) (end : ℕ) → 1 ≤ end �
 line_feed_behind bytes front word end some inside ends =
     search (arith, rules, take-set_at bytes (end - 1) end 10, without_last bytes (front ++ word) end 32, append_assoc)
 
-pub ruleset numeral_steps = (decimal_small, two_digits, three_digits)
+pub ruleset numeral_steps = (decimal_small, decimal_more)

@@ -6,7 +6,3 @@ pub word_then : (start old new word rest : List ℕ) (blank : ℕ) → old ≡ s
     new ≡ old ++ rest →
     new ≡ start ++ (word ++ blank ∷ rest)
 word_then start old new word rest blank o n = grind (arith, common_steps, append_assoc)
-
--- three lines of one word
-pub three_lines : (t₀ t₁ t₂ t₃ a b c : List ℕ) → t₁ ≡ t₀ ++ a → t₂ ≡ t₁ ++ b → t₃ ≡ t₂ ++ c → t₃ ≡ t₀ ++ (a ++ b ++ c)
-three_lines t₀ t₁ t₂ t₃ a b c e₁ e₂ e₃ = grind (arith, common_steps, append_assoc)
