@@ -3,7 +3,7 @@
 -- The next slot with an arrival. At one input the packets that have arrived whole before a slot stand first. Of the
 -- others the first one begins first, and its cells come one a slot. So the slot itself has a cell where that packet
 -- has begun, and else the slot in which it begins is the next one. Of several inputs the earliest counts.
-use Rattle.cq_cells.proofs.Terms.{common_steps, rules, ◌≡◌, ◌≢◌, ℕ, zero, suc, ◌+◌, ◌-◌, ◌<◌, ◌≤◌, eqb, leb, Bool, true, false, List, length, map, slice_index_or, None, Some, refl, arith, range_with_len, find, IsPartitionPoint, IsNonDecreasingBy, cases_eq, cases_order, ne_eqb, get_or_default, get_or_read, Arrival, Cell, Row, AreRows, IsBegun, row_cell, row_arrivals, row_at, line_arrivals, max, [], ◌∷◌, ◌++◌, flat_map, Option, inr, AllByRecursion, cases_lt, IsEnded, ArrivesIn, IsFirstFrom, IsNextArrival, earlier, all_both, all_weaker, all_made, all_flat}
+use Rattle.cq_cells.proofs.Terms.{common_steps, rules, ◌≡◌, ◌≢◌, ℕ, zero, suc, ◌+◌, ◌-◌, ◌<◌, ◌≤◌, eqb, Bool, List, length, map, slice_index_or, None, Some, refl, arith, range_with_len, find, IsNonDecreasingBy, cases_eq, cases_order, ne_eqb, get_or_default, get_or_read, Arrival, Cell, Row, AreRows, IsBegun, row_cell, row_arrivals, row_at, line_arrivals, max, [], ◌∷◌, ◌++◌, flat_map, Option, inr, AllByRecursion, cases_lt, IsEnded, ArrivesIn, IsFirstFrom, IsNextArrival, earlier, all_both, all_weaker, all_made, all_flat}
 use Rattle.cq_cells.proofs.Ranges.{find_none, find_only}
 use Rattle.cq_cells.proofs.Pieces.{cells_above}
 
@@ -35,20 +35,9 @@ row_none : (input cell_bytes k : ℕ) (row : Row) (slot : ℕ) →
     find (is_in slot) (row_arrivals input cell_bytes k row) ≡ None
 row_none input cell_bytes k row slot = none_in row.start (row_cell input cell_bytes k row) 0 row.cells slot
 
-pub begun_from_partition : (rows : List Row) (slot n : ℕ) → n ≤ length rows →
-    IsPartitionPoint (λ row. leb row.start slot ≡ true) (λ row. leb row.start slot ≡ false) rows n →
-    IsBegun rows slot n
-begun_from_partition rows slot n few p = grind (arith, common_steps)
-
 -- a row of nothing
 abbrev pub no_row : Row
 no_row = record { start = 0; cells = 0; output = 0; class = 0; len = 0 }
-
--- the last of so many has begun, and the one after it has not
-pub begun_beside : (rows : List Row) (slot n : ℕ) → IsNonDecreasingBy (λ row. row.start) rows → n ≤ length rows →
-    (0 < n → (row_at rows (n - 1)).start ≤ slot) → (n < length rows → slot < (row_at rows n).start) →
-    IsBegun rows slot n
-begun_beside rows slot n rise few last next = grind (arith, common_steps)
 
 -- the starts rise
 pub starts_rise : (cell_bytes : ℕ) (rows : List Row) → AreRows cell_bytes rows →
@@ -61,11 +50,6 @@ pub record LastBegun (rows : List Row) (slot k : ℕ) (row : Row) : Type 0 where
   pub begun : IsBegun rows slot (k + 1)
   pub is : row ≡ row_at rows k
   pub before : row.start ≤ slot
-
-pub last_begun : (rows seen : List Row) (slot n k : ℕ) (row : Row) → seen ≡ rows → n ≤ length seen →
-    IsBegun seen slot n → n ≡ k + 1 → (k < length rows → row ≡ slice_index_or rows k row) →
-    LastBegun rows slot k row
-last_begun rows seen slot n k row same few begun next read = grind (arith, common_steps, get_or_read)
 
 -- before the first packet nothing arrives
 pub line_none : (input cell_bytes : ℕ) (rows : List Row) (slot : ℕ) → IsBegun rows slot 0 →

@@ -2,7 +2,7 @@
 -- The places of a slot's arrivals are filled input by input. Those before the next input have what arrives there, and
 -- the others have what stood there before. No cell stood behind the last line, and none arrives there. So in the end
 -- each place has what arrives.
-use Rattle.cq_cells.proofs.Terms.{rules, ◌≡◌, ◌≢◌, ℕ, IfSome, and_right, cond_both, eqb-true, zero, suc, ◌+◌, ◌<◌, ◌≤◌, max, Bool, ◌&&◌, List, [], ◌∷◌, ◌++◌, length, filter, take, slice_index_or, None, option_map, refl, arith, common_steps, AllByRecursion, find, ne_eqb, append-nil, take_more, flat_map-append, filter-append, Arrival, arriving_at, end_of, AreOwn, all_of, is_from, filter_all, filter_none, all_weaker, eq-eqb, get_or, set, Option, length-set, get_or-set_same, get_or-set_other, cases_eq, cases_lt, fill_by_all, unwrap_or-slice_get, no_arrivals, arriving, Cell, arrival_at-no_arrivals, StandBelow}
+use Rattle.cq_cells.proofs.Terms.{rules, ◌≡◌, ◌≢◌, ℕ, IfSome, and_right, cond_both, eqb-true, zero, suc, ◌+◌, ◌<◌, ◌≤◌, max, Bool, ◌&&◌, List, [], ◌∷◌, ◌++◌, length, filter, take, slice_index_or, None, option_map, refl, arith, common_steps, AllByRecursion, find, ne_eqb, append-nil, take_more, flat_map-append, filter-append, Arrival, arriving_at, end_of, AreOwn, all_of, is_from, filter_all, filter_none, all_weaker, eq-eqb, get_or, Option, cases_lt, fill_by_all, unwrap_or-slice_get, no_arrivals, arriving, Cell, arrival_at-no_arrivals, StandBelow}
 use Rattle.cq_cells.proofs.Looked.{is_in}
 
 abbrev pub AllFrom : ℕ → List Arrival → Type 0
@@ -81,12 +81,6 @@ pub record Filling (came : List Arrival) (slot n : ℕ) (old now : List (Option 
   pub places : length now ≡ length old
   pub done : (i : ℕ) → i < n → get_or now i None ≡ arriving_at came slot i
   pub left : (i : ℕ) → n ≤ i → get_or now i None ≡ get_or old i None
-
-pub filling_next : (came : List Arrival) (slot n : ℕ) (old now new : List (Option Cell)) (cell : Option Cell) →
-    Filling came slot n old now → n < length now → cell ≡ arriving_at came slot n → new ≡ set now n cell →
-    Filling came slot (n + 1) old new
-filling_next came slot n old now new cell f inside is put =
-    grind (arith, common_steps, length-set, get_or-set_same, get_or-set_other, f.done, cases_eq, f.left)
 
 -- ## All inputs
 

@@ -218,13 +218,11 @@ next_row t captures input k ps places ways row origin free all rows old counts t
     let its = row_is_of 24 ps k no_place (record { stamp = 0; original = 0; body = [] }) in
     let within : k < length (packets_of captures input) = omega (arith, read.many) in
     let to = way_to_port t captures input ways sent k row.output row.class tables within routed in
-    let made : row ≡ row_of t captures input k =
-    grind (arith, common_steps, start_by, row_is_of, way_is, its) in
+    let made : row ≡ row_of t captures input k = grind (arith, common_steps, start_by, row_is_of, way_is, its) in
     let few = few_by t captures input (k + 1) tables.cell_bytes.0 read.recorded in
     let early = early_by t captures input (k + 1) read.recorded in
     let each = s.each row.output in
-    let of_output = few_kept (is_to row.output) in
-    search (arith, rules, longer_by, ends_by, few, early, end_packet, length_packet, of_output, came_by)
+    search (arith, rules, longer_by, ends_by, few, early, end_packet, length_packet, few_kept, came_by)
 
 -- what stands at the end of a line
 pub record IsWhole (t : Tables) (captures : List (List Captured)) (input : ℕ) (rows : List Row) (free cells : ℕ)

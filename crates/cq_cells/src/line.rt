@@ -184,7 +184,6 @@ fn begun_near(rows: &[Row], slot: Slot, near: usize) -> usize
 
 // Whether so many packets have begun in the slot: there are so many, the last of them has, and the one after it has
 // not.
-#[tactic(auto, using(crate::proofs::Looked::begun_beside))]
 fn is_begun(rows: &[Row], slot: Slot, number: usize) -> bool
     requires { IsNonDecreasingBy (λ row. row.start) rows.now }
     ensures { IsTrue result → (number ≤ length rows.now) × IsBegun rows.now slot number }

@@ -1,5 +1,5 @@
-use Rattle.cq_cells.proofs.Terms.{rules, ◌≡◌, [], arith, get_or_read, arriving_at, all_of}
-use Rattle.cq_cells.proofs.Owned.{arriving_at_line, arrives_own, filling_next}
+use Rattle.cq_cells.proofs.Terms.{rules, ◌≡◌, [], arith, get_or_read, arriving_at, all_of, cases_eq, get_or-set_other, get_or-set_same, length-set}
+use Rattle.cq_cells.proofs.Owned.{arriving_at_line, arrives_own}
 use Rattle.cq_cells.proofs.coming.come.Goals as goal
 use Rattle.cq_cells.proofs.coming.come.Goals.{After-cell_near-cell}
 
@@ -15,4 +15,6 @@ pub put-requires-clause-own : goal.put-requires-clause-own
 put-requires-clause-own c = search (rules, given, arrives_own)
 
 pub lines-preserved : goal.lines-preserved
-lines-preserved c = search (arith, rules, filling_next, given)
+lines-preserved c =
+    let filled = c.lines.invariant in
+    search (arith, rules, length-set, get_or-set_same, get_or-set_other, cases_eq, given, filled.done, filled.left)

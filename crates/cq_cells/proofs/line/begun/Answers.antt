@@ -1,5 +1,4 @@
-use Rattle.cq_cells.proofs.Terms.{leb, rules, tests, IsPartitionPoint-from_clause, IsPartitionedBy-leb, Row}
-use Rattle.cq_cells.proofs.Looked.{begun_from_partition}
+use Rattle.cq_cells.proofs.Terms.{arith, common_steps, leb, rules, tests, IsPartitionPoint-from_clause, IsPartitionedBy-leb, Row}
 use Rattle.cq_cells.proofs.line.begun.Goals as goal
 
 pub returns-clause-begun : goal.returns-clause-begun
@@ -8,4 +7,4 @@ returns-clause-begun c =
     c.partition_point.result c.partition_point.ensures.partitioned
     (IsPartitionedBy-leb (λ (row : Row). row.start) c.args.rows.now c.args.slot c.requires)
     (λ a r q k. search (rules, tests)) in
-    begun_from_partition c.args.rows.now c.args.slot c.partition_point.result c.partition_point.ensures.bound point
+    grind (arith, common_steps)

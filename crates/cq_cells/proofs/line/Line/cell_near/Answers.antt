@@ -1,5 +1,5 @@
-use Rattle.cq_cells.proofs.Terms.{rules, arith}
-use Rattle.cq_cells.proofs.Looked.{LastBegun, last_begun, starts_rise, line_none, line_over, line_found}
+use Rattle.cq_cells.proofs.Terms.{rules, arith, get_or_read}
+use Rattle.cq_cells.proofs.Looked.{LastBegun, starts_rise, line_none, line_over, line_found}
 use Rattle.cq_cells.proofs.line.Line.cell_near.Goals as goal
 use Rattle.cq_cells.proofs.line.Line.cell_near.Goals.{After-index}
 
@@ -13,7 +13,7 @@ returns-in_err-packet c =
 
 -- the packet is the last that has begun
 last : (c : After-index) → LastBegun c.self.inside.rows.items c.args.slot c.in_ok-packet.packet c.index.result.now
-last c = search (arith, rules, last_begun)
+last c = search (arith, rules, get_or_read)
 
 pub overflow_sub-index : goal.overflow_sub-index
 overflow_sub-index c = (last (goal.at.overflow_sub-index c).After-index).before
