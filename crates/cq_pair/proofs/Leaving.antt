@@ -11,15 +11,11 @@ seen order p x differ inside e = ap (place_in order) (sym e) ∙ place_in-get_or
 
 -- ## The last of all
 
-last_apart : (xs : List ℕ) (k x : ℕ) → k + 1 ≡ length xs → Apart xs → slice_get xs k ≡ Some x →
+pub last_apart : (xs : List ℕ) (k x : ℕ) → k + 1 ≡ length xs → Apart xs → slice_get xs k ≡ Some x →
     take k xs ≡ without x xs
 last_apart [] k x e a h = absurd (let P : ⊥ = cc in P)
 last_apart (y ∷ ys) zero x e a h = grind (arith, common_steps, nil_from_length, without_here, same_Some)
 last_apart (y ∷ ys) (suc k) x e a h = grind (arith, common_steps, Has, has_there, without_there, last_apart ys k x)
-
-pub last_left : (xs : List ℕ) (x : ℕ) → IsDistinct eqb xs → slice_get xs (length xs - 1) ≡ Some x →
-    take (length xs - 1) xs ≡ without x xs
-last_left xs x differ h = grind (arith, common_steps, last_apart xs (length xs - 1) x, apart)
 
 -- ## One after another
 
@@ -30,6 +26,6 @@ pub record ArePartedBefore (n ports : ℕ) (m : Partners) : Type 0 where
 
 pub ruleset fill_steps = (few_offers, offers-more, offers-same)
 
-pub ruleset leave_steps = (last_left, left_by, not_there)
+pub ruleset leave_steps = (last_apart, apart, left_by, not_there)
 
 pub ruleset part_all_steps = (length-set, take_all, take_more_set)

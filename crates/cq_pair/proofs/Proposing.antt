@@ -96,9 +96,6 @@ pub record Proposed (o : Orders) (c d : Progress) (i : ℕ) (outcome : Outcome) 
   pub made : d.made ≡ c.made + 1
   pub answer : outcome ≡ outcome_of o c.state i
 
-state_from : (s t : State) → s.positions ≡ t.positions → s.places ≡ t.places → s ≡ t
-state_from s t e f = λ k. record { positions = e k; places = f k }
-
 module _ {o : Orders} {c : Progress} {i j h : ℕ} {ahead : Option ℕ} (a : IsAsk o c i j h ahead) where
   sound : IsSound o c.state
   sound = sound-reached o a.offers c a.reached
@@ -118,10 +115,6 @@ module _ {o : Orders} {c : Progress} {i j h : ℕ} {ahead : Option ℕ} (a : IsA
   less : {p : ℕ} → ahead ≡ Some p →
       position_of o (next_output o c.state i) i < position_held c.state (next_output o c.state i)
   less is = let l = a.ahead.0 (rw is refl) in let e = a.held in omega arith
-
-  not_less : ahead ≡ None →
-      position_held c.state (next_output o c.state i) ≤ position_of o (next_output o c.state i) i
-  not_less is = grind (arith, common_steps, cases_lt, a.ahead.1)
 
   at : {p : ℕ} → ahead ≡ Some p → p ≡ position_of o (next_output o c.state i) i
   at is = rw is at a.position
@@ -144,12 +137,12 @@ module _ {o : Orders} {c : Progress} {i j h : ℕ} {ahead : Option ℕ} (a : IsA
     pub rejected : ahead ≡ None → Proposed o c d i Rejected
     unfolding answer_of
     rejected none =
-        search (rules, known, inputs_at_most, state-refused, reached-step, matching-refused, not_less)
+        search (rules, known, inputs_at_most, state-refused, reached-step, matching-refused, cases_lt, a.ahead.1)
 
     -- the output takes the input
     taken : {p : ℕ} → ahead ≡ Some p → {e f : Progress} → e.state ≡ d.state → Takes o e f i j p →
         f.state ≡ propose o c.state i
-    taken some same t = let e = at some in let l = less some in search (rules, state_from, state-taken)
+    taken some same t = grind (arith, common_steps, state-taken o c.state i, at some, less some)
 
     -- ## It held nobody
 
@@ -189,9 +182,8 @@ module _ {o : Orders} {c : Progress} {i j h : ℕ} {ahead : Option ℕ} (a : IsA
 
         pub displaced : {p : ℕ} → ahead ≡ Some p → {f : Progress} → Takes o e f i j p → Proposed o c f i (Displaced k)
         unfolding answer_of
-        displaced some t =
-            let l = less some in
-            search (arith, rules, taken, sound, other_held, ne_eqb, lt-ltb, parted, matching-displaced, reached-step)
+        displaced some t = search
+            (arith, rules, taken, less, sound, other_held, ne_eqb, lt-ltb, parted, matching-displaced, reached-step)
 
   pub held_inside : h ≢ ports o → h < length (inputs_of o j)
   held_inside n = search (arith, rules, holder-holds, sound, next_known)
