@@ -173,9 +173,6 @@ module _ (t : Tables) (captures : List (List Captured)) (input : ℕ) (ways : Li
       slice_index_or ways k (0, 0) ≡ route t input (packet_at captures input k).body
   way_is k inside = grind (arith, common_steps, slice_index_or, get_or-map)
 
-  pub many_ways : length ways ≡ length (packets_of captures input)
-  many_ways = grind (arith, common_steps, length-map)
-
   -- each leads to a port
   way_to_port : (k output class : ℕ) → AreTables t → k < length (packets_of captures input) →
       (output, class) ≡ slice_index_or ways k (0, 0) → output < ports_of t.setup

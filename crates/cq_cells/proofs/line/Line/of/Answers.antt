@@ -1,5 +1,5 @@
-use Rattle.cq_cells.proofs.Terms.{rules, slice_index_or, arith, ◌+◌, ◌<◌, length, get_or_read}
-use Rattle.cq_cells.proofs.Packets.{so_far_more, many_ways, AreRead, IsMade, IsWhole, at_end, next_row}
+use Rattle.cq_cells.proofs.Terms.{rules, slice_index_or, arith, ◌+◌, ◌<◌, length, get_or_read, common_steps, length-map}
+use Rattle.cq_cells.proofs.Packets.{so_far_more, AreRead, IsMade, IsWhole, at_end, next_row}
 use Rattle.cq_cells.proofs.Stamps.{length-rows_from}
 use Rattle.cq_cells.proofs.line.Line.of.Goals as goal
 use Rattle.cq_cells.proofs.line.Line.of.Goals.{After-packets, After-row_of-row, After-rows-packets}
@@ -38,8 +38,7 @@ whole c known =
 pub bounds-routes-k : goal.bounds-routes-k
 bounds-routes-k c =
     let many = (read (goal.at.bounds-routes-k c).After-rows-packets).many in
-    let ways = many_ways c.args.tables.now c.args.captures.now c.args.input c.args.routes.now c.requires.routes in
-    let inside = c.packets-test.true in omega arith
+    let inside = c.packets-test.true in grind (arith, common_steps, length-map)
 
 pub bounds-to_output-row : goal.bounds-to_output-row
 bounds-to_output-row c = counted (goal.at.bounds-to_output-row c).After-row_of-row
