@@ -108,8 +108,7 @@ module _ (input cell_bytes : ℕ) (rows : List Row) (from n : ℕ) (ended : IsEn
   pub line_done : length rows ≡ n → AllByRecursion (λ a. a.slot < from) (line_arrivals input cell_bytes rows)
   unfolding line_arrivals
   line_done all =
-      let made = all_made (λ (a : Arrival). a.slot < from) in
-      search (arith, rules, all_flat (λ (a : Arrival). a.slot < from), made)
+      search (arith, rules, all_flat (λ (a : Arrival). a.slot < from), all_made (λ (a : Arrival). a.slot < from))
 
   pub line_next : (slot : ℕ) → AreRows cell_bytes rows → n < length rows → slot ≡ max (row_at rows n).start from →
       IsFirstFrom (line_arrivals input cell_bytes rows) from slot

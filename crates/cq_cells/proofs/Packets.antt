@@ -106,10 +106,9 @@ module _ (t : Tables) (captures : List (List Captured)) (input : ℕ) where
   unfolding cells
   cells_by zero some h = omega arith
   cells_by (suc k) some h =
-      let more = sum_by_more (λ (p : Captured). 16 + length p.body) (packets_of captures input) k
-      (record { stamp = 0; original = 0; body = [] }) (omega arith) in
-      let few = cells_few (length (packet_at captures input k).body) t.cell_bytes some in
-      let place : suc k ≡ k + 1 = omega arith in search (arith, rules, longer_by k, length_packet k, cells_by k some)
+      let more = sum_by_more (λ (p : Captured). 16 + length p.body) (packets_of captures input) k in
+      let place : suc k ≡ k + 1 = omega arith in
+      search (arith, rules, more, cells_few, longer_by k, length_packet k, cells_by k some)
 
   -- a capture has few cells
   pub few_by : (k : ℕ) → 1 ≤ t.cell_bytes → IsRecorded (packets_of captures input) →
@@ -218,8 +217,7 @@ next_row t captures input k ps places ways row origin free all rows old counts t
     let made : row ≡ row_of t captures input k = grind (arith, common_steps, start_by, row_is_of, way_is, its) in
     let few = few_by t captures input (k + 1) tables.cell_bytes.0 read.recorded in
     let early = early_by t captures input (k + 1) read.recorded in
-    let each = s.each row.output in
-    search (arith, rules, longer_by, ends_by, few, early, end_packet, length_packet, few_kept, came_by)
+    search (arith, rules, longer_by, ends_by, few, early, end_packet, length_packet, few_kept, came_by, s.each)
 
 -- what stands at the end of a line
 pub record IsWhole (t : Tables) (captures : List (List Captured)) (input : ℕ) (rows : List Row) (free cells : ℕ)

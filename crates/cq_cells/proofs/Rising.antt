@@ -1,7 +1,7 @@
 -- The cells of an input arrive one after another: those of a packet in consecutive slots, and those of the next
 -- packet after them. Cells of two inputs have nothing to do with each other. So each arrival of the list is later
 -- than those before it at its input.
-use Rattle.cq_cells.proofs.Terms.{common_steps, rules, ◌≡◌, ℕ, zero, suc, ◌+◌, ◌*◌, ◌^◌, ◌<◌, ◌≤◌, List, length, map, filter, flat_map, refl, arith, AllByRecursion, range_with_len, length-append, get_or-map-range_with_len, length-map-range_with_len, Arrival, end_of, enough, Captured, Tables, AreTables, classes_of, ports_of, route_output, route_class, packets_of, cells, start, cell_of, arrivals_of, arrivals_at, arrivals, AreOwn, all_of, flat_map-map, IsInRange, IsLater, IsTraffic, IsShort, IsRecorded, is_from, all_flat, all_made, all_of_has, all_pairs, EachPair}
+use Rattle.cq_cells.proofs.Terms.{common_steps, rules, ◌≡◌, ℕ, zero, suc, ◌+◌, ◌*◌, ◌^◌, ◌<◌, ◌≤◌, List, length, map, filter, flat_map, arith, AllByRecursion, range_with_len, length-append, get_or-map-range_with_len, length-map-range_with_len, Arrival, end_of, enough, Captured, Tables, AreTables, classes_of, ports_of, route_output, route_class, packets_of, cells, start, cell_of, arrivals_of, arrivals_at, arrivals, AreOwn, all_of, flat_map-map, IsInRange, IsLater, IsTraffic, IsShort, IsRecorded, is_from, all_flat, all_made, all_of_has, all_pairs, EachPair}
 use Rattle.cq_cells.proofs.Looked.{piece}
 use Rattle.cq_cells.proofs.Owned.{AllFrom, counted, end_of-append}
 use Rattle.cq_cells.proofs.Packets.{few_by, early_by, ends_before}
@@ -78,6 +78,5 @@ module _ (t : Tables) (captures : List (List Captured)) where
   pub at_input : (input : ℕ) → input < length captures →
       filter (is_from input) (arrivals t captures) ≡ arrivals_at t captures input
   at_input input inside =
-      let lines = map (arrivals_at t captures) (range_with_len 0 (length captures)) in
-      let its = counted input 0 input lines in
-      search (arith, rules, length-map-range_with_len, get_or-map-range_with_len, all_lines lines refl, its, own_lines)
+      let its = counted input 0 input (map (arrivals_at t captures) (range_with_len 0 (length captures))) in
+      search (arith, rules, length-map-range_with_len, get_or-map-range_with_len, all_lines, its, own_lines)
