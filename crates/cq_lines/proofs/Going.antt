@@ -1,7 +1,7 @@
 -- Reading a text line by line. What was read so far leads from the start to the place where the next line comes, and
 -- its spelling stands at the front of the text. One line more keeps this. At the end of the text it is a whole text
 -- or lacks a line.
-use Rattle.cq_lines.proofs.Terms.{rules, arith, ◌≡◌, ℕ, List, [], ◌∷◌, ◌++◌, Result, Ok, Err, IfErr, OnOk, refl, sym, subst, append_assoc, flat_map, result_or, append-nil, flat_map-append, Leads}
+use Rattle.cq_lines.proofs.Terms.{rules, arith, ◌≡◌, ℕ, List, [], ◌∷◌, ◌++◌, Result, Ok, Err, OnOk, refl, sym, subst, append_assoc, flat_map, result_or, append-nil, flat_map-append, Leads}
 
 pub record SoFar {P X : Type 0} (spelling : X → List ℕ) (Rule : P → X → P →
     Type 0) (start : P) (text : List ℕ) (before : List X) (last : P) (rest : List ℕ) : Type 0 where
@@ -22,5 +22,4 @@ module _ {P X : Type 0} (spelling : X → List ℕ) (Rule : P → X → P → Ty
 
 -- a call that ends well under another word for its refusal ends well, and what it tells then holds
 pub ends_well : {T D E P : Type 0} (r : Result T D) (e : E) (x : T) → OnOk r P → Ok x ≡ result_or r (Err e) → P
-ends_well (Ok y) e x told is = told
-ends_well (Err d) e x told is = absurd (subst (λ q. IfErr q (λ _. ⊥)) is tt)
+ends_well r e x told is = search (rules)

@@ -65,9 +65,8 @@ above_zero m n d ds e = grind (arith, common_steps, alone_behind_zero, decimal_s
 -- digits with one more digit behind them say ten times their number at least, and are not those of 0
 more_digits : (m n d : ℕ) (ds : List ℕ) → decimal n ≡ decimal m ++ (48 + d) ∷ ds → (0 < m) × (m * 10 + d ≤ n)
 more_digits m n d ds e =
-    let both = number_after_append 10 0 (values (decimal m)) (values ((48 + d) ∷ ds)) in
     let rest = number_after_ge 10 (m * 10 + ((48 + d) - 48)) (values ds) (lit≤ tt) in
-    grind (arith, common_steps, said_decimal n, said_decimal m, map-append, above_zero)
+    grind (arith, common_steps, number_after_append, said_decimal n, said_decimal m, map-append, above_zero)
 
 -- ## What a text begins with
 
@@ -77,20 +76,18 @@ no_number text ends n rest begins = decimal_is_some n (search (arith, rules, not
 pub one_number : (text x y : List ℕ) (m n : ℕ) → BeginsWith text (Some m) x → BeginsWith text (Some n) y →
     (m ≡ n) × (x ≡ y)
 one_number text x y m n a b =
-    let more = digits_go_on (decimal m) (decimal n) x y (decimal_digits m) (decimal_digits n) b.ended (sym a.spelled
-    ∙ b.spelled) in
-    let all = decimal_digits n in
-    search (arith, rules, all_back (IsInRange 48 57), nothing_goes_on, decimal_injective, append-nil)
+    let more = digits_go_on (decimal m) (decimal n) in
+    let back = all_back (IsInRange 48 57) in
+    search (arith, rules, more, back, decimal_digits, nothing_goes_on, decimal_injective, append-nil)
 
 -- no number of 128 bits is spelled so: another digit stands behind a 0, or behind digits that say too much with it
 pub none_goes_on : (text rest after : List ℕ) (m d : ℕ) → d < 10 → text ≡ decimal m ++ rest →
     rest ≡ (48 + d) ∷ after → (m ≡ 0) ⊎ (2 ^ 128 ≤ m * 10 + d) → (n : ℕ) (end : List ℕ) → n < 2 ^ 128 →
     BeginsWith text (Some n) end → ⊥
 none_goes_on text rest after m d small e f why n end fits begins =
-    let one = (48 + d) ∷ [] in
-    let all = all_both (IsInRange 48 57) (decimal m) one (decimal_digits m) in
-    let more = digits_go_on (decimal m ++ one) (decimal n) after end in
-    grind (arith, common_steps, all, more, decimal_digits n, append_assoc, more_digits m n d)
+    let more = digits_go_on (decimal m ++ (48 + d) ∷ []) (decimal n) after end in
+    let all = all_both (IsInRange 48 57) (decimal m) in
+    grind (arith, common_steps, all, more, decimal_digits, append_assoc, more_digits m n d)
 
 -- ## Fields
 
