@@ -53,8 +53,7 @@ pub table_fault : {A : Type 0} (text : List ℕ) (top : Members) (r : Result A T
     document text ≡ Some top
     → IfErr r (Refuses (first (table_checks Top (top_keys top) top ++ default_checks top))) →
     IfErr r (IsRefusedFor (read_or_refused text))
-table_fault text top r small is told = refused_in r text
-    (rw (left_of text top small is) (here_in r (table_checks Top (top_keys top) top ++ default_checks top) _ told))
+table_fault text top r small is told = rw (left_of text top small is) at (refused_in r text) (here_in r _ _ told)
 
 pub file_fault : {A : Type 0} (text : List ℕ) (top : Members) (t : Tables) (r : Result A TableRefusal) →
     length text ≤ 1048576 → document text ≡ Some top

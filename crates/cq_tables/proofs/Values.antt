@@ -30,9 +30,8 @@ pub parsed_is_written : {E : Type 0} (text : List ℕ) (r : Result ℕ E) →
     result_ok r ≡ written text
 unfolding written
 parsed_is_written {E} text r test parsed =
-    let (sized, digits) = and_parts (is_from 1 39 (length text)) (all_ascii_digits text) test in
-    let parsed_is = parse_digits whole 128 text r parsed digits in
-    search (arith, rules, and_parts, leb-true, cases_Bool, nat_lt, ltb-true)
+    let parsed_is = parse_digits whole 128 text r parsed in
+    search (arith, rules, parsed_is, and_parts, leb-true, cases_Bool, nat_lt, ltb-true)
 
 -- a number in a range is at least its least, where there is one
 pub least_of : (least most : ℕ) (n : Option ℕ) → IfSome n (IsInRange least most) → IfSome n (λ n. least ≤ n)

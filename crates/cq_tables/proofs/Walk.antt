@@ -45,11 +45,9 @@ module _ {A : Type 0} where
     pub walked_more : {after : List A} (v : Value) {x : A} → i < length vs → v ≡ get_or vs i v
         → check i (view v) ≡ None → x ≡ row (members (view v)) → P x → after ≡ rows ++ x ∷ [] →
         Walked check row P vs (i + 1) after
-    walked_more v {x} small is held reads p pushed = rw (pushed, add-one) (record {
-      checked = grind (arith, common_steps, each_drop check vs i i v small, first_on);
-      read = search (arith, rules, rows_more);
-      kept = All-push P rows x w.kept p;
-    })
+    walked_more v {x} small is held reads p pushed =
+        let push = All-push P rows x w.kept p in
+        rw (pushed, add-one) (search (arith, rules, each_drop check vs i i v small, first_on, rows_more, push))
 
     pub walked_stop : {B : Type 0} (r : Result B TableRefusal) (v : Value) → i < length vs → v ≡ get_or vs i v
         → IfErr r (Refuses (check i (view v))) → IfErr r (Refuses (first (each check 0 (map view vs))))
