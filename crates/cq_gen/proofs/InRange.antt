@@ -1,6 +1,6 @@
 -- Lists that are made from a range of numbers: one item more, and what holds of each item.
 -- The tables are in range, and no address stands twice, since the last bytes of two addresses differ.
-use Rattle.cq_gen.proofs.Terms.{rules, ◌≡◌, ℕ, ◌<◌, ◌≤◌, List, Option, None, get_or, ap, sym, ◌∙◌, arith, length-replicate, get_or-replicate, length-map-range_with_len, IsInRange, AddressRow, AreTables, ports_of, ◌≢◌, soak_address, soak_kind, soak_port, soak_rule, soak_setup, soak_tables, RuleRow, plain_tables, common_steps, map, All, AllPairs, get_or-map-range_with_len, range_with_len}
+use Rattle.cq_gen.proofs.Terms.{rules, ◌≡◌, ℕ, ◌<◌, ◌≤◌, Option, None, sym, ◌∙◌, arith, length-replicate, get_or-replicate, length-map-range_with_len, IsInRange, AddressRow, AreTables, ports_of, ◌≢◌, soak_address, soak_kind, soak_port, soak_rule, soak_setup, soak_tables, RuleRow, plain_tables, common_steps, map, All, AllPairs, get_or-map-range_with_len, range_with_len}
 
 pub all_counted : {X : Type 0} (P : X → Type 0) (f : ℕ → X) (n : ℕ) → ((k : ℕ) → k < n → P (f k)) →
     All P (map f (range_with_len 0 n))
@@ -35,8 +35,7 @@ tables_in_range ports range =
       limits = search (arith, rules, get_or-replicate);
       default_output = omega arith;
       default_class = omega arith;
-      addresses_differ = all_pairs_counted (λ (a b : AddressRow). a.mac ≢ b.mac) soak_address ports
-          (λ i j l e. let same : i ≡ j = ap (λ (mac : List ℕ). get_or mac 5 0) e in omega arith);
+      addresses_differ = search (arith, rules, all_pairs_counted (λ (a b : AddressRow). a.mac ≢ b.mac) soak_address);
       outputs = search (arith, rules, all_counted);
       inputs = search (arith, rules, all_counted);
       rule_classes = all_counted (λ (row : RuleRow). row.class < 8) soak_rule 8 (λ k l. l);

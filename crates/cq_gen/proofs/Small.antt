@@ -1,6 +1,6 @@
 -- Made packets are small: each fits a record, and all records of an input fit a file. So the file that is written is
 -- read again as the same packets.
-use Rattle.cq_gen.proofs.Terms.{rules, ◌≡◌, ℕ, ◌*◌, ◌<◌, ◌≤◌, ◌^◌, List, [], ◌∷◌, length, map, Ok, refl, ap, sym, subst, ◌∙◌, arith, length-append, common_steps, length-map, length-map-range_with_len, AllByRecursion, flat_map, most_soak_slots, Captured, IsWritable, read_again, record_of, written, frame_of, packet_of, packets_to, to_write, packets_of, OutPacket, spelt_is_read, written_is_spelt, all_made}
+use Rattle.cq_gen.proofs.Terms.{rules, ◌≡◌, ℕ, ◌*◌, ◌<◌, ◌≤◌, ◌^◌, List, [], ◌∷◌, length, map, Ok, refl, ap, sym, subst, arith, length-append, common_steps, length-map, length-map-range_with_len, AllByRecursion, flat_map, most_soak_slots, Captured, IsWritable, read_again, record_of, written, frame_of, packet_of, packets_to, to_write, packets_of, OutPacket, spelt_is_read, written_is_spelt, all_made}
 
 -- a packet of 60 bytes, with a stamp below 2^32 seconds
 record IsSmall (p : Captured) : Type 0 where
@@ -55,5 +55,4 @@ module _ (words : List ℕ) (ports slots input : ℕ) (few : slots ≤ most_soak
   pub file_read : packets_of bytes ≡ Ok (packets_to words ports slots input)
   file_read =
       let ps = map to_write packets in
-      ap packets_of wrote ∙ spelt_is_read (written ps) (map read_again ps) (written_is_spelt ps (writable ps small))
-      ∙ ap Ok (again packets)
+      rw (wrote, spelt_is_read (written ps) _ (written_is_spelt ps (writable ps small)), again packets) refl
