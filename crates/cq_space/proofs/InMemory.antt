@@ -43,8 +43,7 @@ module _ {X : Type 0} where
       let inserted = get-insert nat_list_cmp_total (by_name names values) name x in
       same_answers _ _ (λ q.
       let first = passes_at_first (same_name q) names [] in
-      let new = get-first names (set values i (Some x)) q (length-set values i (Some x) ∙ even) in
-      search (arith, rules, get-first names values q even, is_same q name, get_or-set_same, get_or-set_other))
+      search (arith, rules, length-set, get-first names, is_same q name, get_or-set_same, get_or-set_other))
 
   -- an entry without a value, put at the end, changes no value
   pub by_name-push : (names : List (List ℕ)) (values : List (Option X)) (name : List ℕ) →

@@ -1,5 +1,5 @@
 -- A name that is written, or read, piece after piece: what was put so far, and what was taken and what is left.
-use Rattle.cq_space.proofs.Terms.{◌∙◌, rules, common_steps, arith, ◌≡◌, ℕ, ◌+◌, ◌-◌, ◌≤◌, List, length, take, drop, ap, append_assoc, ◌++◌, take-add, take_rest, length-drop, append_known, Option, Some, IfSome, nat_list_cmp_total, get, get-insert, Contents, Mode, Closed, Reading, Writing, IsReading, replaced, appended, written_name}
+use Rattle.cq_space.proofs.Terms.{◌∙◌, rules, arith, ◌≡◌, ℕ, ◌+◌, ◌-◌, ◌≤◌, List, length, take, drop, ap, append_assoc, ◌++◌, take-add, take_rest, length-drop, append_known, Option, Some, IfSome, nat_list_cmp_total, get, get-insert, Contents, Mode, Closed, Reading, Writing, IsReading, replaced, appended, written_name}
 use Rattle.std.specs.FinMap.{insert}
 use Rattle.cq_space.proofs.InMemory.{same_self, same_answers}
 
@@ -24,8 +24,7 @@ get_same m name bytes = get-insert nat_list_cmp_total m name bytes name ∙ rw (
 insert-insert : (m : Contents) (name front bytes : List ℕ) →
     insert (insert m name front) name bytes ≡ insert m name bytes
 insert-insert m name front bytes =
-    let set = get-insert {X = List ℕ} nat_list_cmp_total in
-    same_answers _ _ (λ q. grind (arith, common_steps, set (insert m name front) name bytes q, set m name))
+    let set = get-insert {X = List ℕ} nat_list_cmp_total in search (arith, rules, same_answers, set)
 
 -- one more piece of the bytes of a name
 pub replaced_on : (start before now : Option Contents) (mode : Mode) (name bytes : List ℕ) (done n : ℕ) →
