@@ -41,6 +41,4 @@ put_are cells input o are place own =
     let none : Option Cell = None in
     let read = λ (i : ℕ). unwrap_or-slice_get (set cells input o) i none in
     let had = λ (i : ℕ). unwrap_or-slice_get cells i none in
-    let same = get_or-set_same cells input o none in
-    let other = λ (i : ℕ). get_or-set_other cells input i o none in
-    search (arith, rules, length-set, cases_eq, read, had, same, other, are.own_input)
+    search (arith, rules, length-set, cases_eq, read, had, get_or-set_same, get_or-set_other, are.own_input)
