@@ -2,7 +2,7 @@
 -- whole record stands behind a capture, the bytes up to its end are a capture too. This goes on from the header until
 -- no byte is left, or to a record with a fault, which is the file's then. And what is spelt or faulty is read as
 -- that.
-use Rattle.cq_pcap.proofs.Terms.{rules, ◌≡◌, ◌⊎◌, ℕ, zero, suc, ◌+◌, ◌<◌, ◌≤◌, List, [], ◌∷◌, ◌++◌, length, take, drop, inl, inr, refl, ap, ◌∙◌, arith, append_assoc, length-append, common_steps, drop-drop, length-drop, length-take-le, take-append-drop, take-append-le, take_at, Result, Ok, Err, Form, number_at, Captured, PcapRefusal, IsFaulty, IsSpeltUpTo, packets_of, HasLinkType, HasMagic, HasVersion, IsHeader, Record, spelling, Fits, Spells, captured_of, subst, ⊎_elim, cases_lt, take_all, SpellsIn, append-nil, flat_map-append, map-append, all_both}
+use Rattle.cq_pcap.proofs.Terms.{rules, ◌≡◌, ◌⊎◌, ℕ, zero, suc, ◌+◌, ◌<◌, ◌≤◌, List, [], ◌∷◌, ◌++◌, length, take, drop, inl, inr, refl, arith, append_assoc, length-append, common_steps, drop-drop, length-drop, length-take-le, take-append-drop, take-append-le, take_at, Result, Ok, Err, Form, number_at, Captured, PcapRefusal, IsFaulty, IsSpeltUpTo, packets_of, HasLinkType, HasMagic, HasVersion, IsHeader, Record, spelling, Fits, Spells, subst, ⊎_elim, cases_lt, take_all, SpellsIn, append-nil, flat_map-append, map-append, all_both}
 use Rattle.cq_pcap.proofs.Headers.{header_says, Tells, AreBytes, AreBytes-drop, number_at-append, number_at-drop, number_at-lt, number_at-spelt, IsWhole, Says, first_says, front_packet, stated}
 use Rattle.cq_pcap.proofs.SpeltIsRead.{fault_is_read, spelt_is_read}
 
@@ -53,14 +53,10 @@ module _ (form : Form) (bytes : List ℕ) (at : ℕ) (packets : List Captured) (
       search (arith, rules, cut, length-take-le, spelt_next, length-append, append_assoc, all, stated, length-drop)
 
   pub spelt_more : SpellsIn form (take (at + (16 + stated form xs)) bytes) (packets ++ front_packet form xs ∷ [])
-  spelt_more = record {
-    header = s.header;
-    records = s.records ++ next ∷ [];
-    begins = s.begins;
-    fit = all_both Fits s.records (next ∷ []) s.fit (record_fits form xs (AreBytes-drop bytes at fits) w, tt);
-    whole = search (arith, rules, front_is, append_assoc, append-nil, flat_map-append);
-    kept = map-append (captured_of form) s.records (next ∷ []) ∙ ap (λ ps. ps ++ front_packet form xs ∷ []) s.kept;
-  }
+  spelt_more =
+      let fit = record_fits form xs (AreBytes-drop bytes at fits) w in
+      let both = all_both Fits s.records (next ∷ []) in
+      search (arith, rules, front_is, append_assoc, append-nil, flat_map-append, map-append, both)
 
 -- the first 24 bytes are a header where all bytes say so
 module _ (form : Form) (bytes : List ℕ) (long : 24 ≤ length bytes) (m : HasMagic form bytes)
@@ -112,13 +108,10 @@ spelt_or_faulty bytes fits = by_header bytes _ fits (header_says bytes)
 
 pub read_is_spelt : (bytes : List ℕ) (packets : List Captured) → AreBytes bytes → packets_of bytes ≡ Ok packets →
     Spells bytes packets
-read_is_spelt bytes packets fits e = ⊎_elim
-    (λ s. let same : s.0 ≡ packets = cc (spelt_is_read bytes s.0 s.1) in subst (Spells bytes) same s.1)
-    (λ f. absurd (let P : ⊥ = cc (fault_is_read bytes f.0 f.1) in P)) (spelt_or_faulty bytes fits)
+read_is_spelt bytes packets fits e = ⊎_elim (λ s. grind (arith, common_steps, spelt_is_read bytes s.0 s.1))
+    (λ f. grind (arith, common_steps, fault_is_read bytes f.0 f.1)) (spelt_or_faulty bytes fits)
 
 pub read_is_faulty : (bytes : List ℕ) (fault : PcapRefusal) → AreBytes bytes → packets_of bytes ≡ Err fault →
     IsFaulty bytes fault
-read_is_faulty bytes fault fits e = ⊎_elim
-    (λ s. absurd (let P : ⊥ = cc (spelt_is_read bytes s.0 s.1) in P))
-    (λ f. let same : f.0 ≡ fault = cc (fault_is_read bytes f.0 f.1) in subst (IsFaulty bytes) same f.1)
-    (spelt_or_faulty bytes fits)
+read_is_faulty bytes fault fits e = ⊎_elim (λ s. grind (arith, common_steps, spelt_is_read bytes s.0 s.1))
+    (λ f. grind (arith, common_steps, fault_is_read bytes f.0 f.1)) (spelt_or_faulty bytes fits)
