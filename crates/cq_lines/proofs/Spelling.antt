@@ -2,7 +2,7 @@
 -- with the same digits are one. Digits with more digits behind them say a greater number, and 0 stands at the front
 -- of no other digit. So a text that goes on with digits behind those of one number begins with no lesser number, and
 -- with none at all behind a 0.
-use Rattle.cq_lines.proofs.Terms.{rules, ◌≡◌, ℕ, zero, suc, ◌+◌, ◌-◌, ◌*◌, ◌^◌, ◌<◌, ◌≤◌, ◌⊎◌, List, [], ◌∷◌, ◌++◌, map, drop, get_or, Option, None, Some, refl, ap, sym, subst, ◌∙◌, arith, lit≤, append_assoc, IsInRange, number_from_digits_after, AllBelowBase, AllByRecursion, append-nil, number_digits_of, all_below_base_digits_of, first_digits_of, decimal, EndsDigits, BeginsWith, all_back, all_both, all_weaker, of_images, map-append, common_steps}
+use Rattle.cq_lines.proofs.Terms.{rules, ◌≡◌, ℕ, zero, suc, ◌+◌, ◌-◌, ◌*◌, ◌^◌, ◌<◌, ◌≤◌, ◌⊎◌, List, [], ◌∷◌, ◌++◌, map, get_or, Option, Some, refl, ap, sym, subst, ◌∙◌, arith, lit≤, append_assoc, IsInRange, number_from_digits_after, AllBelowBase, AllByRecursion, append-nil, number_digits_of, all_below_base_digits_of, first_digits_of, decimal, EndsDigits, BeginsWith, all_back, all_both, all_weaker, of_images, map-append, common_steps}
 use Rattle.cq_base.proofs.Decimals.{decimal_small, decimal_above}
 use Rattle.std.proofs.Math.ListN.{get_or-map}
 use Rattle.std.proofs.lemmas.Int.Digits.{number_after_append, number_after_ge}
@@ -14,9 +14,8 @@ digits_from_values : (ds : List ℕ) → AllBelowBase 10 ds → AreDigits (map (
 digits_from_values ds a = grind (arith, common_steps, of_images, all_weaker)
 
 pub decimal_digits : (n : ℕ) → AreDigits (decimal n)
-decimal_digits zero = grind (arith, common_steps, decimal_small)
-decimal_digits (suc k) = subst AreDigits (sym (decimal_above (suc k) (omega arith))) (digits_from_values _
-    (all_below_base_digits_of 10 (suc k) (lit≤ tt)))
+decimal_digits n =
+    grind (arith, common_steps, decimal_small, decimal_above, digits_from_values, all_below_base_digits_of 10 n)
 
 -- ## What digits say
 
@@ -56,11 +55,8 @@ first_digit n h = grind (arith, common_steps, decimal_above n h, get_or-map, fir
 decimal_is_some : (n : ℕ) → decimal n ≡ [] → ⊥
 decimal_is_some n e = grind (arith, common_steps, said_decimal n, decimal_small)
 
-alone_behind_zero : (n d : ℕ) (ds : List ℕ) → decimal n ≡ 48 ∷ d ∷ ds → ⊥
-alone_behind_zero n d ds e = grind (arith, common_steps, decimal_small, first_digit n)
-
 above_zero : (m n d : ℕ) (ds : List ℕ) → decimal n ≡ decimal m ++ (48 + d) ∷ ds → 0 < m
-above_zero m n d ds e = grind (arith, common_steps, alone_behind_zero, decimal_small)
+above_zero m n d ds e = grind (arith, common_steps, first_digit n, decimal_small)
 
 -- digits with one more digit behind them say ten times their number at least, and are not those of 0
 more_digits : (m n d : ℕ) (ds : List ℕ) → decimal n ≡ decimal m ++ (48 + d) ∷ ds → (0 < m) × (m * 10 + d ≤ n)
@@ -93,7 +89,5 @@ none_goes_on text rest after m d small e f why n end fits begins =
 
 -- one text begins with one field
 pub one_field : (text x y : List ℕ) (f g : Option ℕ) → BeginsWith text f x → BeginsWith text g y → (f ≡ g) × (x ≡ y)
-one_field text x y None None a b = (refl, let e : 45 ∷ x ≡ 45 ∷ y = sym a.spelled ∙ b.spelled in ap (drop 1) e)
-one_field text x y None (Some n) a b = absurd (no_number text (rw a.spelled (λ digit. omega arith)) n y b)
-one_field text x y (Some m) None a b = absurd (no_number text (rw b.spelled (λ digit. omega arith)) m x a)
-one_field text x y (Some m) (Some n) a b = let same = one_number text x y m n a b in (ap Some same.0, same.1)
+one_field text x y (Some m) (Some n) a b = grind (arith, common_steps, one_number text x y m n a b)
+one_field text x y f g a b = grind (arith, common_steps, no_number text)
