@@ -1,17 +1,14 @@
 -- The names of files, port by port.
-use Rattle.cq_tables.proofs.Terms.{common_steps, ◌≡◌, ℕ, suc, ◌+◌, ◌<◌, Bool, not, ◌||◌, List, [], ◌∷◌, ◌++◌, length, get_or, take, drop, None, Result, IfErr, codes, refl, ap, ◌∙◌, arith, add-one, append_assoc, append-nil, or-false, drop-cons, list_any, list_any-append, bytes_eq, Tables, DuplicateFile, TableRefusal, Ports, Element, Check, Refuses, at, first, otherwise, unless, path, Named, apart_from, clash, file_check, files_of, names_of, ◌≤◌}
+use Rattle.cq_tables.proofs.Terms.{common_steps, ◌≡◌, ℕ, suc, ◌+◌, ◌<◌, Bool, not, ◌||◌, List, [], ◌∷◌, ◌++◌, length, get_or, take, drop, None, Result, IfErr, codes, refl, arith, add-one, append_assoc, append-nil, or-false, drop-cons, list_any, list_any-append, bytes_eq, Tables, DuplicateFile, TableRefusal, Ports, Element, Check, Refuses, at, first, otherwise, unless, path, Named, apart_from, clash, file_check, files_of, names_of, ◌≤◌, rules}
 use Rattle.cq_route.specs.declared.tables.PortRow.{PortRow}
 use Rattle.cq_tables.specs.Files.{files_before, is_named, read_clashes, write_clashes}
 use Rattle.cq_tables.proofs.Checks.{first-append, here_in, first_none}
 
--- a name clashes with one of a port's where the port names its file
-named_by : (n : Named) (i : ℕ) (row : PortRow) → list_any (clash n) (names_of i row) ≡ is_named n.file n.is_read row
-named_by n i row = grind (arith, common_steps, or-false)
-
+-- a name clashes with those of the ports that name its file
 named_among : (n : Named) (i : ℕ) (rows : List PortRow) →
     list_any (clash n) (files_of i rows) ≡ list_any (is_named n.file n.is_read) rows
 named_among n i [] = refl
-named_among n i (row ∷ rows) = grind (arith, common_steps, list_any-append, named_by, named_among n (suc i) rows)
+named_among n i (row ∷ rows) = grind (arith, common_steps, list_any-append, or-false, named_among n (suc i) rows)
 
 -- as the code asks it
 pub taken : (t : Tables) (i : ℕ) (n : Named) →
@@ -20,10 +17,6 @@ pub taken : (t : Tables) (i : ℕ) (n : Named) →
 taken t i n = rw (named_among n 0 (take i t.ports))
 
 -- ---- the walk over the ports
-
-files_drop : (rows : List PortRow) (i n : ℕ) (d : PortRow) → i < length rows →
-    files_of n (drop i rows) ≡ names_of n (get_or rows i d) ++ files_of (suc n) (drop (suc i) rows)
-files_drop rows i n d h = rw (drop-cons rows i d)
 
 files_take : (rows : List PortRow) (i n m : ℕ) (d : PortRow) → m ≡ n + i → i < length rows →
     files_of n (take (suc i) rows) ≡ files_of n (take i rows) ++ names_of m (get_or rows i d)
@@ -38,19 +31,16 @@ port_step : (t : Tables) (i : ℕ) (row : PortRow) → i < length t.ports → ro
     apart_from (files_before t i) (files_of i (drop i t.ports))
     ≡ apart_from (files_before t i) (names_of i row)
     ++ apart_from (files_before t (suc i)) (files_of (suc i) (drop (suc i) t.ports))
-port_step t i row small is = grind (arith, common_steps, files_take, files_drop, append-nil, append_assoc)
+port_step t i row small is = grind (arith, common_steps, files_take, drop-cons, append-nil, append_assoc)
 
 pub apart_next : (t : Tables) (i : ℕ) (row : PortRow) → i < length t.ports → row ≡ get_or t.ports i row →
     first (apart_from (files_before t i) (names_of i row)) ≡ None → Apart t i → Apart t (i + 1)
-apart_next t i row small is held apart = rw add-one (apart
-    ∙ (ap first (port_step t i row small is)
-    ∙ (first-append (apart_from (files_before t i) (names_of i row)) _ ∙ rw held)))
+apart_next t i row small is held apart = rw (add-one, apart, port_step t i row small is, first-append, held) refl
 
 pub apart_stops : {B : Type 0} (r : Result B TableRefusal) (t : Tables) (i : ℕ) (row : PortRow) → i < length t.ports →
     row ≡ get_or t.ports i row → IfErr r (Refuses (first (apart_from (files_before t i) (names_of i row)))) →
     Apart t i → IfErr r (Refuses (file_check t))
-apart_stops r t i row small is told apart =
-    rw (apart, port_step t i row small is) (here_in r (apart_from (files_before t i) (names_of i row)) _ told)
+apart_stops r t i row small is told apart = rw (apart, port_step t i row small is) (search (rules, here_in))
 
 pub apart_all : (t : Tables) (i : ℕ) → length t.ports ≤ i → Apart t i → file_check t ≡ None
 apart_all t i past apart = grind (arith, common_steps, first_none)

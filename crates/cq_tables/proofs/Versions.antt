@@ -71,9 +71,8 @@ in_two = element_check Classes (λ _. class_keys Two)
 all_hold : (i : ℕ) (ds : List Data) → first (each in_one i ds) ≡ None → first (each in_two i ds) ≡ None
 unfolding each
 all_hold i [] h = first_none
-all_hold i (d ∷ ds) h =
-    let rest = all_hold (suc i) ds in
-    search (arith, rules, first_parts, first_all, then_other, known_more, all_known, no_level, first_none, rest)
+all_hold i (d ∷ ds) h = search
+    (arith, rules, first_parts, first_all, then_other, known_more, all_known, no_level, first_none, all_hold (suc i) ds)
 
 all_same : (i : ℕ) (ds : List Data) → first (each in_one i ds) ≡ None →
     map (class_row Two) (map members ds) ≡ map (class_row One) (map members ds)
