@@ -2,8 +2,8 @@
 -- they come, which all differ: so no key is twice. Each older cell for the same output in the list has slack 1 at
 -- least, so where it is more urgent than the new cell it stands below the new cell's cushion: so the insertion keeps
 -- the order. And the cells for each output are those that were there and those that came for it.
-use Rattle.cq_laws.proofs.Terms.{common_steps, rules, ◌≡◌, ◌≢◌, ℕ, ◌+◌, ◌<◌, ◌⊎◌, List, length, Option, Some, None, ap, arith, same_Some, Key, Cell, Queued, Machine, Fabric, input, buffer, IsAmong, IsFabric, cushion_of, came_to, list_arrived, Arrives, HasSlack, KeepsOrder, keeps_order_arrival, HasFor, all_from_has}
-use Rattle.cq_laws.proofs.Members.{among_insert, insert_new, insert_old}
+use Rattle.cq_laws.proofs.Terms.{common_steps, rules, ◌≡◌, ◌↔◌, ◌≢◌, ℕ, ◌+◌, ◌<◌, ◌⊎◌, List, length, Option, Some, None, ap, arith, same_Some, Key, Cell, Queued, Machine, Fabric, input, buffer, IsAmong, IsFabric, cushion_of, came_to, list_arrived, Arrives, HasSlack, KeepsOrder, keeps_order_arrival, HasFor, all_from_has}
+use Rattle.cq_laws.proofs.Members.{among_insert, insert_has}
 use Rattle.cq_laws.proofs.Cushions.{cushion_rises}
 use Rattle.cq_laws.proofs.Falls.{arrivals_fall}
 use Rattle.cq_laws.proofs.Sound.{Sound}
@@ -45,8 +45,5 @@ module _ (ms : List Machine) (slot : ℕ) (cells : List (Option Cell)) (came : L
     pub arrived_slack : HasSlack 0 new
     arrived_slack i t c at = grind (arith, common_steps, arrivals_fall ms slot cells came old new arrive i t c at)
 
-    pub arrived_has : (j : ℕ) (c : Queued) → HasFor new j c → HasFor old j c ⊎ CameFor came j c
-    arrived_has j c h = search (arith, rules, among_insert)
-
-    pub has_arrived : (j : ℕ) (c : Queued) → HasFor old j c ⊎ CameFor came j c → HasFor new j c
-    has_arrived j c h = search (arith, rules, insert_new, insert_old)
+    pub arrived_has : (j : ℕ) (c : Queued) → HasFor new j c ↔ (HasFor old j c ⊎ CameFor came j c)
+    arrived_has j c = search (arith, rules, among_insert, insert_has)

@@ -5,7 +5,7 @@
 -- same output. And each cell is where it was or has crossed to its output, and the first cell for an output that a
 -- list gave is in it no more: so no key is twice, and the cells for each output stay the same.
 use Rattle.cq_laws.proofs.Terms.{rules, ◌≡◌, ◌≢◌, ℕ, suc, ◌+◌, ◌<◌, ◌≤◌, ◌⊎◌, ◌↔◌, List, Option, Some, None, refl, sym, ap, ◌∙◌, inl, inr, ⊎_elim, arith, common_steps, slice_get, eq-eqb, same_Some, cushion_of, Queued, Fabric, input, buffer, IsAmong, IsFabric, ListsKeepOrder, Transfers, EachRises, HasSlack, put, KeepsOrder, is_for, first_for, place_for, without_first, key_laws, first_le, each_pair_left, IsListed, place_in, outputs_of, partner_of, depth, HasBetterInput, IsOutputOrder, AreOrdersOf, orders_of, list_taken, HasFor, IsMostUrgentFor, has_there, stands_at, Partners, IsStable}
-use Rattle.cq_laws.proofs.Members.{from_first, first_at, first_of, left_at, left_or_first, among_put, put_new, put_old, rising_put, was_waiting}
+use Rattle.cq_laws.proofs.Members.{from_first, first_at, first_of, left_at, left_or_first, among_put, rising_put, was_waiting}
 use Rattle.cq_laws.proofs.Cushions.{cushion_grows, cushion_grows_by_one, cushion_has}
 use Rattle.cq_laws.proofs.Sound.{same_cell, Apart, Sound, one_in_order, orders_are}
 use Rattle.cq_laws.proofs.Rises.{first_least, is_partner, sender}
@@ -87,9 +87,9 @@ module _ (old new : Fabric) (m : Partners) (fabric : IsFabric old) (order : List
   from_buffer j c h = grind (arith, common_steps, same_or_got j, among_put)
 
   pub has_after : (j : ℕ) (c : Queued) → HasFor old j c → HasFor new j c
-  has_after j c (inr b) = grind (arith, common_steps, same_or_got j, put_old)
+  has_after j c (inr b) = grind (arith, common_steps, same_or_got j, among_put)
   has_after j c (inl w) = ⊎_elim (λ l. inl (w.0, rw moves.moves.taken l, w.2)) (λ r.
-      search (arith, rules, from_first r.0 (input old w.0) c r.2, put_new c (buffer old r.0)))
+      search (arith, rules, from_first r.0 (input old w.0) c r.2, among_put c c (buffer old r.0)))
       (left_or_taken (partner_of m w.0) (input old w.0) c w.1)
 
   pub has_before : (j : ℕ) (c : Queued) → HasFor new j c → HasFor old j c

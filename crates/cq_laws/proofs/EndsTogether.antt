@@ -106,8 +106,7 @@ module _ (ms : List Machine) (ports class_count : ℕ) (ranks : List (List ℕ))
   unfolding whole_ideal_run
   done =
       let b = fewer (enough came) g rs (omega arith) best_run in
-      let ran = fewer_slots ms ports ranks came n (enough came) _ (not_more ms ports ranks came) b.ran in
-      (ran.0.after, ends ms ports ranks came ran.0 ran.1)
+      search (rules, fewer_slots ms ports ranks came n (enough came) _ (not_more ms ports ranks came) b.ran, ends)
 
   at_end : Reach (FabricSlot IsInputBest ms) came (empty_fabric ports ranks) rs n (enough came) g
   at_end = grind (arith, common_steps, reach, not_more, best_run)

@@ -1,7 +1,7 @@
 -- The lists of the ideal switch after arrivals. The list of an output has what it had and what came for it, and no
 -- key twice, so it stays in the order of keys.
 use Rattle.cq_laws.proofs.Terms.{common_steps, rules, ◌≡◌, ◌≢◌, ℕ, zero, suc, ◌<◌, ◌⊎◌, cond, List, [], ◌∷◌, length, Option, Some, None, refl, inl, inr, ⊎_elim, arith, cases_lt, cond_both, eqb-true, eq-eqb, ne_eqb, true≢false, same_Some, get_or_past, get_or-map-range_with_len, Queued, IsAmong, came_to, IsRising, put, is_for, put_all, filled, list_of, length-filled}
-use Rattle.cq_laws.proofs.Members.{among_put, put_new, put_old, rising_put}
+use Rattle.cq_laws.proofs.Members.{among_put, rising_put}
 use Rattle.cq_laws.proofs.AfterArrivals.{CameFor}
 
 pub among_put_all : (j : ℕ) (came : List (Option Queued)) (xs : List Queued) (c : Queued) →
@@ -14,13 +14,13 @@ among_put_all j (Some q ∷ came) xs c h = ⊎_elim (λ k. search (arith, rules,
 pub put_all_keeps : (j : ℕ) (came : List (Option Queued)) (xs : List Queued) (c : Queued) → IsAmong c xs →
     IsAmong c (put_all j came xs)
 put_all_keeps j [] xs c h = h
-put_all_keeps j (q ∷ came) xs c h = search (arith, rules, put_old, cond_both, put_all_keeps j came)
+put_all_keeps j (q ∷ came) xs c h = search (arith, rules, among_put, cond_both, put_all_keeps j came)
 
 pub put_all_new : (j : ℕ) (came : List (Option Queued)) (xs : List Queued) (c : Queued) (k : ℕ) →
     came_to came k ≡ Some c → c.cell.output ≡ j → IsAmong c (put_all j came xs)
 put_all_new j [] xs c k e out = cc
 put_all_new j (o ∷ came) xs c k e out =
-    grind (arith, common_steps, same_Some, put_all_keeps, cond_both, put_new, true≢false, eq-eqb, put_all_new j came)
+    grind (arith, common_steps, same_Some, put_all_keeps, cond_both, among_put, true≢false, eq-eqb, put_all_new j came)
 
 -- no key came that the list has
 abbrev NewTo : List (Option Queued) → List Queued → Type 0

@@ -3,8 +3,8 @@
 -- of their keys, one after the other, each new one is before or behind every other, so the list rises, and it has the
 -- same members. So the lists made of the cells that the fabric has for each output rise and have these cells: that is
 -- agreement. And two lists that rise and have the same members are one list.
-use Rattle.cq_laws.proofs.Terms.{flat_map, common_steps, rules, ◌≡◌, ◌≢◌, ℕ, List, [], ◌∷◌, length, sym, ◌∙◌, ⊎_elim, arith, zero, suc, filter, cases_lt, eqb-true, eq-eqb, ext_get_or, get_or_past, get_or-map-range_with_len, length-map-range_with_len, Queued, IdealState, Agrees, Fabric, IsAmong, IsFabric, buffer, ListsKeepOrder, IsBefore, IsRising, KeysDiffer, KeepsOrder, is_for, list_of, IsSoundFabric, ideal_of, in_order, cells_for, HasFor, has_cases, has_left, has_right, has_kept, kept_has, all_of_has, none_had, all_from_has, same_pairs, pairs_joined, pairs_kept_with}
-use Rattle.cq_laws.proofs.Members.{among_put, put_new, put_old, rising_put}
+use Rattle.cq_laws.proofs.Terms.{flat_map, common_steps, rules, ◌≡◌, ◌↔◌, ◌≢◌, ℕ, List, [], ◌∷◌, length, sym, ◌∙◌, ⊎_elim, arith, zero, suc, filter, cases_lt, eqb-true, eq-eqb, ext_get_or, get_or_past, get_or-map-range_with_len, length-map-range_with_len, Queued, IdealState, Agrees, Fabric, IsAmong, IsFabric, buffer, ListsKeepOrder, IsBefore, IsRising, KeysDiffer, KeepsOrder, is_for, list_of, IsSoundFabric, ideal_of, in_order, cells_for, HasFor, has_cases, has_left, has_right, has_kept, kept_has, all_of_has, none_had, all_from_has, same_pairs, pairs_joined, pairs_kept_with}
+use Rattle.cq_laws.proofs.Members.{among_put, rising_put}
 use Rattle.cq_laws.proofs.Sound.{apart_from, not_before_itself, Apart, never_both}
 
 -- ## Lists whose keys differ
@@ -53,18 +53,14 @@ module _ (j : ℕ) where
 
 -- ## Cells in the order of their keys
 
-among_in_order : (d : Queued) (xs : List Queued) → IsAmong d (in_order xs) → IsAmong d xs
-among_in_order d [] h = absurd h
-among_in_order d (x ∷ xs) h = grind (arith, common_steps, among_put, among_in_order d xs)
-
-in_order_among : (d : Queued) (xs : List Queued) → IsAmong d xs → IsAmong d (in_order xs)
-in_order_among d [] h = absurd h
-in_order_among d (x ∷ xs) h = grind (arith, common_steps, put_new, put_old, in_order_among d xs)
+among_in_order : (d : Queued) (xs : List Queued) → IsAmong d (in_order xs) ↔ IsAmong d xs
+among_in_order d [] = (λ h. h, λ h. h)
+among_in_order d (x ∷ xs) = grind (arith, common_steps, among_put d x (in_order xs), among_in_order d xs)
 
 rising_in_order : (xs : List Queued) → KeysDiffer xs → IsRising (in_order xs)
 rising_in_order [] differ = tt
 rising_in_order (x ∷ xs) differ = rising_put x (in_order xs) (rising_in_order xs differ.1) (λ d h.
-    all_of_has (λ (y : Queued). x.key ≢ y.key) xs d differ.0 (among_in_order d xs h))
+    all_of_has (λ (y : Queued). x.key ≢ y.key) xs d differ.0 ((among_in_order d xs).0 h))
 
 -- ## The ideal switch of these cells
 
@@ -79,9 +75,11 @@ list_is f fabric j = ⊎_elim (λ inside. grind (arith, common_steps, get_or-map
 pub agrees_of : (slot : ℕ) (f : Fabric) → IsSoundFabric slot f → Agrees slot f (ideal_of f)
 unfolding ideal_of
 agrees_of slot f sound =
-    let apart = apart_from f sound.differ in let rise = rising_in_order in
+    let apart = apart_from f sound.differ in
     let size = length-map-range_with_len (λ j. in_order (cells_for j f)) 0 (length f.inputs) in
-    search (arith, rules, size, list_is, rise, cells_differ, from_cells, among_in_order, in_order_among, to_cells)
+    let out = λ (c : Queued) (xs : List Queued). (among_in_order c xs).0 in
+    let into = λ (c : Queued) (xs : List Queued). (among_in_order c xs).1 in
+    search (arith, rules, size, list_is, rising_in_order, cells_differ, from_cells, out, into, to_cells)
 
 pub sound_from : (slot : ℕ) (f : Fabric) (ideal : IdealState) → Agrees slot f ideal → IsSoundFabric slot f
 sound_from slot f ideal agrees = grind (arith, common_steps)

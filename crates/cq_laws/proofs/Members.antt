@@ -1,7 +1,7 @@
 -- The cells of a list, as members and by their places. First what a place shows of a member, then where the first
 -- cell for an output stands, then what becomes of the members where that cell is taken out, where a cell is put in
 -- the order of keys, and where one is inserted at a place.
-use Rattle.cq_laws.proofs.Terms.{rules, ◌≡◌, ◌≢◌, ℕ, zero, suc, ◌+◌, ◌<◌, ◌≤◌, ◌⊎◌, Bool, true, List, [], ◌∷◌, Some, refl, sym, ap, inl, inr, ⊎_elim, arith, common_steps, slice_get, find, insert, position_or_len, eqb-true, cond_both, Queued, IsAmong, IsRising, put, is_for, first_for, place_for, without_first, first_here, first_later, all_from_has, stands_at, has_there, has_cases, has_left, has_right, drop, take, take-append-drop, Partners, list_of}
+use Rattle.cq_laws.proofs.Terms.{rules, ◌≡◌, ◌↔◌, ◌≢◌, ℕ, zero, suc, ◌+◌, ◌<◌, ◌≤◌, ◌⊎◌, Bool, true, List, [], ◌∷◌, Some, refl, sym, ap, inl, inr, ⊎_elim, arith, common_steps, slice_get, find, insert, position_or_len, eqb-true, cond_both, Queued, IsAmong, IsRising, put, is_for, first_for, place_for, without_first, first_here, first_later, all_from_has, stands_at, has_there, has_cases, has_left, has_right, drop, take, take-append-drop, Partners, list_of}
 use Rattle.cq_base.proofs.Putting.{rising_put as put_rises}
 use Rattle.cq_prefs.specs.Moves.{Moves}
 
@@ -71,17 +71,9 @@ was_waiting moves i c h = search (arith, rules, left_among)
 
 -- ## A cell put in the order of keys
 
-pub among_put : (d c : Queued) (xs : List Queued) → IsAmong d (put c xs) → (c ≡ d) ⊎ IsAmong d xs
-among_put d c [] h = h
-among_put d c (x ∷ xs) h = grind (arith, common_steps, cond_both, among_put d c xs)
-
-pub put_new : (c : Queued) (xs : List Queued) → IsAmong c (put c xs)
-put_new c [] = inl refl
-put_new c (x ∷ xs) = grind (arith, common_steps, cond_both, put_new c xs)
-
-pub put_old : (d c : Queued) (xs : List Queued) → IsAmong d xs → IsAmong d (put c xs)
-put_old d c [] h = absurd h
-put_old d c (x ∷ xs) h = grind (arith, common_steps, cond_both, put_old d c xs)
+pub among_put : (d c : Queued) (xs : List Queued) → IsAmong d (put c xs) ↔ ((c ≡ d) ⊎ IsAmong d xs)
+among_put d c [] = (λ h. h, λ h. h)
+among_put d c (x ∷ xs) = grind (arith, common_steps, cond_both, among_put d c xs)
 
 pub rising_put : (c : Queued) (xs : List Queued) → IsRising xs → ((d : Queued) → IsAmong d xs → c.key ≢ d.key) →
     IsRising (put c xs)
@@ -100,11 +92,8 @@ inserted_at (x ∷ xs) (suc p) (suc t) n c h =
     ⊎_elim (λ k. inl (omega arith, k.1)) (λ k. inr (suc k.0, k.1, omega arith)) (inserted_at xs p t n c h)
 inserted_at xs p t n c h = inl (omega arith, cc)
 
-pub insert_new : (xs : List Queued) (p : ℕ) (n : Queued) → IsAmong n (insert xs p n)
-insert_new xs p n = has_right (take p xs) (n ∷ drop p xs) n (inl refl)
-
-pub insert_old : (xs : List Queued) (p : ℕ) (n c : Queued) → IsAmong c xs → IsAmong c (insert xs p n)
-insert_old xs p n c h = grind (arith, common_steps, has_left, has_right, has_cases (take p xs), take-append-drop p xs)
+pub insert_has : (xs : List Queued) (p : ℕ) (n c : Queued) → (n ≡ c) ⊎ IsAmong c xs → IsAmong c (insert xs p n)
+insert_has xs p n c h = grind (arith, common_steps, has_left, has_right, has_cases (take p xs), take-append-drop p xs)
 
 pub among_insert : (xs : List Queued) (p : ℕ) (n c : Queued) → IsAmong c (insert xs p n) → (n ≡ c) ⊎ IsAmong c xs
 among_insert xs p n c h =

@@ -6,7 +6,7 @@ use Rattle.cq_laws.proofs.Terms.{rules, ◌≡◌, ℕ, ◌+◌, ◌↔◌, List
 use Rattle.cq_laws.proofs.Cushions.{cushion_has}
 use Rattle.cq_laws.proofs.Falls.{rest_of}
 use Rattle.cq_laws.proofs.Sound.{Sound, apart_from, early_from, differ_from, all_before, Apart, never_both, not_before_itself, same_first}
-use Rattle.cq_laws.proofs.AfterArrivals.{Keyed, arrived_sound, arrived_slack, arrived_has, has_arrived, arrived_fabric}
+use Rattle.cq_laws.proofs.AfterArrivals.{Keyed, arrived_sound, arrived_slack, arrived_has, arrived_fabric}
 use Rattle.cq_laws.proofs.AfterTransfer.{Moved, moved, moved_fabric}
 use Rattle.cq_laws.proofs.AfterDepartures.{sent_sound, sent_slack, sent_buffer, rising_rest, sent_fabric}
 use Rattle.cq_laws.proofs.Came.{keyed_from}
@@ -116,16 +116,15 @@ module _ (ms : List Machine) (slot class_count : ℕ) (cells : List (Option Cell
   follow : (j : ℕ) → Follows (WaitsFor r.filled.inputs j) (full j) (buffer r.filled j)
   follow j =
       let came = list_of ideal.lists j in
+      let has = arrived_has ms slot cells r.came f r.arrived step.arrive keyed old_sound agrees.slack in
       follows (WaitsFor r.filled.inputs j) (full j) (buffer r.filled j)
       (record {
         up = full_rises j;
         up' = first.sound.fabric.rising j;
-        to = λ c h. (first.has j c).1 (has_arrived ms slot cells r.came f r.arrived step.arrive keyed old_sound
-            agrees.slack j c (⊎_elim (λ was. inl ((agrees.same j c).0 was)) (λ new. inr new)
+        to = λ c h. (first.has j c).1 ((has j c).1 (⊎_elim (λ was. inl ((agrees.same j c).0 was)) (λ new. inr new)
             (among_put_all j r.came came c (rw (full_is j) at h))));
         back = λ c h. rw (full_is j) (⊎_elim (λ was. put_all_keeps j r.came came c ((agrees.same j c).1 was))
-            (λ new. put_all_new j r.came came c new.0 new.1 new.2) (arrived_has ms slot cells r.came f r.arrived
-            step.arrive keyed old_sound agrees.slack j c ((first.has j c).0 h)));
+            (λ new. put_all_new j r.came came c new.0 new.1 new.2) ((has j c).0 ((first.has j c).0 h)));
         behind = behind_one r.filled (first.slack 0 slack_arrived) j;
       })
 

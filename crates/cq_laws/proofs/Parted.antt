@@ -1,6 +1,6 @@
 -- A run in parts: its first slots are a run, and where that ended the others go on. So a run over many slots passes
 -- through the end of each shorter one, and two whole runs of which each slot leaves no choice are one.
-use Rattle.cq_laws.proofs.Terms.{common_steps, rules, ◌≡◌, ℕ, suc, ◌+◌, ◌-◌, ◌<◌, ◌≤◌, List, [], ◌∷◌, ◌++◌, length, drop, Option, refl, ap, ⊎_elim, arith, AllByRecursion, cases_lt, take_all, Arrival, end_of, Cell, IsEnd, arriving_from, first_slots, arriving_length, arriving_parts, AfterBy, HasParts, RunBy, WholeBy, all_front}
+use Rattle.cq_laws.proofs.Terms.{common_steps, rules, ◌≡◌, ℕ, suc, ◌+◌, ◌-◌, ◌<◌, ◌≤◌, List, [], ◌∷◌, ◌++◌, length, drop, Option, refl, ap, arith, AllByRecursion, cases_lt, take_all, Arrival, end_of, Cell, IsEnd, arriving_from, first_slots, arriving_length, arriving_parts, AfterBy, HasParts, RunBy, WholeBy, all_front}
 
 pub fewer_fit : (P : List (Option Cell) → Type 0) (came : List Arrival) (m n : ℕ) → m ≤ n →
     AllByRecursion P (first_slots came n) → AllByRecursion P (first_slots came m)
@@ -55,9 +55,8 @@ module _ {S R : Type 0} (Step : ℕ → List (Option Cell) → S → R → S →
       Type 0) (came : List Arrival) (start : S) where
     no_longer : (g h : S) (rs ss : List R) → WholeBy Step IsEmpty came start rs g →
         WholeBy Step IsEmpty came start ss h → length rs ≤ length ss
-    no_longer g h rs ss w v = ⊎_elim (λ (lt : length ss < length rs).
-        search (arith, rules, reach came start rs (length ss) (length rs) g, run_of_whole came start rs IsEmpty g w))
-        (λ ge. ge) (cases_lt (length ss) (length rs))
+    no_longer g h rs ss w v =
+        search (arith, rules, cases_lt, reach came start rs (length ss), run_of_whole came start rs IsEmpty g w)
 
     pub one_whole : (g h : S) (rs ss : List R) → WholeBy Step IsEmpty came start rs g →
         WholeBy Step IsEmpty came start ss h → (rs ≡ ss) × (g ≡ h)
