@@ -66,9 +66,7 @@ module _ (ms : List Machine) (slot : ℕ) (cells : List (Option Cell)) (ranks : 
       search (arith, rules, cases_lt j, filled_at, all_put_all, each, length-filled, get_or_past, all_weaker)
 
   pub arrived_next : AllArrivedBefore (slot + 1) (rests (filled r.came lists))
-  arrived_next j =
-      let here = arrived_filled j in
-      grind (arith, common_steps, get_or-map, get_or_past, length-map, cases_lt j (length (filled r.came lists)))
+  arrived_next j = search (arith, rules, arrived_filled j, get_or-map, get_or_past, length-map, cases_lt j)
 
 -- ## Cells that are ranked one after another
 
@@ -162,10 +160,9 @@ own_keys_rest : (o : Option Queued) (came : List (Option Queued)) (lists : List 
     HaveOwnKeys (o ∷ came) lists → ((q : Queued) → o ≡ Some q → q.cell.output < length lists) →
     HaveOwnKeys came (with_came o lists)
 own_keys_rest o came lists own inside =
-    let waits = λ (k : ℕ). own.waiting (suc k) in
     let later = λ (k n : ℕ). own.others (suc k) (suc n) in
     let apart = λ (k : ℕ). own.others zero (suc k) in
-    search (arith, rules, waits, later, apart, one_put, cond_both, all_put, inside)
+    search (arith, rules, λ (k : ℕ). own.waiting (suc k), later, apart, one_put, cond_both, all_put, inside)
 
 -- ## The walk over the inputs
 

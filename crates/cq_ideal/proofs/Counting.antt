@@ -3,7 +3,7 @@
 -- are judged one after another: the marks so far, and then those of judging what is left, are those of judging all; and
 -- what the outputs hold so far, with what is still to be admitted, is what they hold at the end.
 
-use Rattle.cq_ideal.proofs.Terms.{rules, ◌≡◌, ◌≢◌, ℕ, zero, suc, ◌+◌, ◌-◌, ◌<◌, ◌≤◌, ◌^◌, eqb, Bool, true, false, cond, List, [], ◌∷◌, ◌++◌, length, drop, get_or, set, Option, Some, None, refl, ap, ◌∙◌, arith, common_steps, All-from_recursion, drop_all, drop_more, get_or-map, length-map, Cell, arrival_at, Refused, is_first, mark_at, refused, CanCount, HasPorts, LimiterView, where_up, cells_refused, packets_refused, refused_counts, with_cells, with_refused, take, get_or-set_same, get_or-set_other, cases_Bool, eqb-true, eq-eqb, ne_eqb, drop-set-lt, length-set, set-get_or, take_all, append-nil, admitted, mark_after, held_after, marks_after, count_for, ComeToPorts, all_weaker, most_ports, few_kept}
+use Rattle.cq_ideal.proofs.Terms.{rules, ◌≡◌, ◌≢◌, ℕ, zero, suc, ◌+◌, ◌-◌, ◌<◌, ◌≤◌, ◌^◌, eqb, Bool, true, false, cond, List, [], ◌∷◌, ◌++◌, length, drop, get_or, set, Option, Some, None, refl, arith, common_steps, All-from_recursion, drop_all, drop_more, get_or-map, length-map, Cell, arrival_at, Refused, is_first, mark_at, refused, CanCount, HasPorts, LimiterView, where_up, cells_refused, packets_refused, refused_counts, with_cells, with_refused, take, get_or-set_same, get_or-set_other, cases_Bool, eqb-true, eq-eqb, ne_eqb, drop-set-lt, length-set, set-get_or, take_all, append-nil, admitted, mark_after, held_after, marks_after, count_for, ComeToPorts, all_weaker, most_ports, few_kept}
 use Rattle.cq_ideal.specs.Taking.{HasJudged}
 use Rattle.cq_ideal.proofs.Refusals.{count_both, zero_from}
 use Rattle.cq_ideal.proofs.Changed.{at_place, changed_to, next_place}
@@ -53,9 +53,8 @@ module _ (cell : Cell) (first : List Refused) (place : ℕ) (now : List Refused)
       set now place after ≡ changed_to (with_refused (cell ∷ []) first) first (place + 1)
   tallied_next d after is =
       let all = with_refused (cell ∷ []) first in
-      let same = length-map first (with_cells (cell ∷ [])) in
       let here : after ≡ get_or all place d = search (arith, rules, common_steps, at_place, length-map, get_or-map) in
-      ap (λ (l : List Refused). set l place after) so_far ∙ next_place all first place after d same inside here
+      search (arith, rules, next_place all first place after d, length-map)
 
   -- a count of another output stays as it is
   pub untouched_next : (d : Refused) → (get_or now place d).output ≢ cell.output →
@@ -95,22 +94,15 @@ pub record Counting (cells : List (Option Cell)) (first : LimiterView) (input : 
   pub few : CanCount (length first.limits - input) now.refused
 
 module _ {cells : List (Option Cell)} {first : LimiterView} {input : ℕ} {now : LimiterView}
-    (so_far : Counting cells first input now) (has : HasPorts first) where
-  module _ (few : length first.limits ≤ most_ports) (inside : input < length first.limits)
-      (places : length cells ≡ most_ports) where
-    split : (cell : Option Cell) → cell ≡ where_up (mark_at now.marks input) (arrival_at cells input) →
-        refused (drop input first.marks) (drop input cells)
-        ≡ cell_listed cell ++ refused (drop (input + 1) first.marks) (drop (input + 1) cells)
-    split cell is = search (arith, rules, drop_more, from_input)
-
-    pub counting_next : (cell : Option Cell) (after : LimiterView) →
-        cell ≡ where_up (mark_at now.marks input) (arrival_at cells input) →
-        after.refused ≡ with_refused (cell_listed cell) now.refused → after.marks ≡ now.marks →
-        after.held ≡ now.held → after.limits ≡ now.limits → Counting cells first (input + 1) after
-    counting_next cell after is counted marks held limits =
-        let one : length (cell_listed cell) ≤ 1 = grind (arith, common_steps) in
-        let left = counts_fit (cell_listed cell) (length first.limits - (input + 1)) 1 now.refused in
-        search (arith, rules, split cell is, all_counted_both (cell_listed cell), left)
+    (so_far : Counting cells first input now) (has : HasPorts first) (few : length first.limits ≤ most_ports)
+    (inside : input < length first.limits) (places : length cells ≡ most_ports) where
+  pub counting_next : (cell : Option Cell) (after : LimiterView) →
+      cell ≡ where_up (mark_at now.marks input) (arrival_at cells input) →
+      after.refused ≡ with_refused (cell_listed cell) now.refused → after.marks ≡ now.marks →
+      after.held ≡ now.held → after.limits ≡ now.limits → Counting cells first (input + 1) after
+  counting_next cell after is counted marks held limits =
+      let left = counts_fit (cell_listed cell) (length first.limits - (input + 1)) 1 now.refused in
+      search (arith, rules, drop_more, from_input, all_counted_both (cell_listed cell), left)
 
 -- ## Arrivals that are judged
 

@@ -8,7 +8,6 @@ use Rattle.cq_ideal.proofs.AtInput.{all_in_order}
 use Rattle.cq_ideal.proofs.FlowOn.{in_packets}
 use Rattle.cq_ideal.proofs.LimitedEnds.{limited_not_more, run_all, settled}
 use Rattle.cq_ideal.proofs.LimitedRuns.{judged}
-use Rattle.cq_ideal.proofs.RestAtInput.{line_at}
 use Rattle.cq_ideal.proofs.Standing.{of_input}
 
 -- ## Each packet
@@ -40,10 +39,9 @@ first_of next (c ∷ cells) cell are has =
 one_output : (came : List Arrival) → KeepTheirOutput came → (i : ℕ) (a b : Cell) → Has (came_at i came) a →
     Has (came_at i came) b → a.id.packet ≡ b.id.packet → a.output ≡ b.output
 one_output came keep i a b has_a has_b same =
-    let of = image_has (λ (x : Arrival). x.cell) (line_at i came) in
     let Same = λ (x y : Arrival). x.cell.id.input ≡ y.cell.id.input → x.cell.id.packet ≡ y.cell.id.packet →
     x.cell.output ≡ y.cell.output in
-    search (arith, rules, eqb-true, of a has_a, of b has_b, pair_of_has Same came, kept_has, each_pair Same came keep)
+    search (arith, rules, eqb-true, image_has, pair_of_has Same came, kept_has, each_pair Same came keep)
 
 -- ## At an output without a limit
 

@@ -96,9 +96,8 @@ count_from came a (suc n) = let rest = count_from came (a + 1) n in omega arith
 pub come_count-first : (came : List Arrival) (n : ℕ) →
     come_count (map (arriving came) (range_with_len 0 n)) ≤ length came
 come_count-first came n =
-    let most = weighed (λ cells. length cells)
-    (λ cells. length (present cells)) (λ all. length all) refl refl present_more (λ a all. omega arith) came n in
-    omega (arith, count_from came 0 n)
+    let most = weighed length (λ cells. length (present cells)) length refl refl present_more in
+    omega (arith, most (λ a all. omega arith) came n, count_from came 0 n)
 
 pub come_count-traffic_of : (came : List Arrival) → come_count (traffic_of came) ≤ length came
 unfolding traffic_of

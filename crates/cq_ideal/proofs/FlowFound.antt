@@ -1,7 +1,7 @@
 -- What arrives in a slot at an input. It is the first arrival in the list that is of this slot and at this input, so
 -- an arrival of another slot or input hides nothing, and what holds of all that are of this slot and at this input
 -- holds of what is found. The cells that arrive in a slot are those that are found at its inputs.
-use Rattle.cq_ideal.proofs.Terms.{common_steps, ◌≡◌, ℕ, zero, suc, ◌+◌, false, List, [], ◌∷◌, ◌++◌, length, map, Option, Some, None, arith, ◌==◌, find, AllByRecursion, cons_option, range_with_len, eq-eqb, ne_eqb, and_from, and_left, and_right, cond-true, cond-false, length-map-range_with_len, Cell, Arrival, is_at, arriving_at, arriving, most_ports, none_had, all_of_has}
+use Rattle.cq_ideal.proofs.Terms.{common_steps, ◌≡◌, ℕ, zero, suc, ◌+◌, List, [], ◌∷◌, ◌++◌, length, map, Option, Some, None, arith, AllByRecursion, cons_option, range_with_len, eq-eqb, ne_eqb, and_from, and_left, and_right, cond-true, cond-false, length-map-range_with_len, Cell, Arrival, arriving_at, arriving, most_ports, none_had, all_of_has}
 use Rattle.cq_ideal.proofs.FlowRank.{present}
 
 -- the cell, as a list
@@ -24,18 +24,15 @@ pub found_here : (a : Arrival) (came : List Arrival) (t k : ℕ) → a.slot ≡ 
 unfolding found
 found_here a came t k e f = grind (arith, common_steps, cond-true, and_from, a.slot, a.cell.id.input, eq-eqb)
 
--- an arrival that is not both of the slot and at the input
-found_skip : (a : Arrival) (came : List Arrival) (t k : ℕ) → is_at t k a ≡ false → found (a ∷ came) t k ≡ found came t k
-unfolding found
-found_skip a came t k e = cc ((cond-false (is_at t k a) (Some a) (find (is_at t k) came) e))
-
 pub other_slot : (a : Arrival) (came : List Arrival) (t k : ℕ) → (a.slot ≡ t → ⊥) →
     found (a ∷ came) t k ≡ found came t k
-other_slot a came t k ne = found_skip a came t k (and_left (a.slot == t) (a.cell.id.input == k) (ne_eqb a.slot t ne))
+unfolding found
+other_slot a came t k ne = grind (arith, common_steps, cond-false, and_left, a.slot, a.cell.id.input, ne_eqb)
 
 pub other_input : (a : Arrival) (came : List Arrival) (t k : ℕ) → (a.cell.id.input ≡ k → ⊥) →
     found (a ∷ came) t k ≡ found came t k
-other_input a came t k ne = grind (arith, common_steps, found_skip, and_right, a.slot, a.cell.id.input, ne_eqb)
+unfolding found
+other_input a came t k ne = grind (arith, common_steps, cond-false, and_right, a.slot, a.cell.id.input, ne_eqb)
 
 -- what holds of all arrivals at the slot and the input holds of what is found there
 pub all_found : (P : Cell → Type 0) (came : List Arrival) (t k : ℕ) →

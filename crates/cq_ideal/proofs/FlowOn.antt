@@ -62,8 +62,7 @@ module _ (limits : List (Option ℕ)) (ms : List Machine) (slot : ℕ) (traffic 
         ≡ filter (λ cell. whole_on.is_taken cell.id.packet) (flow_came i c j traffic)
     unfolding of_flow
     admitted_of_flow c j =
-        let all = each_slot (StandAt 0) (still_stand 0) limits old.marks traffic ran.admissions each_judged stand in
-        search (arith, rules, comes_at_input, filter_both, whole_on.are)
+        search (rules, comes_at_input, filter_both, whole_on.are, each_slot (StandAt 0), still_stand 0, each_judged)
 
     -- what leaves of a flow
     pub flow_on : (c j : ℕ) → KeepsLaws (machine_at ms j) → j < length old.state.lists → j < length old.state.ranks →
@@ -72,9 +71,8 @@ module _ (limits : List (Option ℕ)) (ms : List Machine) (slot : ℕ) (traffic 
         left_in_flow i c j (departures_of slot ran.gone) ≡ shown i c (slice_index_or old.state.lists j [])
         ++ filter (λ cell. whole_on.is_taken cell.id.packet) (flow_came i c j traffic)
     flow_on c j laws in_lists in_ranks stands are =
-        let p = passed ms j laws i c (admitted_in ran.admissions) slot old.state
-        (record { gone = ran.gone; after = ran.after.state }) (is_run_of limits ms slot traffic old ran is) in_lists
-        in_ranks stands (of_classes j are) in search (arith, rules, shown, append-nil, empty_at, admitted_of_flow)
+        let p = passed ms j laws i c _ slot old.state _ (is_run_of limits ms slot traffic old ran is) in
+        search (arith, rules, p, of_classes j are, shown, append-nil, empty_at, admitted_of_flow)
 
 -- ## The law
 

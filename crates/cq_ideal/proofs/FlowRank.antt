@@ -64,7 +64,6 @@ module _ (ms : List Machine) (j slot : ℕ) (laws : KeepsLaws (machine_at ms j))
       search (arith, rules, after_input_ok, stands_on, filled_from cells (input + 1) ranks xs)
   filled_from (Some cell ∷ cells) input ranks xs r h inside stands are =
       let one = one_filled cell input ranks xs inside stands are.0 in
-      let next = given_at ms ranks cell.output cell.class in
       let w = after_input_ok _ _ r (fits_ok _ (after_input (Some (with_key ranks input cell)) _) _ r h) in
-      let f = filled_from cells (input + 1) next _ w.0 w.1 (search (arith, rules)) one.0 are.1 in
+      let f = filled_from cells (input + 1) _ _ w.0 w.1 (search (arith, rules)) one.0 are.1 in
       search (arith, rules, append_assoc, shown, of_flow)

@@ -3,7 +3,7 @@
 -- cell of a class gets a rank no less than the floor, which becomes the floor, and no other class's floor falls. So
 -- the new cell is not more urgent than any waiting cell of its class, and it is put behind all of them: of each flow
 -- the list shows what it showed before, and then the new cell, if it is of the flow.
-use Rattle.cq_ideal.proofs.Terms.{common_steps, rules, ◌≡◌, ℕ, ◌+◌, ◌<◌, ◌≤◌, Bool, List, [], ◌∷◌, ◌++◌, length, map, arith, true, ⊎_elim, ◌&&◌, ◌==◌, AllByRecursion, filter, cond_both, ltb-true, eqb-true, cond-true, cond-false, cases_Bool, eq-eqb, and_parts, and_from, and_right, Cell, Queued, is_before, EachPair, put, Machine, KeepsLaws, all_put, append-nil, map-append, all_weaker}
+use Rattle.cq_ideal.proofs.Terms.{common_steps, rules, ◌≡◌, ℕ, ◌+◌, ◌<◌, ◌≤◌, Bool, List, [], ◌∷◌, ◌++◌, length, map, arith, ⊎_elim, ◌&&◌, ◌==◌, AllByRecursion, filter, cond_both, ltb-true, eqb-true, cond-true, cond-false, cases_Bool, eq-eqb, and_parts, and_from, and_right, Cell, Queued, is_before, EachPair, put, Machine, KeepsLaws, all_put, append-nil, map-append, all_weaker}
 use Rattle.cq_rank.proofs.Floors.{given_floor}
 use Rattle.cq_ideal.proofs.FlowPut.{NoLater, in_order_put, filter-put, filter-put_other}
 
@@ -73,8 +73,6 @@ module _ (m : Machine) (laws : KeepsLaws m) (state : List ℕ) (slot input : ℕ
     -- each flow's cells are those from before, and then the new one if it is of the flow
     pub shown-put : (i c j : ℕ) → n.cell.output ≡ j → shown i c (put n xs) ≡ shown i c xs ++ of_flow i c j (n.cell ∷ [])
     unfolding of_flow class_no_later
-    shown-put i c j here = ⊎_elim (λ k.
-        let behind = all_weaker (HasWaited m state slot input) (λ x. is_kind i c x ≡ true → NoLater x n)
-        (λ x w e. grind (arith, class_no_later x, eqb-true, and_parts)) xs stands.waited in
-        search (arith, rules, filter-put, map-append, and_from, eq-eqb, cond-true))
+    shown-put i c j here = ⊎_elim (λ k. search
+        (rules, filter-put, map-append, and_from, eq-eqb, cond-true, all_weaker, class_no_later, eqb-true, and_parts))
         (search (arith, rules, filter-put_other, append-nil, and_right, cond-false)) (cases_Bool (is_kind i c n))

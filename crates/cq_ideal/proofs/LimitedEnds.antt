@@ -1,7 +1,7 @@
 -- Where the run of the ideal switch ends, where outputs have limits: as many slots as are enough end with empty lists,
 -- so there is a least number of slots after which no cell is to come and none waits, and from there on the slots send
 -- nothing. A switch without limits is one with limits that refuses nothing, so its run ends where that one's does.
-use Rattle.cq_ideal.proofs.Terms.{rules, ◌≡◌, ℕ, ◌+◌, ◌-◌, ◌<◌, ◌≤◌, Bool, true, false, List, [], ◌++◌, length, Option, Result, Ok, Err, refl, sym, ap, ◌∙◌, subst, arith, get_or, common_steps, flat_map-append, IsOkAnd, position_or_len, range_with_len, cases_lt, append-nil, get_or-range_with_len, length-range_with_len, fails_before_first, passes_at_first, prefix_len-le-length, Arrival, Cell, end_of, enough, traffic_of, TagFault, Machine, Marked, NoLimits, marked, marks_down, IdealEnds, arriving_from, first_slots, is_over, slots_of_run, whole_ideal_run, IsEmptyIdeal, Ran, departures_of, departures_ran, empty_ideal, ideal_run, IdealState, LimitedIdealEnds, departures_limited, slots_of_limited_run, whole_limited_run, LimitedRan, empty_limited, limited_run, unlimited, refused_in, and_from, le-leb, list_all-from_AllPass, eq-eqb}
+use Rattle.cq_ideal.proofs.Terms.{rules, ◌≡◌, ℕ, ◌+◌, ◌-◌, ◌<◌, ◌≤◌, Bool, true, false, List, [], ◌++◌, length, Option, Result, Ok, Err, refl, sym, ap, ◌∙◌, subst, arith, common_steps, flat_map-append, IsOkAnd, position_or_len, range_with_len, cases_lt, append-nil, get_or-range_with_len, length-range_with_len, fails_before_first, passes_at_first, prefix_len-le-length, Arrival, Cell, end_of, enough, traffic_of, TagFault, Machine, Marked, NoLimits, marked, marks_down, IdealEnds, arriving_from, first_slots, is_over, slots_of_run, whole_ideal_run, IsEmptyIdeal, Ran, departures_of, departures_ran, empty_ideal, ideal_run, IdealState, LimitedIdealEnds, departures_limited, slots_of_limited_run, whole_limited_run, LimitedRan, empty_limited, limited_run, unlimited, refused_in, and_from, le-leb, list_all-from_AllPass, eq-eqb}
 use Rattle.cq_ideal.proofs.Ends.{all_slots, none_waits, over_from_test}
 use Rattle.cq_ideal.proofs.EnoughSlots.{no_more, limited_empty_at_end}
 use Rattle.cq_ideal.proofs.LimitedParts.{limited_going_on, limited_parts, limited_stays_empty}
@@ -11,10 +11,6 @@ use Rattle.cq_ideal.proofs.Parted.{arriving_length, arriving_parts, departures_a
 -- the run without what is said of limits
 abbrev pub state_ran : LimitedRan → Ran
 state_ran ran = record { gone = ran.gone; after = ran.after.state }
-
-ok_unlimited : (x : Result LimitedRan TagFault) (s : Marked IdealState) → IsOkAnd x (λ ran. ran.after ≡ s) →
-    IsOkAnd (unlimited x) (λ ran. ran.after ≡ s.state)
-ok_unlimited fault s e = grind (arith, common_steps)
 
 pub limited_test : (came : List Arrival) (n : ℕ) (x : Result LimitedRan TagFault) (s : Marked IdealState) →
     IsOkAnd x (λ ran. ran.after ≡ s) → end_of came ≤ n → IsEmptyIdeal s.state → is_over came n (unlimited x) ≡ true
@@ -51,11 +47,10 @@ module _ (limits : List (Option ℕ)) (ms : List Machine) (ports : ℕ) (ranks :
   pub limited_not_more : last ≤ enough came
   limited_not_more = grind (arith, common_steps, last_is, prefix_len-le-length, length-range_with_len)
 
-  range_at : (m : ℕ) → m < enough came → get_or (range_with_len 0 (enough came)) m 0 ≡ m
-  range_at m lt = let at = get_or-range_with_len 0 (enough came) m 0 lt in omega arith
-
   pub not_before : (m : ℕ) → m < last → over m ≡ false
-  not_before m lt = grind (arith, common_steps, last_is, limited_not_more, range_at m, fails_before_first over)
+  not_before m lt =
+      let at = get_or-range_with_len 0 (enough came) m 0 in
+      grind (arith, common_steps, last_is, limited_not_more, at, fails_before_first over)
 
   least : (m : ℕ) → over m ≡ true → last ≤ m
   least m is = grind (arith, common_steps, cases_lt m last, not_before m)
@@ -63,7 +58,7 @@ module _ (limits : List (Option ℕ)) (ms : List Machine) (ports : ℕ) (ranks :
   over_at_last : last < enough came → over last ≡ true
   over_at_last lt =
       let passes = passes_at_first over (range_with_len 0 (enough came)) 0 in
-      search (arith, rules, last_is, length-range_with_len, passes, range_at)
+      search (arith, rules, last_is, length-range_with_len, passes, get_or-range_with_len)
 
   pub run_all : run_to (enough came) ≡ limited_run limits ms 0 (traffic_of came) (empty_limited ports ranks)
   run_all = ap (λ l. limited_run limits ms 0 l (empty_limited ports ranks)) (all_slots came)
@@ -133,26 +128,19 @@ module _ (limits : List (Option ℕ)) (ms : List Machine) (ports : ℕ) (ranks :
   settled m (Ok ran) le is = search (arith, rules, limited_over_at_end ran is, more last (m - last) m ran)
   settled m (Err fault) le is = search (arith, rules, goes_on last (m - last) m)
 
-  faulty : (n : ℕ) (fault : TagFault) (x : Result LimitedRan TagFault) → run_to n ≡ Err fault → Settled n x →
-      x ≡ Err fault
-  faulty n fault x is same = grind (arith, common_steps)
-
   -- a fault in some slots is one of the whole run
   pub limited_whole_fault : (n : ℕ) (fault : TagFault) →
       limited_run limits ms 0 (first_slots came n) (empty_limited ports ranks) ≡ Err fault →
       whole_limited_run limits ms came (empty_limited ports ranks) ≡ Err fault
   unfolding whole_limited_run
   limited_whole_fault n fault is =
-      search (arith, rules, goes_on n (last - n) last, faulty n fault, settled n (run_to last), cases_lt n last)
+      search (arith, rules, goes_on n (last - n) last, settled n (run_to last), cases_lt n last)
 
   pub limited_same_sent : departures_limited (limited_run limits ms 0 (traffic_of came) (empty_limited ports ranks))
       ≡ departures_limited (whole_limited_run limits ms came (empty_limited ports ranks))
   unfolding whole_limited_run
-  limited_same_sent = sym (ap departures_limited run_all) ∙ by (run_to last) (settled _ _ limited_not_more refl)
-    where
-      by : (x : Result LimitedRan TagFault) → Settled (enough came) x →
-          departures_limited (run_to (enough came)) ≡ departures_limited x
-      by fault same = grind (arith, common_steps)
+  limited_same_sent =
+      search (arith, rules, common_steps, run_all, settled (enough came) (run_to last) limited_not_more refl)
 
 -- ## Without limits
 
@@ -193,7 +181,7 @@ module _ (ms : List Machine) (ports : ℕ) (ranks : List (List ℕ)) (came : Lis
 
   plain_after : (n : ℕ) (s : Marked IdealState) → IsOkAnd (limited n) (λ ran. ran.after ≡ s) →
       IsOkAnd (plain_run n) (λ ran. ran.after ≡ s.state)
-  plain_after n s e = grind (arith, common_steps, its_runs, ok_unlimited)
+  plain_after n s e = grind (arith, common_steps, its_runs n)
 
   plain_ends : (n : ℕ) (end : Marked IdealState) → LimitedIdealEnds [] ms came (empty_limited ports ranks) n end →
       IdealEnds ms came (empty_ideal ports ranks) n end.state
@@ -229,14 +217,12 @@ module _ (ms : List Machine) (ports : ℕ) (ranks : List (List ℕ)) (came : Lis
 
   pub found_end : (n : ℕ) (end : IdealState) → IdealEnds ms came (empty_ideal ports ranks) n end →
       slots_of_run ms came (empty_ideal ports ranks) ≡ n
-  found_end n end y = sym (slots_as_before [] ms ports ranks came no_limit)
-      ∙ limited_found_end [] ms ports ranks came n (marked (marks_down ports) end) (its_ends n end y)
+  found_end n end y = search (arith, rules, slots_as_before [] ms, no_limit, limited_found_end [] ms, its_ends n end y)
 
   -- what a run of more slots says of one of fewer
   pub fewer_slots : (m n : ℕ) (ran : Ran) → m ≤ n → plain_run n ≡ Ok ran → (first : Ran) × (plain_run m ≡ Ok first)
   fewer_slots m n ran le is =
-      let f = cut_at [] ms ports ranks came m n _ le (refusing_none n (Ok ran) is) in
-      (state_ran f.first, sym (its_runs m) ∙ ap unlimited f.ran_first)
+      grind (arith, common_steps, cut_at [] ms ports ranks came m n _ le (refusing_none n (Ok ran) is), its_runs m)
 
   pub whole_fault : (n : ℕ) (fault : TagFault) → plain_run n ≡ Err fault →
       whole_ideal_run ms came (empty_ideal ports ranks) ≡ Err fault

@@ -48,9 +48,8 @@ module _ (limits : List (Option ℕ)) (ms : List Machine) (ports : ℕ) (ranks :
   unfolding whole_limited_run
   late slot e le =
       let cut = cut_at limits ms ports ranks came slot slots ran (omega arith) whole in
-      let long = gone_long limits ms 0 (first_slots came slot) _ cut.first cut.ran_first in
+      let long = gone_long limits ms 0 _ _ cut.first cut.ran_first ∙ arriving_length came 0 slot in
       let more = gone_long limits ms slot _ _ cut.second cut.ran_second ∙ arriving_length came slot (slots - slot) in
-      let many = arriving_length came 0 slot in
       let here = one_of_waiting ms slot (admitted_in cut.second.admissions) cut.first.after.state (state_ran cut.second)
       (omega arith) (one_waits slot cut.first (omega arith) le cut.ran_first) (search (arith, rules, is_run_of)) in
       search (arith, rules, departures_append, slots_of-append (departures_of 0 cut.first.gone))

@@ -77,8 +77,7 @@ module _ (limits : List (Option ℕ)) (i : ℕ) where
       let by = its_marks limits marks cells a judged.0 in
       let rest = λ (n : ℕ). taken_or_refused n a.marks traffic admissions judged.1 in
       let one = step next (mark_at marks i) (mark_at a.marks i) (arrival_at cells i) (cells_at i traffic) in
-      rw (ap (λ (l : List (Option Cell)). arrival_at l i) by.1 ∙ admitted_at a.marks cells i)
-      (search (arith, rules, one, mark_stays, rest))
+      search (arith, rules, admitted_at, one, mark_stays, rest)
   taken_or_refused next marks traffic admissions judged are = absurd judged
 
   pub whole_packets : (marks : List Bool) (traffic : List (List (Option Cell))) (admissions : List Admission) →

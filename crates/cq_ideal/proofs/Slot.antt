@@ -140,7 +140,5 @@ module _ {M : List ℕ → Machine} {slot : ℕ} {cells : List (Option Cell)} {v
             arrived = rw lists (arrived_next (map M ranks.fixed) slot (admitted judged.marks cells) ranks.states r
                 taken.ranked queues.lists known.parts.arrived);
             limited_ok = judged_slot ∙ ap (with_admission (by_marks judged.marks cells)) ok;
-            spare = λ new within same_rooms after j inside.
-                let count = counted (map M v.fixed) slot (admitted judged.marks cells) v.state _ ok in
-                search (arith, rules, admitted_room, lists_are);
+            spare = search (arith, rules, admitted_room, lists_are, counted (map M v.fixed) slot _ v.state _ ok);
           }

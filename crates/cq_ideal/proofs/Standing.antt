@@ -1,7 +1,7 @@
 -- Each cell stands at the place of the input that its id names, in each slot of a run, and among the admitted ones
 -- too. So of the cells that are refused in a slot only the one at the place of an input is of that input, and it is
 -- refused where the mark is up.
-use Rattle.cq_ideal.proofs.Terms.{all_made, rules, ◌≡◌, ℕ, zero, suc, ◌+◌, ◌<◌, Bool, List, [], ◌∷◌, map, filter, Option, Some, None, refl, ap, ◌∙◌, arith, common_steps, ◌==◌, AllByRecursion, range_with_len, and_parts, eqb-true, cond-true, eq-eqb, filter-append, Cell, Arrival, arriving, arriving_at, enough, traffic_of, arrival_at, Admission, admitted, mark_at, refused, where_up, refused_in, AreJudged, most_ports}
+use Rattle.cq_ideal.proofs.Terms.{all_made, rules, ◌≡◌, ℕ, zero, suc, ◌+◌, ◌<◌, Bool, List, [], ◌∷◌, map, filter, Option, Some, None, refl, arith, common_steps, ◌==◌, AllByRecursion, range_with_len, and_parts, eqb-true, cond-true, eq-eqb, filter-append, Cell, Arrival, arriving, arriving_at, enough, traffic_of, arrival_at, Admission, admitted, mark_at, refused, where_up, refused_in, AreJudged, most_ports}
 use Rattle.cq_ideal.proofs.Admitted.{its_marks}
 use Rattle.cq_ideal.proofs.FlowFound.{cell_listed, listed}
 use Rattle.cq_ideal.proofs.Packets.{refused_here}
@@ -60,7 +60,6 @@ module _ (i : ℕ) where
   refused_are limits marks [] admissions judged at = grind (arith, common_steps)
   refused_are limits marks (cells ∷ traffic) [] judged at = absurd judged
   refused_are limits marks (cells ∷ traffic) (a ∷ admissions) judged at =
-      let both = filter-append (λ cell. cell.id.input == i) a.refused (refused_in admissions) in
-      let first = ap of_input (its_marks limits marks cells a judged.0).2
-      ∙ refused_at_place 0 i a.marks cells at.0 (omega arith) in
-      search (arith, rules, listed, refused_here, refused_are limits a.marks traffic admissions judged.1 at.1, where_up)
+      let is = its_marks limits marks cells a judged.0 in
+      let rest = refused_are limits a.marks traffic admissions judged.1 at.1 in
+      grind (arith, common_steps, filter-append, refused_at_place 0 i a.marks cells, listed, rest)

@@ -174,9 +174,8 @@ unfolding departures_in
 counted_sent ms slot cells old r same =
     let full = waiting-filled r.came old.lists in
     let sent = sent_of_waiting slot 0 (filled r.came old.lists) in
-    let left = left_of cells old r same in
     let long = filled_long r.came old.lists in
-    search (arith, rules, length-filled, length-map, left, long, count_to-cells, one_of_all (filled r.came old.lists))
+    search (arith, rules, length-filled, length-map, left_of cells old r same, long, count_to-cells, one_of_all)
 
 pub sends_ok : (P : Sent → Type 0) (ms : List Machine) (old : IdealState) (x : Result Ranking TagFault) (sent : Sent)
     → ideal_sends ms old x ≡ Ok sent → ((r : Ranking) → x ≡ Ok r → P (sent_by ms old r)) → P sent
