@@ -31,6 +31,7 @@ use std::alloc::{AllocError, Global};
 
 /// What `clap` finds in the words of a command: the subcommand of their form, with their values. It
 /// takes all such words, so the error is want of memory.
+#[tactic(auto, using(crate::proofs::Splitting::command_split))]
 pub fn split<'a>(alloc: Global, words: &'a [String]) -> Result<ArgMatches<'a>, Error>
     requires { is_some (command_for (map string_bytes words.now)) ≡ true }
     ensures found { IfOk result (λ matches. command_found (subcommand_rows_of matches)

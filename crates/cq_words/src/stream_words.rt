@@ -8,6 +8,7 @@ use crate::judge::is_value;
 
 /// The configuration of the words `stream CONFIG`, and None of any others. Such words are no command, and
 /// with `run` in place of `stream` they are that of the configuration.
+#[tactic(auto, using(crate::proofs::Streaming::not_two))]
 pub fn streamed(words: &[String]) -> Option<&str>
     ensures streamed { option_map (λ config. config.now) result ≡ words_streamed (map string_bytes words.now) }
     ensures other { IfSome result (λ _. command_for (map string_bytes words.now) ≡ None) }
