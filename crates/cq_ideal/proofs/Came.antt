@@ -19,9 +19,8 @@ pub came_from : (ms : List Machine) (slot i : ℕ) (cells : List (Option Cell)) 
     ranking ms slot i cells ranks ≡ Ok r → (k : ℕ) (q : Queued) → get_or r.came k None ≡ Some q →
     Came slot i cells k q
 came_from ms slot i [] ranks r h k q e = grind (arith, common_steps)
-came_from ms slot i cells ranks r h zero q e = search (arith, rules, after_input_ok, fits_ok, same_Some)
-came_from ms slot i (cell ∷ cells) ranks r h (suc k) q e =
-    search (arith, rules, after_input_ok, fits_ok, came_from ms slot (i + 1) cells)
+came_from ms slot i (cell ∷ cells) ranks r h k q e =
+    search (arith, rules, after_input_ok, fits_ok, same_Some, came_from ms slot (i + 1) cells)
 
 -- there are as many rank states as before
 pub ranks_kept : (ms : List Machine) (slot i : ℕ) (cells : List (Option Cell)) (ranks : List (List ℕ)) (r : Ranking) →
@@ -57,8 +56,7 @@ module _ (ms : List Machine) (slot : ℕ) (cells : List (Option Cell)) (ranks : 
       AllByRecursion P (put_all j came xs)
   all_put_all P j [] xs each all = all
   all_put_all P j (o ∷ came) xs each all =
-      let later = λ (ys : List Queued). all_put_all P j came ys (λ k p at. each (suc k) p at) in
-      grind (arith, common_steps, cond_both, all_put P, each zero, later)
+      grind (arith, common_steps, cond_both, all_put P, each zero, all_put_all P j came, λ (k : ℕ). each (suc k))
 
   arrived_filled : AllArrivedBefore (slot + 1) (filled r.came lists)
   arrived_filled j =

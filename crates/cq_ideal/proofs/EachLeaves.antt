@@ -32,8 +32,7 @@ first_of : (next : ℕ) (cells : List Cell) (cell : Cell) → AreOfPackets next 
     (cell.id.packet + 1 ≡ next)
     ⊎ ((first : Cell) × Has cells first × (first.id.packet ≡ cell.id.packet) × (is_first first ≡ true))
 first_of next [] cell are has = absurd has
-first_of next (c ∷ cells) cell are has =
-    grind (arith, common_steps, first_of (c.id.packet + 1) cells cell are.1)
+first_of next (c ∷ cells) cell are has = grind (arith, common_steps, first_of (c.id.packet + 1) cells cell are.1)
 
 -- they are for one output
 one_output : (came : List Arrival) → KeepTheirOutput came → (i : ℕ) (a b : Cell) → Has (came_at i came) a →

@@ -7,8 +7,7 @@ use Rattle.cq_ideal.proofs.Waiting.{waiting}
 pub none_waits : (lists : List (List Queued)) → All (λ cells. cells ≡ []) lists → waiting lists ≡ 0
 unfolding waiting
 none_waits [] all = refl
-none_waits (xs ∷ lists) all =
-    grind (arith, common_steps, all zero xs, none_waits lists (λ k d inside. all (suc k) d (omega arith)))
+none_waits (xs ∷ lists) all = grind (arith, common_steps, all zero xs, none_waits lists, λ (k : ℕ). all (suc k))
 
 pub nothing_left : (lists : List (List Queued)) → waiting lists ≡ 0 → All (λ cells. cells ≡ []) lists
 unfolding waiting

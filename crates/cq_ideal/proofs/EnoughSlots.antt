@@ -21,11 +21,9 @@ empties : (ms : List Machine) (traffic : List (List (Option Cell))) (slot e : �
 unfolding ideal_run come_count
 empties ms [] slot e s ran is quiet enough = grind (arith, common_steps, waiting, only_ok)
 empties ms (cells ∷ traffic) slot zero s ran is quiet enough =
-    let p = first_slot ms slot cells traffic s ran is in
-    search (arith, rules, (counted ms slot cells s p.sent p.ran_slot).fewer, empties ms traffic (slot + 1) zero)
+    search (arith, rules, first_slot, counted ms slot cells s, empties ms traffic (slot + 1) zero)
 empties ms (cells ∷ traffic) slot (suc e) s ran is quiet enough =
-    let p = first_slot ms slot cells traffic s ran is in
-    search (arith, rules, (counted ms slot cells s p.sent p.ran_slot).fewer, empties ms traffic (slot + 1) e)
+    search (arith, rules, first_slot, counted ms slot cells s, empties ms traffic (slot + 1) e)
 
 -- ## What is admitted
 

@@ -1,6 +1,6 @@
 -- A whole run at one output. What a list shows of a flow, and then what is still to come of it, is what the output
 -- still sends of it, and then what its list shows at the end: slot by slot. What is no port sends nothing.
-use Rattle.cq_ideal.proofs.Terms.{rules, ◌≡◌, ℕ, zero, suc, ◌+◌, ◌<◌, ◌≤◌, List, [], ◌∷◌, ◌++◌, length, Option, None, Ok, refl, arith, common_steps, slice_index_or, AllByRecursion, filter, eq-eqb, ne_eqb, and_left, cond-false, append-nil, append_assoc, map-append, get_or_past, filter-append, Cell, Departure, Queued, Machine, KeepsLaws, machine_at, IdealState, Sent, ideal_slot, departures_from, departures_in, Ran, ideal_run, departures_of, leaves_in_flow, left_in_flow}
+use Rattle.cq_ideal.proofs.Terms.{rules, ◌≡◌, ℕ, ◌+◌, ◌<◌, ◌≤◌, List, [], ◌∷◌, ◌++◌, length, Option, None, Ok, refl, arith, common_steps, slice_index_or, AllByRecursion, filter, eq-eqb, ne_eqb, and_left, cond-false, append-nil, append_assoc, map-append, get_or_past, filter-append, Cell, Departure, Queued, Machine, KeepsLaws, machine_at, IdealState, Sent, ideal_slot, departures_from, departures_in, Ran, ideal_run, departures_of, leaves_in_flow, left_in_flow}
 use Rattle.cq_ideal.proofs.FlowStands.{Stands, is_kind, shown, of_flow}
 use Rattle.cq_ideal.proofs.FlowRank.{present, only_ok, AreOfClasses}
 use Rattle.cq_ideal.proofs.FlowSlot.{listed, served, slot_ports}
@@ -16,9 +16,8 @@ module _ (i c j slot : ℕ) where
   left_from : (gone : List (Option Queued)) (a k : ℕ) → a + k ≡ j →
       left_in_flow i c j (departures_from slot a gone) ≡ shown i c (listed (slice_index_or gone k None))
   left_from [] a k e = refl
-  left_from gone a zero e = grind (arith, common_steps, none_left, eq-eqb, is_kind)
-  left_from (o ∷ gone) a (suc k) e =
-      grind (arith, common_steps, ne_eqb, and_left, is_kind, cond-false, left_from gone (a + 1) k)
+  left_from (o ∷ gone) a k e =
+      grind (arith, common_steps, none_left, eq-eqb, ne_eqb, and_left, is_kind, cond-false, left_from gone (a + 1))
 
   left_later : (gone : List (Option Queued)) (ds : List Departure) →
       left_in_flow i c j (departures_in slot gone ++ ds)
@@ -63,8 +62,7 @@ module _ (ms : List Machine) (j : ℕ) (laws : KeepsLaws (machine_at ms j)) (i c
       shown i c (slice_index_or state.lists j []) ++ flow_came i c j traffic
       ≡ left_in_flow i c j (departures_of slot ran.gone) ++ shown i c (slice_index_or ran.after.lists j [])
   unfolding ideal_run flow_came departures_of
-  passed [] slot state ran h in_lists in_ranks stands are =
-      cc (append-nil (shown i c (slice_index_or state.lists j [])), only_ok refl h)
+  passed [] slot state ran h in_lists in_ranks stands are = grind (arith, common_steps, append-nil, only_ok)
   passed (cells ∷ traffic) slot state ran h in_lists in_ranks stands are =
       let p = first_slot ms slot cells traffic state ran h in
       let s = served ms j slot laws i c cells state p.sent p.ran_slot in_lists in_ranks stands are.0 in

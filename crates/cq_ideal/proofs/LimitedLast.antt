@@ -28,8 +28,7 @@ one_of_waiting : (ms : List Machine) (slot : ℕ) (traffic : List (List (Option 
 unfolding ideal_run departures_of departures_in
 one_of_waiting ms slot [] s ran one some is = grind (arith, common_steps, only_ok)
 one_of_waiting ms slot (cells ∷ traffic) s ran one some is =
-    let p = first_slot ms slot cells traffic s ran is in
-    search (arith, rules, slots_of-append, slots_in slot 0, (counted ms slot cells s p.sent p.ran_slot).waits)
+    search (arith, rules, slots_of-append, slots_in slot 0, first_slot, counted ms slot cells s)
 
 -- ## The whole run
 

@@ -2,7 +2,7 @@
 -- what became of it becomes of all its cells. Where the cells are those of packets of rising numbers, the admitted
 -- ones are by induction all cells of some of the packets, and the refused ones all cells of the others: the packet
 -- that goes on is admitted where the mark is down, and for the rest the first cell of the next one decides.
-use Rattle.cq_ideal.proofs.Terms.{rules, ◌≡◌, ℕ, zero, suc, ◌+◌, ◌≤◌, Bool, false, cond, not, List, [], ◌∷◌, filter, Option, Some, None, refl, ap, ◌∙◌, ⊎_elim, arith, common_steps, nat_lt, cons_option, cond-false, lt-ltb, le-ltb, Cell, arrival_at, Admission, admitted_in, is_first, mark_after, held_after, marks_after, mark_at, unless, where_up, AreJudged, AreOfPackets, AreWholePackets, cells_at}
+use Rattle.cq_ideal.proofs.Terms.{zero, suc, rules, ◌≡◌, ℕ, ◌+◌, ◌≤◌, Bool, false, cond, not, List, [], ◌∷◌, filter, Option, Some, None, refl, ap, ⊎_elim, arith, common_steps, nat_lt, cons_option, cond-false, lt-ltb, le-ltb, Cell, arrival_at, Admission, admitted_in, is_first, mark_after, held_after, marks_after, mark_at, unless, where_up, AreJudged, AreOfPackets, AreWholePackets, cells_at}
 use Rattle.cq_ideal.proofs.Admitted.{admitted_at, its_marks}
 
 -- ## The mark of one input
@@ -44,16 +44,11 @@ step next mark up None came taken refused same are rest = grind (arith, common_s
 step next mark up (Some cell) came taken refused same are rest =
     let r = rest (cell.id.packet + 1) are.1 in
     let f = r.is_taken in
-    let all : cons_option (unless up (Some cell)) taken
-    ≡ filter (λ c. f c.id.packet) (cell ∷ came) = grind (arith, common_steps) in
-    let none : cons_option (where_up up (Some cell)) refused
-    ≡ filter (λ c. not (f c.id.packet)) (cell ∷ came) = search (arith, rules, common_steps) in
-    ⊎_elim (λ on. search (arith, rules)) (λ new. let g : ℕ → Bool = λ n. cond (nat_lt n next) (not mark) (f n) in
-    record {
-      is_taken = g;
+    ⊎_elim (λ on. search (arith, rules)) (λ new. record {
+      is_taken = λ n. cond (nat_lt n next) (not mark) (f n);
       before = λ packet e. ap (λ (b : Bool). cond b (not mark) (f packet)) (lt-ltb packet next (omega arith));
-      are = all ∙ beyond (λ b. b) (not mark) f next cell came new.0 are.1;
-      others = none ∙ beyond not (not mark) f next cell came new.0 are.1;
+      are = grind (arith, common_steps, beyond (λ b. b) (not mark) f next cell came new.0 are.1);
+      others = grind (arith, common_steps, beyond not (not mark) f next cell came new.0 are.1);
     }) are.0
 
 -- ## Slot by slot

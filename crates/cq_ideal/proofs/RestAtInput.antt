@@ -57,8 +57,7 @@ is_shown i inside came t =
 pub comes_shown : (i : ℕ) (came : List Arrival) → IsShown came i → (from slots : ℕ) → RiseByInput came →
     end_of came ≤ from + slots → cells_at i (arriving_from came from slots) ≡ cells_of (rest_of from (line_at i came))
 unfolding arriving_from found
-comes_shown i came shown from zero rise all =
-    grind (arith, common_steps, all_past i from came, before_end came, all_weaker)
+comes_shown i came shown from zero rise all = grind (arith, common_steps, all_past i, before_end came, all_weaker)
 comes_shown i came shown from (suc n) rise all =
     search (arith, rules, found_first, listed, cell_listed, comes_shown i came shown (from + 1) n rise)
 

@@ -1,7 +1,7 @@
 -- Slots in which nothing waits and nothing comes. Such a slot sends nothing, and only tells each machine that its
 -- output was idle. A machine that keeps the laws is not changed by a second idle slot, so that many such slots do
 -- what one does.
-use Rattle.cq_ideal.proofs.Terms.{rules, ◌≡◌, ℕ, zero, suc, ◌+◌, ◌-◌, ◌<◌, ◌≤◌, List, [], length, map, get_or, set, drop, slice_get, replicate, Option, None, Ok, refl, sym, ap, arith, common_steps, ext_get_or, get_or-map, length-replicate, no_arrivals, Queued, KeepsLaws, Machine, first_come, machine_at, told, IdealSwitch, IsEmptyIdeal, empty_ideal, ideal_run, nothing_sent, IdealState, fronts, ideal_slot, rests, FitTogether, QueuesView, RanksView, idled, state_of, after_input, ranking, most_ports}
+use Rattle.cq_ideal.proofs.Terms.{cases_lt, rules, ◌≡◌, ℕ, zero, suc, ◌+◌, ◌-◌, ◌<◌, ◌≤◌, List, [], length, map, get_or, set, drop, slice_get, replicate, Option, None, Ok, refl, sym, ap, arith, common_steps, ext_get_or, get_or-map, length-replicate, no_arrivals, Queued, KeepsLaws, Machine, first_come, machine_at, told, IdealSwitch, IsEmptyIdeal, empty_ideal, ideal_run, nothing_sent, IdealState, fronts, ideal_slot, rests, FitTogether, QueuesView, RanksView, idled, state_of, after_input, ranking, most_ports}
 use Rattle.cq_ideal.proofs.Parted.{next_slot}
 use Rattle.cq_ideal.proofs.Changed.{map-replicate, same_at, at_end, at_place, changed_to, next_place}
 use Rattle.cq_ideal.proofs.Sending.{length-told, told_at}
@@ -45,8 +45,7 @@ module _ (ms : List Machine) (n : ℕ) where
       ≡ Ok (nothing_sent count n (empty_ideal n rested)))
   unfolding ideal_run
   idle_run zero slot ranks = (ranks, refl)
-  idle_run (suc count) slot ranks =
-      let rest = idle_run count (slot + 1) (idled ms n ranks) in search (arith, rules, next_slot, quiet_slot)
+  idle_run (suc count) slot ranks = search (rules, next_slot, quiet_slot, idle_run count (slot + 1) (idled ms n ranks))
 
   -- so many slots are as one, where a second one changes nothing
   pub rested_run : (count slot : ℕ) (ranks rested : List (List ℕ)) → 0 < count → rested ≡ idled ms n ranks →
@@ -55,9 +54,8 @@ module _ (ms : List Machine) (n : ℕ) where
       ≡ Ok (nothing_sent count n (empty_ideal n rested))
   unfolding ideal_run
   rested_run zero slot ranks rested some is again = absurd (omega arith)
-  rested_run (suc zero) slot ranks rested some is again = search (arith, rules, next_slot, quiet_slot)
-  rested_run (suc (suc count)) slot ranks rested some is again =
-      search (arith, rules, next_slot, quiet_slot, rested_run (suc count) (slot + 1) rested rested)
+  rested_run (suc count) slot ranks rested some is again =
+      search (arith, rules, next_slot, quiet_slot, cases_lt 0 count, rested_run count (slot + 1) rested rested)
 
 -- ## The machines
 

@@ -85,10 +85,7 @@ waiting-filled : (came : List (Option Queued)) (lists : List (List Queued)) →
     (waiting lists ≤ waiting (filled came lists)) × (waiting (filled came lists) ≤ waiting lists + count_here came)
 unfolding cell_here
 waiting-filled [] lists = grind (arith, common_steps, filled_none lists)
-waiting-filled (None ∷ came) lists = search (arith, rules, filled_next, waiting-filled came)
-waiting-filled (Some q ∷ came) lists =
-    let here = waiting-set lists q.cell.output (put q (list_at lists q.cell.output)) in
-    search (arith, rules, filled_next, here, length_put, waiting-filled came)
+waiting-filled (o ∷ came) lists = search (arith, rules, filled_next, waiting-set, length_put, waiting-filled came)
 
 -- what is sent of the lists, and what is left of them: less, where a cell waits
 sent_of_waiting : (slot j : ℕ) (lists : List (List Queued)) →

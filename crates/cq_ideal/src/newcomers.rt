@@ -48,6 +48,7 @@ impl Newcomers {
     }
 
     /// The places of so many inputs are to be filled. No cell stands behind them.
+    #[tactic(auto, using(crate::proofs::Changed::none_used))]
     pub(crate) fn begin(&mut self, inputs: u16)
         ensures long { length self.new ≡ most_ports }
         ensures beyond { (k : ℕ) → inputs ≤ k → slice_index_or self.new k None ≡ None }

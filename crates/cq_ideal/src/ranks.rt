@@ -47,7 +47,7 @@ fn tell_idle<R: Rank>(rank: &mut R)
 }
 
 // The numbers of a machine's state. The error is want of memory.
-#[tactic(auto, using(crate::proofs::Changed::item_steps))]
+#[tactic(auto, using(crate::proofs::Changed::list_steps))]
 fn numbers_of<R: Rank>(alloc: Global, rank: &R) -> Result<Sequence<u128>, NoMemory>
     ensures { IfOk result (λ numbers. numbers ≡ R.state rank.now) }
 {
@@ -60,7 +60,7 @@ fn numbers_of<R: Rank>(alloc: Global, rank: &R) -> Result<Sequence<u128>, NoMemo
 }
 
 // These become the numbers of a machine's state.
-#[tactic(auto, using(crate::proofs::Changed::put_next, crate::proofs::Changed::at_end, crate::proofs::Changed::item_steps))]
+#[tactic(auto, using(crate::proofs::Changed::put_next, crate::proofs::Changed::at_end, crate::proofs::Changed::list_steps))]
 fn put_numbers<R: Rank>(rank: &mut R, numbers: &[u128])
     requires { length numbers.now ≡ (R.machine (R.fixed rank.old)).size }
     ensures fixed { R.fixed rank.new ≡ R.fixed rank.old }
@@ -100,6 +100,7 @@ impl<R: Rank> Ranks<R> {
     }
 
     /// The numbers of the state of each machine, in order of output. The error is want of memory.
+    #[tactic(auto, using(crate::proofs::Changed::list_steps))]
     pub fn numbers(&self, alloc: Global) -> Result<Sequence<Sequence<u128>>, NoMemory>
         requires { length self.now.fixed ≤ most_ports }
         ensures { IfOk result (λ states. states ≡ self.now.states) }

@@ -13,7 +13,6 @@ use cq_rank::Rank;
 ///
 /// The error is the first rank, in order of input, that does not fit 128 bits. Then nothing is counted, and it is told
 /// neither what stands in `came` nor in which states the machines are.
-#[tactic(auto, using(crate::proofs::Changed::item_steps))]
 pub fn take_in<R: Rank>(
     ranks: &mut Ranks<R>,
     limiter: &mut Limiter,
