@@ -68,8 +68,7 @@ list_is : (f : Fabric) → IsFabric f → (j : ℕ) → list_of (ideal_of f).lis
 unfolding ideal_of
 list_is f fabric j = ⊎_elim (λ inside. grind (arith, common_steps, get_or-map-range_with_len)) (λ past.
     -- there are none for what is no output
-    let none = none_had (cells_for j f) (λ c h.
-    search (arith, rules, from_cells j f c h, fabric.outputs, get_or_past)) in
+    let none = none_had (cells_for j f) (search (arith, rules, from_cells j f, fabric.outputs, get_or_past)) in
     grind (arith, none, length-map-range_with_len, get_or_past (ideal_of f).lists j [])) (cases_lt j (length f.inputs))
 
 pub agrees_of : (slot : ℕ) (f : Fabric) → IsSoundFabric slot f → Agrees slot f (ideal_of f)

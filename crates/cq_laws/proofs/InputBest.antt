@@ -1,6 +1,6 @@
 -- A run with input-best matchings is a run with stable ones, for each input-best matching is stable. A whole run is a
 -- whole one too: the records tell which matchings were chosen, so no run of theirs with stable ones is over sooner.
-use Rattle.cq_laws.proofs.Terms.{common_steps, arith, ℕ, List, Option, rules, ◌+◌, [], ◌∷◌, Arrival, Cell, TagFault, Machine, Marked, IsStable, IsInputBest, Fabric, IsEmptyFabric, SlotRecord, FabricSlot, IsFault, LimitedRecord, LimitedFabricSlot, IsLimitedFault, AreAlso, RunBy, StopBy, WholeBy, AfterBy}
+use Rattle.cq_laws.proofs.Terms.{common_steps, arith, ℕ, List, Option, rules, ◌+◌, ◌∷◌, Arrival, Cell, TagFault, Machine, Marked, IsStable, IsInputBest, Fabric, IsEmptyFabric, SlotRecord, FabricSlot, IsFault, LimitedRecord, LimitedFabricSlot, IsLimitedFault, AreAlso, RunBy, StopBy, WholeBy, AfterBy}
 use Rattle.cq_laws.proofs.Parted.{ends_with}
 
 -- ## Where each slot of one kind is one of another, so are runs
@@ -26,8 +26,7 @@ module _ {S R : Type 0} (Step Step' : ℕ → List (Option Cell) → S → R →
         RunBy Step slot traffic f rs g → RunBy Step' slot traffic f' rs g' → RunBy Step slot traffic f' rs g'
     same_kind slot (cells ∷ traffic) f f' g g' (r ∷ rs) x y =
         search (rules, told slot cells f f' x.0 y.0 r x.1 y.1, same_kind (slot + 1) traffic x.0 y.0 g g' rs x.2 y.2)
-    same_kind slot [] f f' g g' [] x y = y
-    same_kind slot traffic f f' g g' rs x y = absurd x
+    same_kind slot traffic f f' g g' rs x y = grind (arith, common_steps)
 
     pub each_whole : (IsEmpty : S → Type 0) (came : List Arrival) (start end : S) (rs : List R) →
         WholeBy Step IsEmpty came start rs end → WholeBy Step' IsEmpty came start rs end

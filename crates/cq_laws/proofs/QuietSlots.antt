@@ -92,9 +92,8 @@ module _ (ms : List Machine) (n : ℕ) where
   pub adds_nothing : (count slot : ℕ) (ranks : List (List ℕ)) → AddNothing slot (quiet_slots ms count slot n ranks)
   unfolding departures_of departures_in transfers_of_run quiet_slot
   adds_nothing zero slot ranks = search rules
-  adds_nothing (suc count) slot ranks =
-      let rest = adds_nothing count (slot + 1) (idled ms n ranks) in
-      search (arith, rules, quiet_transfers ms slot n ranks, quiet_figures ms slot n ranks, no_departures, rest)
+  adds_nothing (suc count) slot ranks = grind
+      (arith, common_steps, quiet_transfers ms slot n, quiet_figures ms slot n, no_departures, adds_nothing count)
 
 -- ## Machines that keep the laws are not changed by a second idle slot: many quiet slots are one
 
@@ -104,8 +103,7 @@ module _ (ms : List Machine) (n : ℕ) where
 
   idled_twice : (ranks : List (List ℕ)) → KeepLaws ms ranks → idled ms n (idled ms n ranks) ≡ idled ms n ranks
   idled_twice ranks keep =
-      let once = idled ms n ranks in
-      search (arith, rules, ext_get_or [] (idled ms n once) once, length-idle, idle_at, keep.laws, keep.sized)
+      search (arith, rules, ext_get_or [] (idled ms n (idled ms n ranks)), length-idle, idle_at, keep.laws, keep.sized)
 
   pub idled_once : (count : ℕ) (ranks : List (List ℕ)) → KeepLaws ms ranks →
       idled_for ms (count + 1) n ranks ≡ idled ms n ranks

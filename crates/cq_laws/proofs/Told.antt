@@ -1,7 +1,7 @@
 -- The transfers of a phase tell its matching. They stand in the order of the inputs, at most one each, so two lists
 -- of them that are equal are equal input by input. And a partner in a matching is offered, so its input has a first
 -- cell for it, and that is noted.
-use Rattle.cq_laws.proofs.Terms.{rules, ◌≡◌, ℕ, zero, suc, ◌+◌, ◌<◌, ◌≤◌, List, ◌∷◌, length, Option, None, Some, sym, ◌∙◌, arith, common_steps, filter_map, range_with_len, cases_lt, ext_get_or, list_of, orders_of, noted, transfers_of, partner_of, Transfer, Queued, Partners, IsStable}
+use Rattle.cq_laws.proofs.Terms.{rules, ◌≡◌, ℕ, zero, suc, ◌+◌, ◌<◌, ◌≤◌, List, ◌∷◌, length, Option, None, Some, arith, common_steps, filter_map, range_with_len, cases_lt, ext_get_or, list_of, orders_of, noted, transfers_of, partner_of, Transfer, Queued, Partners, IsStable}
 use Rattle.cq_laws.proofs.OneRun.{offer_of}
 
 -- what a function notes of an input is a transfer of it
@@ -28,7 +28,6 @@ pub transfers_tell : (lists : List (List Queued)) (m n : Partners) (slot phase :
     IsStable (orders_of lists) n → transfers_of m lists slot phase ≡ transfers_of n lists slot phase → m ≡ n
 unfolding transfers_of
 transfers_tell lists m n slot phase stable_m stable_n e =
-    let size = stable_m.matching.size ∙ sym stable_n.matching.size in
     let notes : Partners → ℕ → Option Transfer = λ p i. noted slot phase i (list_of lists i) (partner_of p i) in
     let own : (p : Partners) → OwnInput (notes p) = search (arith, rules) in
     search (arith, rules, ext_get_or None m n, offer_of, one_by_one (notes m) (notes n) (own m) (own n) 0 (length m))
