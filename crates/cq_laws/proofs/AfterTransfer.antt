@@ -101,8 +101,7 @@ module _ (old new : Fabric) (m : Partners) (fabric : IsFabric old) (order : List
   pub least_buffered : HasSlack 0 old → (j : ℕ) (c : Queued) → IsMostUrgentFor old j c → IsAmong c (buffer new j)
   least_buffered slack j c least = ⊎_elim (λ w.
       let at = stands_at (input new w.0) c w.1 in
-      let more = slack_risen 0 slack w.0 at.0 c at.1 in
-      search (arith, rules, cushion_has, least.least, has_before)) (λ b. b) (has_after j c least.there)
+      search (arith, rules, slack_risen 0 slack w.0 at.0, cushion_has, has_before)) (λ b. b) (has_after j c least.there)
 
   -- ## What it keeps
 

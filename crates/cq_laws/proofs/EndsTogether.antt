@@ -94,8 +94,7 @@ module _ (ms : List Machine) (ports class_count : ℕ) (ranks : List (List ℕ))
   fewer : (m : ℕ) (s : Fabric) (ss : List SlotRecord) → m ≤ enough came →
       FabricRun IsInputBest ms 0 (first_slots came m) (empty_fabric ports ranks) ss s →
       Beside ms ports class_count ranks came m ss s
-  fewer m s ss le x = beside ms ports class_count ranks came m ss s
-      (fewer_fit (AreForPorts ports class_count) came m (enough came) le (rw (all_slots came) fit))
+  fewer m s ss le x = beside ms ports class_count ranks came m ss s (search (arith, rules, fewer_fit, all_slots))
       ((stable_too ms).run 0 (first_slots came m) (empty_fabric ports ranks) s ss x)
 
   -- the end of the ideal switch
@@ -150,5 +149,4 @@ module _ (ms : List Machine) (ports class_count : ℕ) (ranks : List (List ℕ))
   begins_whole =
       let both = sym (take-append-drop n rs) ∙ ap (λ (l : List SlotRecord). take n rs ++ l) quiet in
       let sent = departures_on (take n rs) idle 0 n (omega (arith, cut)) in
-      let moved = transfers_both (take n rs) idle in
-      search (arith, rules, is_whole, sent, moved, adds_nothing, append-nil, figures_fold, fold-append)
+      search (arith, rules, transfers_both, is_whole, adds_nothing, append-nil, figures_fold, fold-append)
