@@ -1,5 +1,5 @@
 //! The top call that reads ahead. It is the one public function of this crate that needs `Wait`.
-ghost use Rattle.std.specs.Prelude.{◌≡◌, ◌≢◌, None, Some, IfSome, map, string_bytes};
+ghost use Rattle.std.specs.Prelude.{◌≡◌, ◌≢◌, ◌↔◌, None, Some, IfSome, map, string_bytes};
 ghost use Rattle.cq_run.specs.Terms.{Fails, FailsTaking, Reads, Writes, Closed, as_run, command_for, Emulates, Ahead, pace_of, Plan, known_by, Reader, verdict, IsDone, world, taken_by, EndsIn, WhereHalted, Answers, StatusCauses};
 
 use crate::judge::run_ahead;
@@ -60,8 +60,7 @@ where
         (world F.space O.taken O.faults files.new out.new)) }
 
     // Also over files that tell nothing.
-    ensures no_command { command_for (as_run (map string_bytes words.now)) ≡ None → result ≡ Status.Words }
-    ensures words_only { result ≡ Status.Words → command_for (as_run (map string_bytes words.now)) ≡ None }
+    ensures no_command { (command_for (as_run (map string_bytes words.now)) ≡ None) ↔ (result ≡ Status.Words) }
     // No writing is begun, as far as files tell that.
     ensures unbegun { result ≢ Status.Done → result ≢ Status.WriteFault → F.unbegun files.old files.new }
     // No name is open, whatever files tell.

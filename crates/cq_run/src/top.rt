@@ -1,5 +1,5 @@
 //! The top call.
-ghost use Rattle.std.specs.Prelude.{◌≡◌, ◌≢◌, None, Some, IfSome, map, string_bytes};
+ghost use Rattle.std.specs.Prelude.{◌≡◌, ◌≢◌, ◌↔◌, None, Some, IfSome, map, string_bytes};
 ghost use Rattle.cq_run.specs.Terms.{Fails, FailsTaking, Reads, Writes, Closed, command_for, Emulates, InTurn, Plan, IsWithinRange, known_by, Reader, verdict, IsDone, world, taken_by, EndsIn, WhereHalted, status_of, Tells, Answers, StatusCauses};
 
 use crate::judge::judge;
@@ -66,8 +66,7 @@ pub fn switch_top<R: Threads + Sync, F: Files, O: Sink, E: Sink, G: Gate>(
         (world F.space O.taken O.faults files.new out.new)) }
 
     // Also over files that tell nothing.
-    ensures no_command { command_for (map string_bytes words.now) ≡ None → result ≡ Status.Words }
-    ensures words_only { result ≡ Status.Words → command_for (map string_bytes words.now) ≡ None }
+    ensures no_command { (command_for (map string_bytes words.now) ≡ None) ↔ (result ≡ Status.Words) }
     // No writing is begun, as far as files tell that.
     ensures unbegun { result ≢ Status.Done → result ≢ Status.WriteFault → F.unbegun files.old files.new }
     // No name is open, whatever files tell.

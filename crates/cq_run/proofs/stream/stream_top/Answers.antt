@@ -1,5 +1,5 @@
 use Rattle.cq_run.proofs.Terms.{map, string_bytes, Option, Some, Command, Run, Ahead}
-use Rattle.cq_run.proofs.Ends.{causes_at, emulated_at, halted_so, only_words, words_end}
+use Rattle.cq_run.proofs.Ends.{causes_at, emulated_at, halted_so, words_end}
 use Rattle.cq_run.proofs.TextRead.{from_front}
 use Rattle.cq_run.proofs.Within.{others, streams}
 use Rattle.cq_run.proofs.stream.stream_top.Goals as goal
@@ -29,7 +29,6 @@ returns-in-Some g c =
       causes = rw (e.0, e.1) (λ r. causes_at Ahead r _ _ _ command _ _ _ is (ends r) runs);
       headline = rw (e.0, runs) (λ r. emulated_at Ahead r _ _ _ command _ _ _ is (ends r));
       no_command = rw (e.0, runs) (words_end Ahead from_front _ _ _ command _ _ _ is (ends from_front));
-      words_only = rw (e.0, runs) (only_words Ahead from_front _ _ _ command _ _ _ is (ends from_front));
       unbegun = halted_so _ is c.stream-end.ensures.unbegun;
       closed = c.stream-end.ensures.closed;
     }

@@ -1,5 +1,5 @@
 use Rattle.cq_run.proofs.Terms.{arith, rules, refl, map, string_bytes, command_for, InTurn}
-use Rattle.cq_run.proofs.Ends.{causes_at, emulated_at, halted_so, only_words, words_end}
+use Rattle.cq_run.proofs.Ends.{causes_at, emulated_at, halted_so, words_end}
 use Rattle.cq_run.proofs.TextRead.{from_front}
 use Rattle.cq_run.proofs.top.switch_top.Goals as goal
 
@@ -13,7 +13,6 @@ returns g c =
       causes = λ r. causes_at _ r _ _ _ _ _ _ _ is (ends r) refl;
       headline = λ r. emulated_at InTurn r _ _ _ command _ _ _ is (ends r);
       no_command = words_end InTurn from_front _ _ _ command _ _ _ is (ends from_front);
-      words_only = only_words InTurn from_front _ _ _ command _ _ _ is (ends from_front);
       unbegun = halted_so _ is c.run-end.ensures.unbegun;
       closed = c.run-end.ensures.closed;
     }
