@@ -1,6 +1,6 @@
--- One judgement after another. Where the first ends without an answer, so do both; where it has one, both end as the
--- second does. A name that the second is to read is to be read by both, since the first comes to the same without it,
--- or misses it. First, the count of faults where an answer tells of none, and facts of told contents.
+-- One judgement after another. Where the first ends without an answer, so do both; where it has one, the second is left,
+-- and what ends that ends both. A name that the second is to read is to be read by both, since the first comes to the
+-- same without it, or misses it. First, the count of faults where an answer tells of none, and facts of told contents.
 use Rattle.cq_run.proofs.Terms.{rules, arith, ◌≡◌, ◌∙◌, ◌⊎◌, ℕ, List, ap, Option, None, Some, IfSome, Result, Ok, Err, common_steps, Contents, Space, Closed, Mode, Refusal, Missing, Halt, ◌>>=◌, IsHaltOf, Judges, InTurn, Pace, Ahead, Uncounted, AnyName, Call, Fails, Lasts}
 use Rattle.std.specs.FinMap.{remove}
 use Rattle.cq_run.proofs.Stays.{Stays}
@@ -44,33 +44,33 @@ pub record ComesTo {B : Type 0} (whole rest : Contents → Result B Refusal) (m 
   pub without : (name : List ℕ) →
       (whole (remove m name) ≡ rest (remove m name)) ⊎ (whole (remove m name) ≡ Err (Missing name))
 
-pub comes_to_itself : {B : Type 0} (whole : Contents → Result B Refusal) (told : Option Contents) →
-    IfSome told (ComesTo whole whole)
-comes_to_itself whole told = grind (arith, common_steps)
+-- what is known at a moment of judging: all that was judged so far was accepted. No fault was counted, and of the
+-- contents, which are as before, the whole comes to what is left
+pub record Stands {A : Type 0} (whole rest : Contents → Result A Refusal) (old now : Space) : Type 0 where
+  pub comes : IfSome old.told (ComesTo whole rest)
+  pub told : now.told ≡ old.told
+  pub uncounted : now.faults ≡ old.faults
 
--- once the first is accepted, what comes behind it is left
-pub goes_on : {A B : Type 0} (whole : Contents → Result B Refusal) (j : Contents → Result A Refusal)
-    (f : A → Contents → Result B Refusal) (told : Option Contents) (x : A) → Stays j → IfSome told (λ m. j m ≡ Ok x) →
-    IfSome told (ComesTo whole (λ (m : Contents). j m >>= (λ x. f x m))) → IfSome told (ComesTo whole (f x))
-unfolding Stays
-goes_on whole j f None x s e h = tt
-goes_on {A} {B} whole j f (Some m) x s e h = record {
-  same = h.same ∙ ap (λ (r : Result A Refusal). r >>= (λ (z : A). f z m)) e;
-  without = search (arith, rules, h.without);
-}
+-- at first all is left
+pub stands_first : {A : Type 0} {whole : Contents → Result A Refusal} {old : Space} → Stands whole whole old old
+stands_first = grind (arith, common_steps)
+
+-- what is left is put differently
+pub stands_as : {A : Type 0} {whole rest other : Contents → Result A Refusal} {old now : Space} →
+    ((m : Contents) → rest m ≡ other m) → Stands whole rest old now → Stands whole other old now
+stands_as same s = grind (arith, common_steps)
 
 -- what ends the rest ends the whole
-pub judges_back : {B : Type 0} {whole rest : Contents → Result B Refusal} {p : Pace} {R S : List ℕ → Type 0}
-    {old mid new : Space} {halt : Halt} → ((name : List ℕ) → R name → S name) →
-    IfSome old.told (ComesTo whole rest) → mid.told ≡ old.told → mid.faults ≡ old.faults →
+pub stands_back : {A : Type 0} {whole rest : Contents → Result A Refusal} {p : Pace} {R S : List ℕ → Type 0}
+    {old mid new : Space} {halt : Halt} → ((name : List ℕ) → R name → S name) → Stands whole rest old mid →
     Judges p rest R mid new (Err halt) → Judges p whole S old new (Err halt)
-judges_back {whole = whole} {rest = rest} {p = p} {R = R} {S = S} {old = old} {mid = mid} {new = new} i c t l h =
+stands_back {whole = whole} {rest = rest} {p = p} {R = R} {S = S} {old = old} {mid = mid} {new = new} i s h =
     search (arith, rules, name_after)
 
 -- ## One after the other
 
 -- both, one after the other
-abbrev both : {A B : Type 0} → (Contents → Result A Refusal) → (A → Contents → Result B Refusal) → Contents →
+abbrev pub both : {A B : Type 0} → (Contents → Result A Refusal) → (A → Contents → Result B Refusal) → Contents →
     Result B Refusal
 both j f m = j m >>= (λ x. f x m)
 
@@ -80,18 +80,24 @@ pub judges_then : {A B : Type 0} {j : Contents → Result A Refusal} (f : A → 
     Judges p j R old new (Err halt) → Judges p (both j f) S old new (Err halt)
 judges_then {j = j} f {p} {R} {S} {old} {new} {halt} i h = search (arith, rules, name_after)
 
-module _ {A B : Type 0} {j : Contents → Result A Refusal} (f : A → Contents → Result B Refusal) {q p : Pace}
-    {Q : List ℕ → Type 0} {old mid : Space} {x : A} (g : Judges q j Q old mid (Ok x)) {S : List ℕ → Type 0}
-    {new : Space} where
-  -- the second ends both
-  pub judges_after : {R : List ℕ → Type 0} {halt : Halt} → Stays j → ((name : List ℕ) → R name → S name) →
-      Judges p (f x) R mid new (Err halt) → Judges p (both j f) S old new (Err halt)
-  judges_after s i h = judges_back i (goes_on (both j f) j f old.told x s g.ok (comes_to_itself (both j f) old.told))
-      g.told g.uncounted h
+-- once the first is accepted, what comes behind it is left
+pub comes_on : {A B : Type 0} {whole : Contents → Result B Refusal} (j : Contents → Result A Refusal)
+    (f : A → Contents → Result B Refusal) (x : A) → Stays j → (m : Contents) → j m ≡ Ok x →
+    ComesTo whole (both j f) m → ComesTo whole (f x) m
+unfolding Stays
+comes_on {A = A} j f x s m e h = record {
+  same = h.same ∙ ap (λ (r : Result A Refusal). r >>= (λ (z : A). f z m)) e;
+  without = search (arith, rules, h.without);
+}
 
-  -- both have an answer
-  pub judges_both : {y : B} → Judges p (f x) S mid new (Ok y) → Judges p (both j f) S old new (Ok y)
-  judges_both {y} h = search (arith, rules)
+pub stands_on : {A B : Type 0} {whole : Contents → Result B Refusal} {j : Contents → Result A Refusal}
+    (f : A → Contents → Result B Refusal) {q : Pace} {Q : List ℕ → Type 0} {old mid new : Space} {x : A} → Stays j →
+    Stands whole (both j f) old mid → Judges q j Q mid new (Ok x) → Stands whole (f x) old new
+stands_on {j = j} f {old = old} {x = x} s st h = record {
+  comes = told_two old.told _ _ _ (comes_on j f x s) (rw st.told at h.ok) st.comes;
+  told = h.told ∙ st.told;
+  uncounted = h.uncounted ∙ st.uncounted;
+}
 
 module _ {A : Type 0} {j : Contents → Result A Refusal} {p : Pace} {old new : Space} where
   -- more may be said of names that are unread
@@ -113,9 +119,3 @@ module _ {A : Type 0} {p : Pace} {r : Result A Refusal} {R : List ℕ → Type 0
   -- one that has an answer
   pub judges_computed : {x : A} → at.mode ≡ Closed → r ≡ Ok x → Judges p (λ (m : Contents). r) R at at (Ok x)
   judges_computed c e = search (arith, rules)
-
--- judgements that come to the same of all contents
-pub judges_as : {A : Type 0} {j k : Contents → Result A Refusal} → ((m : Contents) → j m ≡ k m) → {p : Pace}
-    {R : List ℕ → Type 0} {old new : Space} {result : Result A Halt} → Judges p j R old new result →
-    Judges p k R old new result
-judges_as {j = j} {k = k} same h = let e : j ≡ k = λ i m. same m i in rw e at h

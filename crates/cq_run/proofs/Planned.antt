@@ -4,7 +4,7 @@ use Rattle.cq_run.proofs.Terms.{resumed_best, resumed_slack, parted_best, parted
 use Rattle.cq_run.proofs.Stopped.{taken_up}
 use Rattle.cq_run.proofs.Chain.{judges_computed, judges_computed_err, told_any, told_two}
 use Rattle.cq_run.proofs.Crossed.{sent_ok}
-use Rattle.cq_run.proofs.Reached.{computed_halts, computed_plans, given_so, read_told, Reached, begun, read_on, settled}
+use Rattle.cq_run.proofs.Reached.{computed_halts, computed_plans, given_so, Reached, begun, read_on, settled}
 use Rattle.cq_run.proofs.OnePort.{all_leave_is, none_limited}
 use Rattle.cq_run.proofs.Stays.{capture_stays, short_stays}
 use Rattle.cq_run.specs.declared.denial.Denial.TheVariants.{LongLog, LongTrace}
@@ -64,7 +64,7 @@ module _ {S : Type 0} {space : S → Space} {may_fail : Call → S → S → Typ
       IsJudged space may_fail keeps p (Run config) old now result
   run_judged {given = given} is (Ok plan) crossing refused = computed_plans _ _ (given_so asked.Run is)
       crossing.is_sent (crossing.records, crossing.keeps_up.runs, crossing.written)
-      (search (rules, recursion_from_All)) (λ r. let read = read_told is r in search (arith, rules, IfSome_then))
+      (search (rules, recursion_from_All)) (λ r. let read = is.read r in search (arith, rules, IfSome_then))
   run_judged is (Err halt) crossing refused = computed_halts _ _ (given_so asked.Run is) halt refused
 
   -- the same of the ideal switch
@@ -178,7 +178,7 @@ module _ {S : Type 0} {space : S → Space} {keeps : S → S → Type 0} {old s1
     audit_judged (Ok plan) passed written halted =
         let told = (space old).told in
         computed_plans _ _ at_last passed.ideally (passed.meets, written) (rw written tt)
-        (λ r. told_two told _ _ _ (emulates_at given trace log r config plan passed written) (read_told is r)
+        (λ r. told_two told _ _ _ (emulates_at given trace log r config plan passed written) (is.read r)
         (told_two told _ _ _ (λ m a b. (a, b)) (rw is.told at traced.ok)
         (rw (traced.told, is.told) at logged.ok)))
     audit_judged (Err halt) passed written halted =
@@ -230,7 +230,7 @@ module _ {S : Type 0} {space : S → Space} {keeps : S → S → Type 0} {old no
       IsJudged space may_fail keeps InTurn (Part config slots name) old now result
   part_judged {slots = slots} (Ok plan) are (text, text_is, written) halted =
       settled (given_so (asked.Part slots name) is) (Ok plan) (_, refl, (text, text_is, written))
-      (rw written (refl, tt)) (λ r. search (arith, rules, IfSome_then, stops_as, read_told is r))
+      (rw written (refl, tt)) (λ r. search (arith, rules, IfSome_then, stops_as, is.read r))
   part_judged {slots = slots} (Err halt) are text halted =
       settled (given_so (asked.Part slots name) is) (Err halt) (grind (arith, common_steps)) tt (λ r. tt)
 
@@ -248,6 +248,6 @@ module _ {S : Type 0} {space : S → Space} {keeps : S → S → Type 0} {old no
         IsJudged space may_fail keeps InTurn (Resume config name) old new result
     resume_judged (Ok plan) met refused =
         settled at_state (Ok plan) (_, refl, (met.kept, met.goes_on, met.written)) (search (rules, recursion_from_All))
-        (λ r. told_two (space old).told _ _ _ (λ m are_read d. goes_as _ _ text are_read d met) (read_told is r)
+        (λ r. told_two (space old).told _ _ _ (λ m are_read d. goes_as _ _ text are_read d met) (is.read r)
         (rw is.told at read.ok))
     resume_judged (Err halt) met refused = settled at_state (Err halt) (grind (arith, common_steps)) tt (λ r. tt)

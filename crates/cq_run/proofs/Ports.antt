@@ -1,10 +1,10 @@
--- The captures of the ports, one after another. Reading those of some ports, then that of the next, and then those of
--- the rest, is reading them all, and what ends one of these ends the whole. Where files are read ahead, reading leaves
+-- The captures of the ports, one after another. Where those of some ports were read, that of the next and then those of
+-- the rest are left, and what ends one of these ends the whole. Where files are read ahead, reading leaves
 -- contents as they are, so the first capture is judged as if nothing had come between. Where it ends the whole, the
 -- later inputs say nothing but what the count of faults may show.
-use Rattle.cq_run.proofs.Terms.{rules, ◌≡◌, ◌<◌, ℕ, ◌+◌, List, [], ◌∷◌, ◌++◌, length, take, drop, get_or, refl, arith, length-take-le, Result, Ok, Err, Option, Some, IfSome, IfOk, IfErr, MatchOption, common_steps, take_more, Contents, Space, Closed, Captured, PortRow, Refusal, Halt, Judges, Halts, InTurn, Ahead, AnyName, Uncounted, Reader, ◌>>=◌, packets_at, captures_from, Spells, Call, Fails, Lasts, Reads}
-use Rattle.cq_run.proofs.Stays.{captures_from_stay, packets_stay}
-use Rattle.cq_run.proofs.Chain.{judges_then, judges_after, judges_both, judges_computed, judges_as, counts_of, name_after, fails_after, told_any}
+use Rattle.cq_run.proofs.Terms.{rules, ◌≡◌, ◌<◌, ℕ, ◌+◌, List, [], ◌∷◌, ◌++◌, ◌≤◌, append-nil, append_assoc, drop_all, drop_more, length, drop, get_or, refl, arith, Result, Ok, Err, Option, Some, IfSome, IfOk, IfErr, MatchOption, common_steps, Contents, Space, Closed, Captured, PortRow, Refusal, Halt, Judges, Halts, InTurn, Ahead, AnyName, Uncounted, Reader, ◌>>=◌, packets_at, captures_from, Spells, Call, Fails, Lasts, Reads}
+use Rattle.cq_run.proofs.Stays.{packets_stay}
+use Rattle.cq_run.proofs.Chain.{Stands, both, stands_as, stands_back, stands_first, stands_on, judges_then, judges_computed, counts_of, name_after, fails_after, told_any}
 use Rattle.cq_run.specs.declared.decoding.Decoding.{Decoding}
 use Rattle.cq_run.specs.Decoding.{HasBegun, IsBegunFor, source}
 use Rattle.cq_run.specs.Input.{IsHaltFor, IsInFront}
@@ -13,52 +13,29 @@ use Rattle.cq_run.proofs.TextRead.{capture_halts, capture_is}
 abbrev Packets : Type 0
 Packets = List Captured
 
--- the ports before one, that port, and those after it
-pub split_at : (r : Reader) (limit input at : ℕ) (xs : List PortRow) (row : PortRow) (ys : List PortRow)
-    (m : Contents) → at ≡ input + length xs
-    → captures_from r limit input (xs ++ row ∷ ys) m
-    ≡ (captures_from r limit input xs m >>=
-    (λ made. packets_at r at limit row.read m >>=
-    (λ q. captures_from r limit (at + 1) ys m >>= (λ rest. Ok (made ++ q ∷ rest)))))
-unfolding captures_from
-split_at r limit input at [] row ys m e = let same : at ≡ input = omega (arith, e) in search (arith, rules)
-split_at r limit input at (x ∷ xs) row ys m e = search (rules, split_at r limit (input + 1) at xs row ys m)
+module _ (r : Reader) (limit : ℕ) (rows : List PortRow) where
+  -- these packets, and behind them those of the ports from this one on
+  abbrev pub left_from : ℕ → List Packets → Contents → Result (List Packets) Refusal
+  left_from k made m = captures_from r limit k (drop k rows) m >>= (λ others. Ok (made ++ others))
 
-module _ (r : Reader) (limit : ℕ) (rows : List PortRow) (k : ℕ) (row : PortRow) (inside : k < length rows)
-    (is : row ≡ get_or rows k row) where
-  abbrev then_rest : List Packets → Contents → Result (List Packets) Refusal
-  then_rest made m = packets_at r k limit row.read m >>= (λ q.
-      captures_from r limit (k + 1) (drop (k + 1) rows) m >>= (λ rest. Ok (made ++ q ∷ rest)))
+  all_left : (m : Contents) → captures_from r limit 0 rows m ≡ left_from 0 [] m
+  all_left m = grind (arith, common_steps)
 
-  all_is : (m : Contents) → (captures_from r limit 0 (take k rows) m >>= (λ made. then_rest made m)) ≡ captures_from r
-      limit 0 rows m
-  all_is m = grind (arith, common_steps, split_at r limit 0 k (take k rows) row (drop (k + 1) rows) m)
+  -- at first those of all ports
+  pub first_left : {s : Space} → Stands (captures_from r limit 0 rows) (left_from 0 []) s s
+  first_left = stands_as all_left stands_first
 
-  -- what ends reading at this port ends reading them all
-  pub ends_all : {Q R S : List ℕ → Type 0} {old mid new : Space} {made : List Packets} {halt : Halt} →
-      ((name : List ℕ) → R name → S name) →
-      Judges InTurn (captures_from r limit 0 (take k rows)) Q old mid (Ok made) →
-      Judges InTurn (packets_at r k limit row.read) R mid new (Err halt) →
-      Judges InTurn (captures_from r limit 0 rows) S old new (Err halt)
-  ends_all i g h = judges_as all_is
-      (judges_after then_rest g (captures_from_stay r limit 0 (take k rows)) i (judges_then _ (λ name r. r) h))
-
-  abbrev then_this : List Packets → Contents → Result (List Packets) Refusal
-  then_this made m = packets_at r k limit row.read m >>= (λ q. Ok (made ++ q ∷ []))
-
-  more_is : (m : Contents) → (captures_from r limit 0 (take k rows) m >>= (λ made. then_this made m)) ≡ captures_from
-      r limit 0 (take (k + 1) rows) m
+  -- at last none
+  pub none_left : (k : ℕ) (made : List Packets) → length rows ≤ k → (m : Contents) → left_from k made m ≡ Ok made
   unfolding captures_from
-  more_is m = grind (arith, common_steps, take_more, split_at r limit 0 k (take k rows) row [] m, length-take-le)
+  none_left k made over m = grind (arith, common_steps, drop_all, append-nil)
 
-  -- one port more
-  pub reads_more : {Q R : List ℕ → Type 0} {old mid new : Space} {made : List Packets} {q : Packets}
-      {more : List Packets} → more ≡ made ++ q ∷ [] →
-      Judges InTurn (captures_from r limit 0 (take k rows)) R old mid (Ok made) →
-      Judges InTurn (packets_at r k limit row.read) Q mid new (Ok q) →
-      Judges InTurn (captures_from r limit 0 (take (k + 1) rows)) R old new (Ok more)
-  reads_more e g h =
-      rw e (judges_as more_is (judges_both then_this g (judges_both _ h (judges_computed h.closed refl))))
+  -- those of the next port come first
+  pub next_left : {k : ℕ} {row : PortRow} (made : List Packets) → k < length rows → row ≡ get_or rows k row →
+      (m : Contents) →
+      left_from k made m ≡ both (packets_at r k limit row.read) (λ q. left_from (k + 1) (made ++ q ∷ [])) m
+  unfolding captures_from
+  next_left {k} {row} made inside is m = search (arith, rules, drop_more, append_assoc)
 
 -- ## Reading ahead: the first input was read before the later ones, and is looked at once these have been read
 
@@ -126,6 +103,13 @@ module _ {S : Type 0} (space : S → Space) {keeps : S → S → Type 0} {row : 
     first packets h =
         grind (arith, common_steps, arrived r input limit (space old).told packets row.read begun b.decoding h)
 
+    after_first : (packets : List Captured) → MatchOption begun (packets ≡ []) (λ d. Spells (source d) packets) →
+        Stands (captures_from r limit input (row ∷ rows)) (then_later r limit input row rows packets) (space old)
+        (space mid)
+    unfolding captures_from
+    after_first packets h =
+        stands_on (then_later r limit input row rows) (packets_stay r input limit row.read) stands_first (first packets h)
+
     -- whatever the first and the later ones came to, with the first in front
     pub together : (first : Result (List Captured) Halt) (later result : Result (List (List Captured)) Halt) →
         IfOk first (λ packets. MatchOption begun (packets ≡ []) (λ d. Spells (source d) packets)) →
@@ -136,11 +120,10 @@ module _ {S : Type 0} (space : S → Space) {keeps : S → S → Type 0} {row : 
         let here = halted r input limit Ever (space old) (space new) halt row.read begun b.decoding halts in
         rw is (first_ends r limit input row rows (search (arith, rules, name_after, ever, counts_of)))
     together (Ok packets) (Err halt) result spelt halts g is =
-        rw is (judges_after (then_later r limit input row rows) (first packets spelt)
-        (packets_stay r input limit row.read) ever (judges_then _ (λ name u. u) g))
+        rw is (stands_back ever (after_first packets spelt) (judges_then _ (λ name u. u) g))
     together (Ok packets) (Ok others) result spelt halts g is =
-        let all : Whole (Ok (packets ∷ others)) =
-        search (arith, rules, judges_both, first packets spelt, judges_computed) in grind (arith, common_steps)
+        let all : Whole (Ok (packets ∷ others)) = search (arith, rules, first packets spelt) in
+        grind (arith, common_steps)
 
 -- no input is left
 pub none_arrive : (r : Reader) (limit input : ℕ) (R : List ℕ → Type 0) (at : Space) → at.mode ≡ Closed

@@ -1,11 +1,11 @@
 -- What is known at a moment of judging a command. All that was judged so far was accepted: no fault was counted, the
 -- file space is closed, its contents are as before, and of these the command comes to what is left to judge. So where a
 -- name that is read next is unread or refused, or what was read is judged, that is what the command comes to.
-use Rattle.cq_run.proofs.Terms.{rules, arith, ◌≡◌, ◌⊎◌, ℕ, IsTrue, List, subst, inl, inr, length, IfOk, IfSome, Result, Ok, Err, common_steps, AllByRecursion, Captured, Tables, Call, Fails, Lasts, Reads, Closed, Contents, Space, Command, Given, Refusal, Halt, NoMemory, Refused, Unread, Aim, Auditing, Crossing, Denies, Exactly, Meets, Parting, Resuming, Departure, switched, command_asking, ideally_sent, state_in, text_in, EndsGiven, IsGiven, judged_of_given, Emulates, AreRead, IsJudged, IsHaltOf, Judges, Pace, InTurn, Plan, Decides, known_to, Reader, meaning_of, ◌>>=◌, MayRead, MayWrite, captures_in, judged, tables_in, AreTables, ports_of, IsErrAnd}
+use Rattle.cq_run.proofs.Terms.{rules, arith, ◌≡◌, ◌⊎◌, ℕ, IsTrue, List, inl, inr, length, IfOk, IfSome, Result, Ok, Err, common_steps, AllByRecursion, Captured, Tables, Call, Fails, Lasts, Reads, Closed, Contents, Space, Command, Given, Refusal, Halt, NoMemory, Refused, Unread, Aim, Auditing, Crossing, Denies, Exactly, Meets, Parting, Resuming, Departure, switched, command_asking, ideally_sent, state_in, text_in, IsGiven, judged_of_given, Emulates, AreRead, IfSome_then, refl, IsJudged, IsHaltOf, Judges, Pace, InTurn, Plan, Decides, known_to, Reader, meaning_of, ◌>>=◌, MayRead, MayWrite, captures_in, judged, tables_in, AreTables, ports_of, IsErrAnd}
 use Rattle.cq_run.specs.declared.denial.Denial.TheVariants.{LongLog, LongTrace}
 use Rattle.cq_run.specs.declared.judge.Asked.{Asked}
 use Rattle.cq_run.specs.declared.judge.Asked.TheVariants as asked
-use Rattle.cq_run.proofs.Chain.{ComesTo, comes_to_itself, goes_on, judges_back, judges_computed_err, judges_more, judges_then, counts_same, judges_after, judges_at, fails_after}
+use Rattle.cq_run.proofs.Chain.{ComesTo, Stands, both, comes_on, stands_back, stands_first, stands_on, judges_computed_err, judges_then, counts_same, judges_at, fails_after, told_two}
 use Rattle.cq_run.proofs.TextRead.{from_front}
 use Rattle.cq_run.proofs.Stays.{Stays, captures_from_stay, tables_stay}
 
@@ -53,11 +53,9 @@ asks_any config asked name = grind (arith, common_steps)
 pub record Reached {S : Type 0} (space : S → Space) (keeps : S → S → Type 0) (command : Command) (old now : S)
     (rest : Reader → Contents → Result Aim Refusal) : Type 0 where
   pub knows : (s : Space) → known_to command s ≡ s
-  pub comes : (r : Reader) → IfSome (space old).told (ComesTo (judged r command) (rest r))
+  pub stands : (r : Reader) → Stands (judged r command) (rest r) (space old) (space now)
   pub kept : keeps old now
   pub closed : (space now).mode ≡ Closed
-  pub told : (space now).told ≡ (space old).told
-  pub uncounted : (space now).faults ≡ (space old).faults
 
 -- a name that the command may read, in a call that failed
 abbrev Failed : {S : Type 0} → (S → Space) → (Call → S → S → Type 0) → (S → S → Type 0) → Command → S → S → List ℕ
@@ -75,7 +73,7 @@ module _ {S : Type 0} {space : S → Space} {keeps : S → S → Type 0} {comman
   -- at first all is left
   pub begun : ((s : Space) → known_to command s ≡ s) → Lasts keeps → (space old).mode ≡ Closed →
       Reached space keeps command old old (λ r. judged r command)
-  begun knows lasts closed = grind (arith, common_steps, comes_to_itself, lasts.none old)
+  begun knows lasts closed = search (arith, rules, stands_first, lasts.none old)
 
   -- what was read next is accepted
   pub read_on : {A : Type 0} {mid new : S} {j : Reader → Contents → Result A Refusal}
@@ -86,28 +84,35 @@ module _ {S : Type 0} {space : S → Space} {keeps : S → S → Type 0} {comman
       Reached space keeps command old new (λ r. f r x)
   read_on {mid = mid} {new = new} {j = j} f lasts reached kept {q} {Q} {x} stays h =
       let front = h from_front in
-      let comes = λ (r : Reader). goes_on (judged r command) (j r) (f r) (space old).told x (stays r)
-      (rw reached.told at (h r).ok) (reached.comes r) in search (arith, rules, comes, lasts.both)
+      let stands = λ (r : Reader). stands_on (f r) (stays r) (reached.stands r) (h r) in
+      search (arith, rules, stands, lasts.both)
 
   module _ {now : S} {v : Result Aim Refusal} (reached : Reached space keeps command old now (λ r m. v)) where
     aims : (p : Pace) (r : Reader) (R : List ℕ → Type 0) (aim : Aim) → v ≡ Ok aim →
         Judges p (judged r command) R (space old) (space now) (Ok aim)
-    aims p r R aim e = grind (arith, common_steps, reached.comes r)
+    aims p r R aim e = grind (arith, common_steps, reached.stands r)
 
--- once a configuration is read, what is judged of what it gives is left
+-- once a configuration and its captures are read, what is judged of these is left
+comes_so : (r : Reader) (config : List ℕ) (asked : Asked) (t : Tables) (captures : List (List Captured)) (m : Contents) →
+    AreRead r config m t captures → ComesTo (judged r (command_asking config asked)) (rest_of asked r t captures) m
+comes_so r config asked t captures m read = rw (asks config asked r) (comes_on (captures_in r t) (rest_of asked r t)
+    captures (captures_from_stay r t.limit_bytes 0 t.ports) m read.captured
+    (comes_on (tables_in config) (λ t. both (captures_in r t) (rest_of asked r t)) t (tables_stay config) m
+    read.configured (record { same = refl; without = λ name. inl refl })))
+
 pub given_so : {S : Type 0} {space : S → Space} {keeps : S → S → Type 0} {config : List ℕ} {old now : S} {given : Given}
     (asked : Asked) → IsGiven space keeps config old now given →
     Reached space keeps (command_asking config asked) old now (λ r. rest_of asked r given.tables given.captures)
-given_so {space = space} {config = config} {old = old} {given = given} asked is =
-    let told = (space old).told in
-    let t = given.tables in
-    let comes = λ (r : Reader).
-    let whole = judged r (command_asking config asked) in
-    let P : (Contents → Result Aim Refusal) → Type 0 = λ j. IfSome told (ComesTo whole j) in
-    goes_on whole (captures_in r t) (rest_of asked r t) told given.captures
-    (captures_from_stay r t.limit_bytes 0 t.ports) (is.captures r) (goes_on whole (tables_in config) _ told t
-    (tables_stay config) is.tables (subst P (asks config asked r) (comes_to_itself whole told))) in
-    search (arith, rules, comes, asks_known)
+given_so {space = space} {config = config} {old = old} {given = given} asked is = record {
+  knows = asks_known config asked;
+  stands = λ r. record {
+    comes = IfSome_then (space old).told (is.read r) (comes_so r config asked given.tables given.captures);
+    told = is.told;
+    uncounted = is.uncounted;
+  };
+  kept = is.kept;
+  closed = is.closed;
+}
 
 module _ {S : Type 0} {space : S → Space} {may_fail : Call → S → S → Type 0} {keeps : S → S → Type 0}
     {command : Command} {p : Pace} {old new : S} where
@@ -128,15 +133,17 @@ module _ {S : Type 0} {space : S → Space} {may_fail : Call → S → S → Typ
       ((name : List ℕ) → R name → MayRead command name × Fails space may_fail keeps (Reads name) mid new) →
       IsJudged space may_fail keeps p command old new (Err halt)
   read_ends {mid = mid} f lasts reached kept {R} {halt} h i =
+      let before = (reached.stands from_front).uncounted in
       let since : (name : List ℕ) → R name → Failed space may_fail keeps command old new name =
       search (arith, rules, fails_after) in
-      halted reached.knows (λ r. judges_back (λ name u. u) (reached.comes r) reached.told reached.uncounted
-      (judges_then (f r) since (h r))) (lasts.both old mid new reached.kept kept)
+      halted reached.knows (λ r. stands_back since (reached.stands r) (judges_then (f r) (λ name u. u) (h r)))
+      (lasts.both old mid new reached.kept kept)
 
   -- memory runs out
   pub no_memory : {rest : Reader → Contents → Result Aim Refusal} → Reached space keeps command old new rest →
       IsJudged space may_fail keeps p command old new (Err NoMemory)
-  no_memory reached = halted reached.knows (λ r. search (arith, rules, counts_same)) reached.kept
+  no_memory reached =
+      halted reached.knows (λ r. let at = reached.stands r in search (arith, rules, counts_same)) reached.kept
 
   -- what was read is judged
   pub settled : {v : Result Aim Refusal} → Reached space keeps command old new (λ r m. v) →
@@ -146,9 +153,11 @@ module _ {S : Type 0} {space : S → Space} {may_fail : Call → S → S → Typ
       IsJudged space may_fail keeps p command old new result
   settled reached (Ok plan) (aim, e, meets) names emulates =
       let judges = λ (r : Reader). known command reached.knows p r (Failed space may_fail keeps command old new)
-      (space old) (space new) (Ok plan) (aim, meets, aims reached p r _ aim e) in search (arith, rules, judges)
+      (space old) (space new) (Ok plan) (aim, meets, aims reached p r _ aim e) in
+      let front = reached.stands from_front in search (arith, rules, judges)
   settled reached (Err (Refused refusal)) (untold, inl e) names emulates =
-      halted reached.knows (λ r. search (arith, rules, judges_back, reached.comes r, judges_computed_err)) reached.kept
+      halted reached.knows
+      (λ r. stands_back (λ name u. u) (reached.stands r) (judges_computed_err reached.closed (e, untold))) reached.kept
   settled {v} reached (Err (Refused refusal)) (untold, inr (aim, e, denied)) names emulates = record {
     judges = λ r.
         let judges = aims reached p r (Failed space may_fail keeps command old new) aim e in
@@ -157,7 +166,7 @@ module _ {S : Type 0} {space : S → Space} {may_fail : Call → S → S → Typ
     names = tt;
     emulates = λ r. tt;
     closed = reached.closed;
-    told = reached.told;
+    told = (reached.stands from_front).told;
   }
   settled reached (Err (Unread name)) h names emulates = absurd h
   settled reached (Err NoMemory) h names emulates = no_memory reached
@@ -176,36 +185,26 @@ module _ {S : Type 0} {space : S → Space} {may_fail : Call → S → S → Typ
         IsJudged space may_fail keeps p command old new (Ok plan)
     computed_plans {x} {plan} e meets names emulates = grind (arith, common_steps, settled reached (Ok plan))
 
--- whatever is asked of a configuration, reading it or its captures ends judging
-pub asked_ends : {S : Type 0} {space : S → Space} {may_fail : Call → S → S → Type 0} {keeps : S → S → Type 0} {p : Pace}
-    {config : List ℕ} {old new : S} {halt : Halt} (asked : Asked) →
-    EndsGiven space may_fail keeps p config old new halt →
-    IsJudged space may_fail keeps p (command_asking config asked) old new (Err halt)
-asked_ends {config = config} asked ended =
-    halted (asks_known config asked) (λ r. judges_more (λ name u. (asks_any config asked name, u))
-    (rw (← asks config asked r) at (ended.ends r (rest_of asked r)))) ended.kept
-
 -- ## Reading a configuration and its captures, in turn or ahead
 
 module _ {S : Type 0} {space : S → Space} {may_fail : Call → S → S → Type 0} {keeps : S → S → Type 0}
-    {config : List ℕ} {old new : S} {p : Pace} where
+    (config : List ℕ) {old new : S} {p : Pace} {halt : Halt} (asked : Asked) where
   -- the configuration ends it, which is read before anything can be read ahead
-  pub tables_end : {halt : Halt} → keeps old new → Judges InTurn (tables_in config)
+  pub tables_end : keeps old new → Judges InTurn (tables_in config)
       (λ name. (name ≡ config) × Fails space may_fail keeps (Reads name) old new) (space old) (space new) (Err halt) →
-      EndsGiven space may_fail keeps p config old new halt
-  tables_end {halt} kept h = record { ends = search (arith, rules, judges_at, judges_then); kept = kept }
+      IsJudged space may_fail keeps p (command_asking config asked) old new (Err halt)
+  tables_end kept h = halted (asks_known config asked) (λ r. rw (asks config asked r)
+      (judges_then _ (λ name u. (asks_any config asked name, u.1)) (judges_at h))) kept
 
   -- the captures end it
-  pub captures_end : {mid : S} {t : Tables} {Q : List ℕ → Type 0} {halt : Halt} → Lasts keeps →
+  pub captures_end : {mid : S} {t : Tables} {Q : List ℕ → Type 0} → Lasts keeps →
       Judges InTurn (tables_in config) Q (space old) (space mid) (Ok t) → keeps old mid → ((r : Reader) →
       Judges p (captures_in r t) (λ name. Fails space may_fail keeps (Reads name) mid new) (space mid) (space new)
-      (Err halt)) → keeps mid new → EndsGiven space may_fail keeps p config old new halt
-  captures_end {mid} {t} {Q} {halt} lasts read kept h kept_on = record {
-    ends = λ r rest. judges_after _ read (tables_stay config)
-        (λ name. fails_after lasts read.uncounted kept)
-        (judges_then _ (λ name u. u) (h r));
-    kept = lasts.both old mid new kept kept_on;
-  }
+      (Err halt)) → keeps mid new → IsJudged space may_fail keeps p (command_asking config asked) old new (Err halt)
+  captures_end {t = t} lasts read kept h kept_on = halted (asks_known config asked) (λ r. rw (asks config asked r)
+      (stands_back (λ name u. (asks_any config asked name, fails_after lasts read.uncounted kept u))
+      (stands_on (λ t. both (captures_in r t) (rest_of asked r t)) (tables_stay config) stands_first read)
+      (judges_then (rest_of asked r t) (λ name u. u) (h r)))) (lasts.both old _ new kept kept_on)
 
 -- both are there
 pub given_read : {S : Type 0} {space : S → Space} {keeps : S → S → Type 0} {config : List ℕ} {old mid new : S}
@@ -214,12 +213,9 @@ pub given_read : {S : Type 0} {space : S → Space} {keeps : S → S → Type 0}
     ((r : Reader) → Judges p (captures_in r t) R (space mid) (space new) (Ok captures)) →
     length captures ≡ ports_of t.setup → keeps mid new →
     IsGiven space keeps config old new (record { tables = t; captures = captures })
-given_read {old = old} {mid = mid} {new = new} {t = t} {captures = captures} lasts in_range read kept h each kept_on =
+given_read {space = space} {config = config} {old = old} {mid = mid} {new = new} {t = t} {captures = captures} lasts
+    in_range read kept h each kept_on =
     let front = h from_front in
-    let arrive = λ (r : Reader). rw read.told at (h r).ok in search (arith, rules, arrive, lasts.both)
-
--- of contents that are told it is what they give
-pub read_told : {S : Type 0} {space : S → Space} {keeps : S → S → Type 0} {config : List ℕ} {old new : S}
-    {given : Given} → IsGiven space keeps config old new given → (r : Reader) →
-    IfSome (space old).told (λ m. AreRead r config m given.tables given.captures)
-read_told {space = space} {old = old} is r = grind (arith, common_steps, is.captures r)
+    let arrive = λ (r : Reader). told_two (space old).told _ _ (λ m. AreRead r config m t captures)
+    (λ m a b. record { configured = a; captured = b }) read.ok (rw read.told at (h r).ok) in
+    search (arith, rules, arrive, lasts.both)

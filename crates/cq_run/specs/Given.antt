@@ -1,17 +1,13 @@
 -- Only proofs use this.
 -- What a configuration gives, once it and the captures that it names are read.
-use Rattle.std.specs.Prelude.{◌≡◌, ℕ, List, length, IfSome, Result, Ok, Err}
+use Rattle.std.specs.Prelude.{◌≡◌, ℕ, List, length, IfSome, Result}
 use Rattle.cq_pcap.specs.Captured.{Captured}
 use Rattle.cq_route.specs.Tables.{AreTables, ports_of}
 use Rattle.cq_route.specs.declared.tables.Tables.{Tables}
-use Rattle.cq_space.specs.Call.{Call}
-use Rattle.cq_space.specs.Failing.{Fails, Reads}
 use Rattle.cq_space.specs.Space.{Closed, Contents, Space}
 use Rattle.cq_run.specs.declared.refusal.Refusal.{Refusal}
-use Rattle.cq_run.specs.declared.stop.Halt.{Halt}
 use Rattle.cq_run.specs.Aim.{Aim}
-use Rattle.cq_run.specs.Judging.{Judges}
-use Rattle.cq_run.specs.Pace.{Pace}
+use Rattle.cq_run.specs.Headline.{AreRead}
 use Rattle.cq_run.specs.Reader.{Reader}
 use Rattle.cq_run.specs.Verdict.{◌>>=◌, captures_in, tables_in}
 
@@ -24,8 +20,7 @@ pub record Given : Type 0 where
 -- was counted, and nothing was written
 pub record IsGiven {S : Type 0} (space : S → Space) (keeps : S → S → Type 0) (config : List ℕ) (old new : S)
     (given : Given) : Type 0 where
-  pub tables : IfSome (space old).told (λ m. tables_in config m ≡ Ok given.tables)
-  pub captures : (r : Reader) → IfSome (space old).told (λ m. captures_in r given.tables m ≡ Ok given.captures)
+  pub read : (r : Reader) → IfSome (space old).told (λ m. AreRead r config m given.tables given.captures)
   pub in_range : AreTables given.tables
   pub each : length given.captures ≡ ports_of given.tables.setup
   pub kept : keeps old new
@@ -40,11 +35,3 @@ judged_of_given r config rest m = do
   tables ← tables_in config m
   captures ← captures_in r tables m
   rest tables captures m
-
--- reading ends judging of a configuration, whatever would be judged of what it gives
-pub record EndsGiven {S : Type 0} (space : S → Space) (may_fail : Call → S → S → Type 0) (keeps : S → S → Type 0)
-    (pace : Pace) (config : List ℕ) (old new : S) (halt : Halt) : Type 0 where
-  pub ends : (r : Reader) (rest : Tables → List (List Captured) → Contents → Result Aim Refusal) →
-      Judges pace (judged_of_given r config rest) (λ name. Fails space may_fail keeps (Reads name) old new)
-      (space old) (space new) (Err halt)
-  pub kept : keeps old new
