@@ -85,10 +85,7 @@ pub comes_on : {A B : Type 0} {whole : Contents → Result B Refusal} (j : Conte
     (f : A → Contents → Result B Refusal) (x : A) → Stays j → (m : Contents) → j m ≡ Ok x →
     ComesTo whole (both j f) m → ComesTo whole (f x) m
 unfolding Stays
-comes_on {A = A} j f x s m e h = record {
-  same = h.same ∙ ap (λ (r : Result A Refusal). r >>= (λ (z : A). f z m)) e;
-  without = search (arith, rules, h.without);
-}
+comes_on j f x s m e h = record { same = cc; without = search (arith, rules, h.without) }
 
 pub stands_on : {A B : Type 0} {whole : Contents → Result B Refusal} {j : Contents → Result A Refusal}
     (f : A → Contents → Result B Refusal) {q : Pace} {Q : List ℕ → Type 0} {old mid new : Space} {x : A} → Stays j →

@@ -31,13 +31,10 @@ module _ {S : Type 0} {space : S → Space} {may_fail : Call → S → S → Typ
     is_planned : IsPlanned r command (space old) plan
     is_planned = grind (arith, common_steps, judged.judges r)
 
-    uncounted : (space mid).faults ≡ (space old).faults
-    uncounted = grind (arith, common_steps, judged.judges r, known_faults)
-
     -- the plan is done
     pub performed : {new : World} → IsDone plan (at space out mid) new →
         CommandEnds pace r (λ _. Unit {0}) (λ _. Unit {0}) (Unit {0}) command (at space out old) new (Ok tt)
-    performed h = grind (arith, common_steps, is_planned, uncounted)
+    performed h = grind (arith, common_steps, judged.judges r, known_faults)
 
     -- or cut short
     pub cut_short : (keeps : S → S → Type 0) (new : S) (out_new : Taken) (T : Type 0) (unwritten : Unwritten) →
@@ -47,7 +44,8 @@ module _ {S : Type 0} {space : S → Space} {may_fail : Call → S → S → Typ
         CommandEnds pace r (λ _. Unit {0}) (λ name. Fails space may_fail keeps (Writes name) old new) T command
         (at space out old) (at space out_new new) (Err (Cut unwritten))
     cut_short keeps new out_new T unwritten lasts kept h =
-        search (arith, rules, file_from, is_planned, uncounted, fails_after)
+        let decides = judged.judges r in
+        search (arith, rules, file_from, is_planned, known_faults, fails_after)
 
 -- no writing was begun where the run halted, and the status tells whether it did
 pub halted_so : {P : Type 0} (end : Result (Unit {0}) Stop) {answer : Status} → answer ≡ status_of end →
@@ -76,8 +74,7 @@ module _ (p : Pace) (a : Reader) (R W : List ℕ → Type 0) (T : Type 0) where
   command_causes command old new (Ok x) h = grind (arith, common_steps)
   command_causes command old new (Err (Halted (Refused r))) h =
       search (arith, rules, counts_known, counts_same, known_faults)
-  command_causes command old new (Err (Halted (Unread name))) h = grind (arith, common_steps, known_faults)
-  command_causes command old new (Err (Halted NoMemory)) h = search (arith, rules, told_any, counts_known)
+  command_causes command old new (Err (Halted halt)) h = search (arith, rules, told_any, counts_known, known_faults)
   command_causes command old new (Err (Cut at)) h = grind (arith, common_steps, cut_rose)
 
 -- the answer of the top call is the status of its end

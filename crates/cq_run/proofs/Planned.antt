@@ -84,20 +84,16 @@ module _ (from to : List ℕ) (packets : List Captured) where
   passing_of =
       ideally_sent (plain_tables from to) (packets ∷ []) >>= (λ sent. Ok (Exactly (passed from to packets sent)))
 
-  -- what leaves the plain switch of the one capture is all of it
-  leaves_all : (sent : List Departure) → AreTables (plain_tables from to) →
-      ideally_sent (plain_tables from to) (packets ∷ []) ≡ Ok sent →
-      capture_out (plain_tables from to) (packets ∷ []) sent 0 ≡ capture_of_all (plain_tables from to) packets
-  unfolding plain_tables
-  leaves_all sent are h = grind (arith, common_steps, all_leave_is, none_limited, sent_ok)
-
   module _ (plan : Plan) (is : IsPassing (plain_tables from to) packets to plan) where
     plan_passed : plan ≡ passed from to packets is.sent
     plan_passed = grind (arith, common_steps)
 
     passage_at : (r : Reader) → AreTables (plain_tables from to) → (m : Contents) →
         capture_in r from 0 (plain_tables from to).limit_bytes m ≡ Ok packets → IsPassage r from to m plan
-    passage_at r are m captured = grind (arith, common_steps, plan_passed, leaves_all is.sent are is.is_sent)
+    unfolding plain_tables
+    passage_at r are m captured =
+        let sent = sent_ok is.sent _ is.is_sent in
+        search (arith, rules, plan_passed, all_leave_is (plain_tables from to) packets, none_limited)
 
 module _ {S : Type 0} {space : S → Space} {keeps : S → S → Type 0}
     (lasts : Lasts keeps) {from to : List ℕ} {old : S} (closed : (space old).mode ≡ Closed) where
@@ -246,8 +242,6 @@ module _ {S : Type 0} {space : S → Space} {keeps : S → S → Type 0} {old no
         IfOk result (IsResuming given.tables given.captures text) →
         IfErr result (IsResumeHalt given.tables given.captures text) →
         IsJudged space may_fail keeps InTurn (Resume config name) old new result
-    resume_judged (Ok plan) met refused =
-        settled at_state (Ok plan) (_, refl, (met.kept, met.goes_on, met.written)) (search (rules, recursion_from_All))
-        (λ r. told_two (space old).told _ _ _ (λ m are_read d. goes_as _ _ text are_read d met) (is.read r)
-        (rw is.told at read.ok))
-    resume_judged (Err halt) met refused = settled at_state (Err halt) (grind (arith, common_steps)) tt (λ r. tt)
+    resume_judged result met refused =
+        settled at_state result (grind (arith, common_steps)) (grind (arith, common_steps, recursion_from_All))
+        (λ r. let found = rw is.told at read.ok in grind (arith, common_steps, goes_as, is.read r))

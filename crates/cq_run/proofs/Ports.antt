@@ -39,10 +39,6 @@ module _ (r : Reader) (limit : ℕ) (rows : List PortRow) where
 
 -- ## Reading ahead: the first input was read before the later ones, and is looked at once these have been read
 
--- in a call that reads this name, the object failed since then
-abbrev pub Unread : {S : Type 0} → (S → Space) → (Call → S → S → Type 0) → (S → S → Type 0) → S → S → List ℕ → Type 0
-Unread space may_fail keeps old new asked = Fails space may_fail keeps (Reads asked) old new
-
 module _ (r : Reader) (input limit : ℕ) where
   -- its packets are what arrives there
   arrived : (told : Option Contents) (packets : List Captured) (read : Option (List ℕ)) (begun : Option Decoding)
@@ -82,18 +78,12 @@ module _ {S : Type 0} (space : S → Space) {keeps : S → S → Type 0} {row : 
     (closed : (space mid).mode ≡ Closed) (told : (space mid).told ≡ (space old).told) (kept : keeps old mid)
     (lasts : Lasts keeps) (r : Reader) (rows : List PortRow) (may_fail : Call → S → S → Type 0) (new : S)
   where
+    -- a call that reads this name failed since the first file was read, or since this call began
     abbrev Since : List ℕ → Type 0
-    Since = Unread space may_fail keeps mid new
+    Since name = Fails space may_fail keeps (Reads name) mid new
 
     abbrev Ever : List ℕ → Type 0
-    Ever = Unread space may_fail keeps old new
-
-    -- what judging the later ones came to, and all
-    abbrev Later : Result (List (List Captured)) Halt → Type 0
-    Later result = Judges Ahead (captures_from r limit (input + 1) rows) Since (space mid) (space new) result
-
-    abbrev Whole : Result (List (List Captured)) Halt → Type 0
-    Whole result = Judges Ahead (captures_from r limit input (row ∷ rows)) Ever (space old) (space new) result
+    Ever name = Fails space may_fail keeps (Reads name) old new
 
     ever : (name : List ℕ) → Since name → Ever name
     ever name = fails_after lasts b.uncounted kept
@@ -103,30 +93,18 @@ module _ {S : Type 0} (space : S → Space) {keeps : S → S → Type 0} {row : 
     first packets h =
         grind (arith, common_steps, arrived r input limit (space old).told packets row.read begun b.decoding h)
 
-    after_first : (packets : List Captured) → MatchOption begun (packets ≡ []) (λ d. Spells (source d) packets) →
-        Stands (captures_from r limit input (row ∷ rows)) (then_later r limit input row rows packets) (space old)
-        (space mid)
-    unfolding captures_from
-    after_first packets h =
-        stands_on (then_later r limit input row rows) (packets_stay r input limit row.read) stands_first (first packets h)
-
     -- whatever the first and the later ones came to, with the first in front
     pub together : (first : Result (List Captured) Halt) (later result : Result (List (List Captured)) Halt) →
         IfOk first (λ packets. MatchOption begun (packets ≡ []) (λ d. Spells (source d) packets)) →
-        IfErr first (λ halt. MatchOption begun ⊥ (λ d. IsHaltFor input (source d) halt)) → Later later →
-        IsInFront first later result → Whole result
+        IfErr first (λ halt. MatchOption begun ⊥ (λ d. IsHaltFor input (source d) halt)) →
+        Judges Ahead (captures_from r limit (input + 1) rows) Since (space mid) (space new) later →
+        IsInFront first later result →
+        Judges Ahead (captures_from r limit input (row ∷ rows)) Ever (space old) (space new) result
     unfolding captures_from
     together (Err halt) later result spelt halts g is =
         let here = halted r input limit Ever (space old) (space new) halt row.read begun b.decoding halts in
         rw is (first_ends r limit input row rows (search (arith, rules, name_after, ever, counts_of)))
     together (Ok packets) (Err halt) result spelt halts g is =
-        rw is (stands_back ever (after_first packets spelt) (judges_then _ (λ name u. u) g))
-    together (Ok packets) (Ok others) result spelt halts g is =
-        let all : Whole (Ok (packets ∷ others)) = search (arith, rules, first packets spelt) in
-        grind (arith, common_steps)
-
--- no input is left
-pub none_arrive : (r : Reader) (limit input : ℕ) (R : List ℕ → Type 0) (at : Space) → at.mode ≡ Closed
-    → Judges Ahead (captures_from r limit input []) R at at (Ok [])
-unfolding captures_from
-none_arrive r limit input R at c = judges_computed {r = Ok []} c refl
+        let at = stands_on (then_later r limit input row rows) (packets_stay r input limit row.read) stands_first
+        (first packets spelt) in rw is (stands_back ever at (judges_then _ (λ name u. u) g))
+    together (Ok packets) (Ok others) result spelt halts g is = search (arith, rules, first packets spelt)

@@ -87,7 +87,6 @@ pub fn switch_ideally<R: Threads + Sync>(
 
 /// What the crossbar switch does with these captures, one for each port. It sends what the ideal switch
 /// sends, whoever proposes first.
-#[tactic(auto, using(crate::proofs::Crossed::is_crossed))]
 pub fn switch_by_crossbar<R: Threads + Sync, G: Gate>(
     rt: &R,
     alloc: Global,

@@ -1,14 +1,16 @@
-use Rattle.cq_run.proofs.Terms.{rules, ◌≡◌, [], arith, nil_from_length}
-use Rattle.cq_run.proofs.Ports.{file_ends, none_arrive, together}
+use Rattle.cq_run.proofs.Terms.{rules, ◌≡◌, [], Ok, arith, captures_from, nil_from_length, refl}
+use Rattle.cq_run.proofs.Chain.{judges_computed}
+use Rattle.cq_run.proofs.Ports.{file_ends, together}
 use Rattle.cq_run.proofs.Reached.{exit_is}
 use Rattle.cq_run.proofs.ahead.+stream_from.Goals as goal
 
 -- `c.in-Some.ensures.cases.0` says that the rows are the first and the rest.
 
 pub returns-in-None-clause-judges : goal.returns-in-None-clause-judges
+unfolding captures_from
 returns-in-None-clause-judges g t c = λ r.
     let none : c.args.rows.now ≡ [] = nil_from_length c.args.rows.now c.in-None.ensures.cases in
-    rw (none, c.of.ensures, c.new.ensures.items) (none_arrive r _ _ _ _ c.requires.closed)
+    rw (none, c.of.ensures, c.new.ensures.items) (judges_computed {r = Ok []} c.requires.closed refl)
 
 -- ## What the readers and the rows before come to
 

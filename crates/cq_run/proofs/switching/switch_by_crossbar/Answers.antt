@@ -1,5 +1,9 @@
-use Rattle.cq_run.proofs.Terms.{once_each_slot}
+use Rattle.cq_run.proofs.Terms.{arith, rules, once_each_slot}
+use Rattle.cq_run.proofs.Crossed.{is_crossed}
 use Rattle.cq_run.proofs.switching.switch_by_crossbar.Goals as goal
+
+pub returns-clause-crossed : goal.returns-clause-crossed
+returns-clause-crossed g c = search (arith, rules, is_crossed)
 
 pub returns-clause-reportable : goal.returns-clause-reportable
 returns-clause-reportable g c =
