@@ -7,7 +7,7 @@ use Rattle.cq_audit.specs.declared.refusal.AuditRefusal.TheVariants as of_log
 use Rattle.cq_run.specs.declared.denial.Denial.TheVariants as why
 use Rattle.cq_run.specs.Auditing.{IsDenied}
 use Rattle.cq_run.specs.RunsAudited.{RunsAreAudited}
-use Rattle.cq_run.proofs.Left.{captures_same, last_two, outputs_named, tables_same, untouched}
+use Rattle.cq_run.proofs.Left.{captures_same, last_two, outputs_named, untouched}
 use Rattle.cq_run.proofs.NamesApart.{ArePairs, IsUnwritten, names_apart, reads_unwritten, trace_or_log}
 use Rattle.cq_run.proofs.TextRead.{text_is}
 
@@ -48,16 +48,14 @@ module _ (t : Tables) (captures : List (List Captured)) (rs : List LimitedRecord
     traffic : IsTraffic (ports_of t.setup) (classes_of t.setup) (arrivals t captures)
     traffic = traffic_is t captures keeps.given.tables keeps.given.each
 
-    -- a line can name each slot of the run
-    few_slots : length rs ≤ 2 ^ 64
-    few_slots = omega (arith, as_many_slots t (arrivals t captures) rs traffic keeps.runs, limited_not_more, short_is)
-
-    -- its log is that of a stable run
+    -- its log is that of a stable run: a line can name each of its slots
     log_is : IsYes t.setup t.limits (arrivals t captures) (log_of note)
     log_is =
         let stable = stable_limited_too (machines_of t.setup) t.limits in
         let read = stable_log (ports_of t.setup) (classes_of t.setup) (arrivals t captures) traffic in
-        search (arith, rules, stable.whole, read, small_cells, few_slots, empty_list)
+        let few : length rs ≤ 2 ^ 64 =
+        omega (arith, as_many_slots t (arrivals t captures) rs traffic keeps.runs, limited_not_more, short_is) in
+        search (arith, rules, stable.whole, read, small_cells, few, empty_list)
 
     meets : Meets aim audited
     meets = (record { log_is = log_is; trace_is = refl }, refl)
@@ -89,20 +87,14 @@ module _ (t : Tables) (captures : List (List Captured)) (rs : List LimitedRecord
       captures_left = captures_same m left r t.limit_bytes 0 t.ports
           (search (arith, rules, all_weaker, same_read, reads_unwritten, apart_in)) ∙ captured
 
-      -- the last two stand there
-      stand : (get left t.trace ≡ Some (trace_of sent)) × (get left t.log ≡ Some (log_of note))
-      stand = last_two outputs m left t.trace _ t.log _ (trace_or_log t (apart_in config m t configured)) written
-
-      ideally : ideally_sent t captures ≡ Ok sent
-      ideally = ap sent_or_tag (sends_as_ideal t (arrivals t captures) rs traffic keeps.runs)
-
-      -- the aim is met, and not denied
-      abbrev IsSound : Result Aim Refusal → Type 0
-      IsSound v = IsOkAnd v (λ a. Meets a audited × ((refusal : Refusal) → Denies a refusal → ⊥))
-
-      audited_so : IsSound (judged r (Audit config) left)
-      audited_so = search
-          (arith, rules, meets, never_denied, captures_left, text_is, all_back, stand, ideally, tables_same, untouched)
+      -- the last two stand there, and so the aim is met, and not denied
+      audited_so : IsOkAnd (judged r (Audit config) left) (λ a.
+          Meets a audited × ((refusal : Refusal) → Denies a refusal → ⊥))
+      audited_so =
+          let unlike = trace_or_log t (apart_in config m t configured) in
+          let stand = last_two outputs m left t.trace _ t.log _ unlike written in
+          let ideally = ap sent_or_tag (sends_as_ideal t (arrivals t captures) rs traffic keeps.runs) in
+          search (arith, rules, meets, never_denied, captures_left, text_is, all_back, stand, ideally, untouched)
 
 -- ## What `run` leaves
 
@@ -128,11 +120,6 @@ module _ (t : Tables) (captures : List (List Captured)) (came : List Arrival) (t
   log_stands : IsYes t.setup t.limits (arrivals t captures) log
   log_stands = rw is at yes
 
-  -- the run of the log sends what the ideal switch sends
-  departed : IsTraffic (ports_of t.setup) (classes_of t.setup) came →
-      sent ≡ departures_in_run log_stands.run.records
-  departed traffic = grind (arith, common_steps, stable_sends)
-
   -- so a log that is accepted, and a trace that is the same, pass
   pub both_passed : (text : List ℕ) → IsTraffic (ports_of t.setup) (classes_of t.setup) came →
       text ≡ trace_of sent → trace ≡ text → IsAuditPassed t captures trace log
@@ -142,7 +129,7 @@ module _ (t : Tables) (captures : List (List Captured)) (came : List Arrival) (t
         sent = sent;
         ideally = cc;
         meets = record { log_is = log_stands; trace_is = equal ∙ same };
-        departed = departed traffic;
+        departed = grind (arith, common_steps, stable_sends);
         stable = all_stable t (arrivals t captures) run.records run.end (rw is at traffic) run.runs;
         slack = stable_slack t (arrivals t captures) run.records run.end (rw is at traffic) run.runs;
       }

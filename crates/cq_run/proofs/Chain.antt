@@ -1,6 +1,7 @@
--- One judgement after another. Where the first ends without an answer, so do both; where it has one, the second is left,
--- and what ends that ends both. A name that the second is to read is to be read by both, since the first comes to the
--- same without it, or misses it. First, the count of faults where an answer tells of none, and facts of told contents.
+-- One judgement after another. Where the first ends without an answer, so do both; where it has one, the second is
+-- left, and what ends that ends both. A name that the second is to read is to be read by both, since the first comes to
+-- the same without it, or misses it. First, the count of faults where an answer tells of none, and facts of told
+-- contents.
 use Rattle.cq_run.proofs.Terms.{rules, arith, ◌≡◌, ◌∙◌, ◌⊎◌, ℕ, List, ap, Option, None, Some, IfSome, Result, Ok, Err, common_steps, Contents, Space, Closed, Mode, Refusal, Missing, Halt, ◌>>=◌, IsHaltOf, Judges, InTurn, Pace, Ahead, Uncounted, AnyName, Call, Fails, Lasts}
 use Rattle.std.specs.FinMap.{remove}
 use Rattle.cq_run.proofs.Stays.{Stays}
@@ -90,11 +91,8 @@ comes_on j f x s m e h = record { same = cc; without = search (arith, rules, h.w
 pub stands_on : {A B : Type 0} {whole : Contents → Result B Refusal} {j : Contents → Result A Refusal}
     (f : A → Contents → Result B Refusal) {q : Pace} {Q : List ℕ → Type 0} {old mid new : Space} {x : A} → Stays j →
     Stands whole (both j f) old mid → Judges q j Q mid new (Ok x) → Stands whole (f x) old new
-stands_on {j = j} f {old = old} {x = x} s st h = record {
-  comes = told_two old.told _ _ _ (comes_on j f x s) (rw st.told at h.ok) st.comes;
-  told = h.told ∙ st.told;
-  uncounted = h.uncounted ∙ st.uncounted;
-}
+stands_on {whole = whole} {j = j} f {x = x} s st h =
+    grind (arith, common_steps, comes_on {whole = whole} j f x s)
 
 module _ {A : Type 0} {j : Contents → Result A Refusal} {p : Pace} {old new : Space} where
   -- more may be said of names that are unread

@@ -84,16 +84,13 @@ module _ (from to : List ℕ) (packets : List Captured) where
   passing_of =
       ideally_sent (plain_tables from to) (packets ∷ []) >>= (λ sent. Ok (Exactly (passed from to packets sent)))
 
-  module _ (plan : Plan) (is : IsPassing (plain_tables from to) packets to plan) where
-    plan_passed : plan ≡ passed from to packets is.sent
-    plan_passed = grind (arith, common_steps)
-
-    passage_at : (r : Reader) → AreTables (plain_tables from to) → (m : Contents) →
-        capture_in r from 0 (plain_tables from to).limit_bytes m ≡ Ok packets → IsPassage r from to m plan
-    unfolding plain_tables
-    passage_at r are m captured =
-        let sent = sent_ok is.sent _ is.is_sent in
-        search (arith, rules, plan_passed, all_leave_is (plain_tables from to) packets, none_limited)
+  passage_at : (plan : Plan) (is : IsPassing (plain_tables from to) packets to plan) (r : Reader) →
+      AreTables (plain_tables from to) → (m : Contents) →
+      capture_in r from 0 (plain_tables from to).limit_bytes m ≡ Ok packets → IsPassage r from to m plan
+  unfolding plain_tables
+  passage_at plan is r are m captured =
+      let sent = sent_ok is.sent _ is.is_sent in
+      search (arith, rules, all_leave_is (plain_tables from to) packets, none_limited)
 
 module _ {S : Type 0} {space : S → Space} {keeps : S → S → Type 0}
     (lasts : Lasts keeps) {from to : List ℕ} {old : S} (closed : (space old).mode ≡ Closed) where
@@ -115,7 +112,7 @@ module _ {S : Type 0} {space : S → Space} {keeps : S → S → Type 0}
           IfErr result (IsHaltOf (ideally_sent (plain_tables from to) (packets ∷ []))) →
           IsJudged space may_fail keeps InTurn (Pass from to) old new result
       passing_judged (Ok plan) is refused =
-          computed_plans _ _ at_packets is.is_sent (plan_passed from to packets plan is) (rw is.writes (refl, tt))
+          computed_plans _ _ at_packets is.is_sent (grind (arith, common_steps)) (rw is.writes (refl, tt))
           (λ r. IfSome_then (space old).told (h r).ok (passage_at from to packets plan is r are))
       passing_judged (Err halt) is refused = computed_halts _ _ at_packets halt refused
 
@@ -172,11 +169,10 @@ module _ {S : Type 0} {space : S → Space} {keeps : S → S → Type 0} {old s1
         IfOk result (λ plan. plan ≡ audited) → IfErr result (IsAuditHalted given.tables given.captures trace log) →
         IsJudged space may_fail keeps InTurn (Audit config) old s3 result
     audit_judged (Ok plan) passed written halted =
-        let told = (space old).told in
         computed_plans _ _ at_last passed.ideally (passed.meets, written) (rw written tt)
-        (λ r. told_two told _ _ _ (emulates_at given trace log r config plan passed written) (is.read r)
-        (told_two told _ _ _ (λ m a b. (a, b)) (rw is.told at traced.ok)
-        (rw (traced.told, is.told) at logged.ok)))
+        (λ r. let trace_is = rw is.told at traced.ok in
+        let log_is = rw (traced.told, is.told) at logged.ok in
+        grind (arith, common_steps, is.read r, emulates_at given trace log r config plan passed written))
     audit_judged (Err halt) passed written halted =
         settled at_last (Err halt) (grind (arith, common_steps)) tt (λ r. tt)
 
@@ -232,16 +228,13 @@ module _ {S : Type 0} {space : S → Space} {keeps : S → S → Type 0} {old no
 
   module _ (lasts : Lasts keeps) {new : S} (kept : keeps now new) {Q : List ℕ → Type 0} {text : List ℕ}
       (read : Judges InTurn (state_in name) Q (space now) (space new) (Ok text)) where
-    at_state : Reached space keeps (Resume config name) old new
-        (λ r m. Ok (Resuming given.tables given.captures text))
-    at_state = read_on (λ r text m. Ok (Resuming given.tables given.captures text)) lasts
-        (given_so (asked.Resume name) is) kept (λ r. short_stays (State stopped.Long) _ name) (λ r. read)
-
     -- and what is made of both
     pub resume_judged : {may_fail : Call → S → S → Type 0} (result : Result Plan Halt) →
         IfOk result (IsResuming given.tables given.captures text) →
         IfErr result (IsResumeHalt given.tables given.captures text) →
         IsJudged space may_fail keeps InTurn (Resume config name) old new result
     resume_judged result met refused =
-        settled at_state result (grind (arith, common_steps)) (grind (arith, common_steps, recursion_from_All))
+        let at = read_on (λ r text m. Ok (Resuming given.tables given.captures text)) lasts
+        (given_so (asked.Resume name) is) kept (λ r. short_stays (State stopped.Long) _ name) (λ r. read) in
+        settled at result (grind (arith, common_steps)) (grind (arith, common_steps, recursion_from_All))
         (λ r. let found = rw is.told at read.ok in grind (arith, common_steps, goes_as, is.read r))

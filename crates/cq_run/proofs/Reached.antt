@@ -93,8 +93,9 @@ module _ {S : Type 0} {space : S → Space} {keeps : S → S → Type 0} {comman
     aims p r R aim e = grind (arith, common_steps, reached.stands r)
 
 -- once a configuration and its captures are read, what is judged of these is left
-comes_so : (r : Reader) (config : List ℕ) (asked : Asked) (t : Tables) (captures : List (List Captured)) (m : Contents) →
-    AreRead r config m t captures → ComesTo (judged r (command_asking config asked)) (rest_of asked r t captures) m
+comes_so : (r : Reader) (config : List ℕ) (asked : Asked) (t : Tables) (captures : List (List Captured))
+    (m : Contents) → AreRead r config m t captures →
+    ComesTo (judged r (command_asking config asked)) (rest_of asked r t captures) m
 comes_so r config asked t captures m read = rw (asks config asked r) (comes_on (captures_in r t) (rest_of asked r t)
     captures (captures_from_stay r t.limit_bytes 0 t.ports) m read.captured
     (comes_on (tables_in config) (λ t. both (captures_in r t) (rest_of asked r t)) t (tables_stay config) m
@@ -133,9 +134,8 @@ module _ {S : Type 0} {space : S → Space} {may_fail : Call → S → S → Typ
       ((name : List ℕ) → R name → MayRead command name × Fails space may_fail keeps (Reads name) mid new) →
       IsJudged space may_fail keeps p command old new (Err halt)
   read_ends {mid = mid} f lasts reached kept {R} {halt} h i =
-      let before = (reached.stands from_front).uncounted in
       let since : (name : List ℕ) → R name → Failed space may_fail keeps command old new name =
-      search (arith, rules, fails_after) in
+      search (arith, rules, fails_after, (reached.stands from_front).uncounted) in
       halted reached.knows (λ r. stands_back since (reached.stands r) (judges_then (f r) (λ name u. u) (h r)))
       (lasts.both old mid new reached.kept kept)
 
