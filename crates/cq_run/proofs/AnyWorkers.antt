@@ -49,36 +49,16 @@ module _ (n : ℕ) (t : Tables) where
     unfolding cell_of cells route
     packet_same i k = search (rules, start_same)
 
-    input_same : (i : ℕ) → arrivals_at u cs i ≡ arrivals_at t cs i
-    unfolding arrivals_at
-    input_same i = grind (arith, common_steps, flat_same, packet_same)
-
     arrivals_same : arrivals u cs ≡ arrivals t cs
-    unfolding arrivals
-    arrivals_same = flat_same (arrivals_at u cs) (arrivals_at t cs) 0 (length cs) (λ i from inside. input_same i)
+    unfolding arrivals arrivals_at
+    arrivals_same = grind (arith, common_steps, flat_same, packet_same)
 
     -- ## The same is sent and written
-
-    ideally_same : ideally_sent u cs ≡ ideally_sent t cs
-    unfolding ideal_departures ran_ideal
-    ideally_same = ap (λ (came : List Arrival). sent_or_tag (ideal_departures t came)) arrivals_same
 
     outputs_same : (sent : List Departure) (output : ℕ) (rows : List PortRow) →
         captures_out u cs sent output rows ≡ captures_out t cs sent output rows
     unfolding captures_out packets_out
     outputs_same sent output rows = grind (arith, common_steps)
-
-    switched_same : (sent : List Departure) → switched u cs sent ≡ switched t cs sent
-    unfolding switched
-    switched_same sent = grind (arith, common_steps, outputs_same)
-
-    crossed_same : (sent : List Departure) (rs : List LimitedRecord) → crossed u cs sent rs ≡ crossed t cs sent rs
-    unfolding crossed
-    crossed_same sent rs = grind (arith, common_steps, outputs_same)
-
-    resumed_same : (kept : Kept) → resumed u cs kept ≡ resumed t cs kept
-    unfolding resumed
-    resumed_same kept = grind (arith, common_steps, outputs_same)
 
     run_same : (rs : List LimitedRecord) → IsFabricRun t (arrivals t cs) rs → IsFabricRun u (arrivals u cs) rs
     run_same rs is = rw arrivals_same (record { end = is.end; runs = is.runs })
@@ -86,7 +66,8 @@ module _ (n : ℕ) (t : Tables) where
     -- ## Each aim
 
     crossing : (sent : List Departure) → Follows (Ok (Crossing t cs sent)) (Ok (Crossing u cs sent))
-    crossing sent = search (arith, rules, run_same, crossed_same, sym)
+    unfolding crossed
+    crossing sent = search (arith, rules, run_same, outputs_same, sym)
 
     auditing : (sent : List Departure) (trace log : List ℕ) →
         Follows (Ok (Auditing t cs sent trace log)) (Ok (Auditing u cs sent trace log))
@@ -104,18 +85,19 @@ module _ (n : ℕ) (t : Tables) where
     sends : (cs : List (List Captured)) (aim : Tables → List (List Captured) → List Departure → Aim) →
         ((sent : List Departure) → Follows (Ok (aim t cs sent)) (Ok (aim u cs sent))) →
         Follows (sent_of aim r t cs m) (sent_of aim r u cs m)
-    sends cs aim h = grind (arith, common_steps, ideally_same, then_both)
+    unfolding ideal_departures ran_ideal
+    sends cs aim h = grind (arith, common_steps, arrivals_same, then_both)
 
     follows : (command : Command) → Follows (judged r (over one command) m) (judged r (over other command) m)
-    unfolding check_line
+    unfolding check_line switched resumed
     follows (Check old) = rw (first, second) (alike _)
-    follows (Ideal old) = both (rest_of asked.Ideal) (λ cs. search (rules, sends, switched_same, alike))
+    follows (Ideal old) = both (rest_of asked.Ideal) (λ cs. search (rules, sends, outputs_same, alike))
     follows (Run old) = both (rest_of asked.Run) (λ cs. sends cs Crossing (crossing cs))
     follows (Audit old) = both (rest_of asked.Audit) (λ cs. search (rules, then_both, sends, auditing))
     follows (Part old slots state) =
         both (rest_of (asked.Part slots state)) (λ cs. search (arith, rules, aimed, arrivals_same))
     follows (Resume old state) = both (rest_of (asked.Resume state))
-        (λ cs. search (arith, rules, then_both, aimed, arrivals_same, resumed_same))
+        (λ cs. search (arith, rules, then_both, aimed, arrivals_same, outputs_same))
     follows _ = alike _
 
 -- ## Both ways

@@ -1,7 +1,7 @@
 -- One judgement after another. Where the first ends without an answer, so do both; where it has one, the second is
 -- left, and what ends that ends both. A name that the second is to read is to be read by both, since the first comes to
--- the same without it, or misses it. First, the count of faults where an answer tells of none, and facts of told
--- contents.
+-- the same without it, or misses it. First, the count of faults where an answer tells of none, and what is told of
+-- contents in any case.
 use Rattle.cq_run.proofs.Terms.{rules, arith, ◌≡◌, ◌∙◌, ◌⊎◌, ℕ, List, ap, Option, None, Some, IfSome, Result, Ok, Err, common_steps, Contents, Space, Closed, Mode, Refusal, Missing, Halt, ◌>>=◌, IsHaltOf, Judges, InTurn, Pace, Ahead, Uncounted, AnyName, Call, Fails, Lasts}
 use Rattle.std.specs.FinMap.{remove}
 use Rattle.cq_run.proofs.Stays.{Stays}
@@ -27,11 +27,6 @@ pub counts_of : {A : Type 0} (j : Contents → Result A Refusal) (R : List ℕ �
 counts_of j R old new result h = grind (arith, common_steps)
 
 -- ## Told contents
-
--- a fact that follows from two others
-pub told_two : {A : Type 0} (told : Option A) (P Q R : A → Type 0) → ((m : A) → P m → Q m → R m) → IfSome told P →
-    IfSome told Q → IfSome told R
-told_two told P Q R f g h = grind (arith, common_steps)
 
 -- a fact that always holds
 pub told_any : {A : Type 0} (told : Option A) (P : A → Type 0) → ((m : A) → P m) → IfSome told P

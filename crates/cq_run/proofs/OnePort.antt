@@ -201,10 +201,6 @@ module _ (t : Tables) (captures : List (List Captured)) where
   abbrev arrival_of : ℕ → ℕ → Arrival
   arrival_of k i = record { slot = start t captures 0 k + i; cell = cell_of t captures 0 k i }
 
-  -- the arrival of the last cell of packet k
-  abbrev last_of : ℕ → Arrival
-  last_of k = arrival_of k (cells t captures 0 k - 1)
-
   some_cells : (k : ℕ) → 1 ≤ cells t captures 0 k
   unfolding cells cells_of
   some_cells k = omega arith
@@ -213,7 +209,8 @@ module _ (t : Tables) (captures : List (List Captured)) where
   unfolding cell_of
   marked k i = let some = some_cells k in grind (arith, common_steps, eq-eqb, ne_eqb, cases_eq)
 
-  lasts_of : (k : ℕ) → filter is_last (arrivals_of t captures 0 k) ≡ last_of k ∷ []
+  lasts_of : (k : ℕ) →
+      filter is_last (arrivals_of t captures 0 k) ≡ arrival_of k (cells t captures 0 k - 1) ∷ []
   lasts_of k =
       let n = cells t captures 0 k in
       search (arith, rules, some_cells k, last_alone (arrival_of k) (n - 1), marked k, one_is (n - 1) 0 n)

@@ -59,18 +59,12 @@ module _ (r : Reader) (limit input : ℕ) (row : PortRow) (rows : List PortRow) 
   abbrev then_later : List Captured → Contents → Result (List (List Captured)) Refusal
   then_later packets m = captures_from r limit (input + 1) rows m >>= (λ others. Ok (packets ∷ others))
 
-  -- the first ends it
-  first_ends : {R : List ℕ → Type 0} {old new : Space} {halt : Halt} →
-      Judges Ahead (packets_at r input limit row.read) R old new (Err halt) →
-      Judges Ahead (captures_from r limit input (row ∷ rows)) R old new (Err halt)
-  unfolding captures_from
-  first_ends h = judges_then then_later (λ name u. u) h
-
   -- the first file could not be read, and no later one was
   pub file_ends : {R : List ℕ → Type 0} {old new : Space} {halt : Halt} →
       Halts InTurn (packets_at r input limit row.read) R old new halt → new.mode ≡ Closed → new.told ≡ old.told →
       Judges Ahead (captures_from r limit input (row ∷ rows)) R old new (Err halt)
-  file_ends h c t = grind (arith, common_steps, first_ends)
+  unfolding captures_from
+  file_ends h c t = search (arith, rules, judges_then)
 
 -- what failed since the first file was read failed since this call began, for no fault was counted before
 module _ {S : Type 0} (space : S → Space) {keeps : S → S → Type 0} {row : PortRow} {input limit : ℕ} {old mid : S}
@@ -103,7 +97,8 @@ module _ {S : Type 0} (space : S → Space) {keeps : S → S → Type 0} {row : 
     unfolding captures_from
     together (Err halt) later result spelt halts g is =
         let here = halted r input limit Ever (space old) (space new) halt row.read begun b.decoding halts in
-        rw is (first_ends r limit input row rows (search (arith, rules, name_after, ever, counts_of)))
+        rw is (judges_then (then_later r limit input row rows) (λ name u. u)
+        (search (arith, rules, name_after, ever, counts_of)))
     together (Ok packets) (Err halt) result spelt halts g is =
         let at = stands_on (then_later r limit input row rows) (packets_stay r input limit row.read) stands_first
         (first packets spelt) in rw is (stands_back ever at (judges_then _ (λ name u. u) g))

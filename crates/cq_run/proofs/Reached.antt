@@ -5,7 +5,7 @@ use Rattle.cq_run.proofs.Terms.{rules, arith, ◌≡◌, ◌⊎◌, ℕ, IsTrue,
 use Rattle.cq_run.specs.declared.denial.Denial.TheVariants.{LongLog, LongTrace}
 use Rattle.cq_run.specs.declared.judge.Asked.{Asked}
 use Rattle.cq_run.specs.declared.judge.Asked.TheVariants as asked
-use Rattle.cq_run.proofs.Chain.{ComesTo, Stands, both, comes_on, stands_back, stands_first, stands_on, judges_computed_err, judges_then, counts_same, judges_at, fails_after, told_two}
+use Rattle.cq_run.proofs.Chain.{ComesTo, Stands, both, comes_on, stands_back, stands_first, stands_on, judges_computed_err, judges_then, counts_same, judges_at, fails_after}
 use Rattle.cq_run.proofs.TextRead.{from_front}
 use Rattle.cq_run.proofs.Stays.{Stays, captures_from_stay, tables_stay}
 
@@ -216,6 +216,6 @@ pub given_read : {S : Type 0} {space : S → Space} {keeps : S → S → Type 0}
 given_read {space = space} {config = config} {old = old} {mid = mid} {new = new} {t = t} {captures = captures} lasts
     in_range read kept h each kept_on =
     let front = h from_front in
-    let arrive = λ (r : Reader). told_two (space old).told _ _ (λ m. AreRead r config m t captures)
-    (λ m a b. record { configured = a; captured = b }) read.ok (rw read.told at (h r).ok) in
+    let arrive : (r : Reader) → IfSome (space old).told (λ m. AreRead r config m t captures) =
+    λ r. let at = rw read.told at (h r).ok in grind (arith, common_steps) in
     search (arith, rules, arrive, lasts.both)
