@@ -2,9 +2,9 @@
 //!
 //! What a command owns it lends to its last call, and drops by name behind it: this is one step of a proof, where the
 //! end of a scope is one for each field.
-ghost use Rattle.std.specs.Prelude.{◌≡◌, ℕ, ◌≤◌, ◌<◌, ◌^◌, List, ◌∷◌, [], All, IfErr, IfOk, IsOk, Ok, length};
+ghost use Rattle.std.specs.Prelude.{◌≡◌, ℕ, ◌≤◌, ◌<◌, ◌^◌, ◌⊎◌, List, ◌∷◌, [], All, Err, IfErr, IfOk, IsOk, Ok, length};
 ghost use Rattle.std.specs.Int.{IsInRange};
-ghost use Rattle.cq_run.specs.Terms.{Closed, StopsInTime, command_asking, Fails, Reads, Judges, tables_in, checked, AreGiven, AreTables, ports_of, file_alone, IsPartHalt, IsPartText, soak_captures, soak_tables, plain_tables, Meets, Reporting, IsJudged, IsHaltOf, Ahead, InTurn, IsGiven, IsResumeHalt, IsResuming, IsWithinRange, IsCrossing, IsIdeal, IsPassing, ideally_sent, most_ports, most_soak_slots, report_with};
+ghost use Rattle.cq_run.specs.Terms.{Closed, StopsInTime, command_asking, Fails, Reads, Judges, tables_in, checked, AreGiven, AreTables, audited, ports_of, file_alone, IsPartHalt, IsPartText, soak_captures, soak_tables, plain_tables, Meets, Reporting, IsJudged, IsHaltOf, Ahead, InTurn, IsGiven, IsResumeHalt, IsResuming, IsWithinRange, IsCrossing, IsIdeal, IsPassing, ideally_sent, most_ports, most_soak_slots, report_with};
 
 use crate::ahead::stream_from;
 use crate::build::{
@@ -397,6 +397,15 @@ fn audit<R: Threads + Sync, F: Files>(
     );
     drop(log);
     drop(trace);
+    answer_yes(alloc, done)
+}
+
+// The yes of an audit, where it is done without a no.
+#[tactic(auto, using(crate::proofs::Reached::exit_is))]
+fn answer_yes(alloc: Global, done: Result<(), Halt>) -> Result<Work, Halt>
+    ensures yes { IfOk result (λ plan. IsOk done × (plan ≡ audited)) }
+    ensures no { IfErr result (λ halt. (done ≡ Err halt) ⊎ (halt ≡ Halt.NoMemory)) }
+{
     done?;
     Ok(build_yes(alloc)?)
 }
