@@ -2,7 +2,7 @@
 -- run the setup and the limits, and what is written the names of the files and the length of a slot. So the same
 -- arrives whatever that number is; and each verdict, each plan that meets it, and each reason that denies it, is made
 -- of what arrives and of these. Numbers can be exchanged, so it holds both ways.
-use Rattle.cq_run.proofs.Terms.{rules, arith, common_steps, ◌≡◌, ◌+◌, ℕ, zero, suc, List, length, refl, ap, sym, Arrival, IsOkAnd, Result, Ok, Err, arrivals, arrivals_at, arrivals_of, cell_of, cells, Captured, Tables, Departure, LimitedRecord, IsFabricRun, PortRow, Kept, captures_out, crossed, resumed, switched, ideal_departures, ran_ideal, packets_out, Contents, Aim, Denies, Meets, Crossing, Auditing, Refusal, Plan, Reader, ◌>>=◌, judged, ideally_sent, sent_or_tag, tables_in, judged_of_given, Command, Audit, Check, Ideal, Part, Resume, Run}
+use Rattle.cq_run.proofs.Terms.{rules, arith, common_steps, ◌≡◌, ◌+◌, ℕ, zero, suc, List, refl, ap, sym, IsOkAnd, Result, Ok, Err, arrivals, arrivals_at, arrivals_of, cell_of, cells, Captured, Tables, Departure, LimitedRecord, IsFabricRun, PortRow, captures_out, crossed, resumed, switched, ideal_departures, ran_ideal, packets_out, Contents, Aim, Denies, Meets, Crossing, Auditing, Refusal, Plan, Reader, ◌>>=◌, judged, tables_in, judged_of_given, Command, Audit, Check, Ideal, Part, Resume, Run}
 use Rattle.std.specs.Prelude.{max}
 use Rattle.cq_cells.proofs.Ranges.{flat_same}
 use Rattle.cq_cells.specs.Schedule.{stamp_slot, start}

@@ -1,6 +1,6 @@
 -- From one judgement after another to a plan that meets what is aimed at: for each command what is judged of what it
 -- reads, and a plan that it comes to.
-use Rattle.cq_run.proofs.Terms.{resumed_best, resumed_slack, parted_best, parted_slack, rules, arith, ◌≡◌, ◌∙◌, ℕ, List, [], ◌∷◌, refl, ap, Result, Ok, Err, IfOk, IfErr, IsOk, common_steps, Departure, soak_captures, soak_tables, Captured, Tables, Call, Contents, Space, Closed, Command, Ideal, Run, Soak, Pass, Audit, Part, Resume, Given, Refusal, Halt, Aim, Reporting, Meets, Exactly, Auditing, Resuming, IsGiven, IsPassage, AreRead, IsAudited, AreGiven, IsJudged, IsHaltOf, Judges, Pace, InTurn, Uncounted, Plan, known_to, Reader, ◌>>=◌, ideally_sent, capture_in, text_in, state_in, capture_out, passed, audited, file_alone, IsCrossing, IsIdeal, IsPassing, plain_tables, AreTables, Lasts, capture_of_all, trace_of, Audited, State, IsAuditHalted, IsAuditPassed, IsPartHalt, IsResumeHalt, IsResuming, IsPartText, written, recursion_from_All, IfSome_then}
+use Rattle.cq_run.proofs.Terms.{resumed_best, resumed_slack, parted_best, parted_slack, rules, arith, ◌≡◌, ◌∙◌, ℕ, List, [], ◌∷◌, refl, ap, Result, Ok, Err, IfOk, IfErr, IsOk, common_steps, Departure, soak_captures, soak_tables, Captured, Tables, Call, Contents, Space, Closed, Command, Ideal, Run, Soak, Pass, Audit, Part, Resume, Given, Refusal, Halt, Aim, Reporting, Meets, Exactly, Auditing, Resuming, IsGiven, IsPassage, AreRead, IsAudited, AreGiven, IsJudged, IsHaltOf, Judges, Pace, InTurn, Uncounted, Plan, known_to, Reader, ◌>>=◌, ideally_sent, capture_in, text_in, state_in, passed, audited, file_alone, IsCrossing, IsIdeal, IsPassing, plain_tables, AreTables, Lasts, trace_of, Audited, State, IsAuditHalted, IsAuditPassed, IsPartHalt, IsResumeHalt, IsResuming, IsPartText, written, recursion_from_All, IfSome_then}
 use Rattle.cq_run.proofs.Stopped.{taken_up}
 use Rattle.cq_run.proofs.Chain.{judges_computed, judges_computed_err, told_any}
 use Rattle.cq_run.proofs.Crossed.{sent_ok}

@@ -1,5 +1,5 @@
 -- The words of this crate's proofs that stand elsewhere, each passed on from its place.
-pub use Rattle.cq_base.proofs.Library.{AllByRecursion, Bool, Err, IfErr, IfOk, IfSome, IsErr, IsErrAnd, IsOk, IsOkAnd, IsTrue, List, MatchOption, None, Ok, Option, Result, Some, [], and_from, ap, append-nil, append_assoc, append_known, arith, bytes_eq-Decides, cases_eq, codes, common_steps, cond, drop, drop_all, drop_more, eq-eqb, eq_by_cmp_equiv, exact_bytes, false, filter, filter-append, flat_map, get, get-insert, get-remove, get_or, inl, inr, is_some, le-ltb, leb-true, length, length-append, length-drop, length-take-le, list_any, lt-ltb, map, nat_le, nat_list_cmp_total, ne_eqb, nil_from_length, not_from_false, option_map, range_with_len, recursion_from_All, refl, replicate, rules, slice_index, string_bytes, subst, suc, sym, take, take-append-add, take-append-drop, take_all, take_at, take_more, tells_apart, true, vec_len, zero, ℕ, ⊎_elim, ◌&&◌, ◌*◌, ◌++◌, ◌+◌, ◌-◌, ◌<◌, ◌==◌, ◌^◌, ◌∙◌, ◌∷◌, ◌≡◌, ◌≢◌, ◌≤◌, ◌↔◌, ◌⊎◌}
+pub use Rattle.cq_base.proofs.Library.{AllByRecursion, Bool, Err, IfErr, IfOk, IfSome, IsErr, IsErrAnd, IsOk, IsOkAnd, IsTrue, List, MatchOption, None, Ok, Option, Result, Some, [], and_from, ap, append-nil, append_assoc, append_known, arith, bytes_eq-Decides, cases_eq, codes, common_steps, cond, drop, drop_all, drop_more, eq-eqb, eq_by_cmp_equiv, exact_bytes, false, filter, filter-append, flat_map, get, get-insert, get-remove, get_or, inl, inr, is_some, le-ltb, leb-true, length, length-append, length-drop, list_any, lt-ltb, map, nat_le, nat_list_cmp_total, ne_eqb, nil_from_length, not_from_false, option_map, range_with_len, recursion_from_All, refl, replicate, rules, slice_index, string_bytes, suc, sym, take, take-append-add, take-append-drop, take_at, tells_apart, true, vec_len, zero, ℕ, ⊎_elim, ◌&&◌, ◌*◌, ◌++◌, ◌+◌, ◌-◌, ◌<◌, ◌==◌, ◌^◌, ◌∙◌, ◌∷◌, ◌≡◌, ◌≢◌, ◌≤◌, ◌↔◌, ◌⊎◌}
 pub use Rattle.std.proofs.lemmas.Option.{IfSome_then}
 pub use Rattle.cq_base.specs.Arriving.{Arrival, arriving, arriving_at, end_of, traffic_of}
 unfoldable pub use Rattle.cq_base.specs.Arriving.{enough}
@@ -47,7 +47,7 @@ unfoldable pub use Rattle.cq_run.specs.Line.{line}
 pub use Rattle.cq_run.specs.Pace.{Ahead, AnyName, InTurn, Pace, Uncounted, pace_of}
 pub use Rattle.cq_run.specs.PartEnds.{IsPartHalt, IsResumeHalt, IsResumedBy, IsResuming, halt_for_text}
 pub use Rattle.cq_run.specs.Parting.{IsPartText, IsResumedText}
-pub use Rattle.cq_run.specs.Passing.{all_leave, as_it_leaves, capture_of_all}
+pub use Rattle.cq_run.specs.Passing.{all_leave, as_it_leaves}
 pub use Rattle.cq_run.specs.Pieces.{joined, piece_text}
 pub use Rattle.cq_run.specs.Planning.{Decides, IsWithinRange, known_by, known_to}
 pub use Rattle.cq_run.specs.Plan.{audited, capture_out, checked, passed, file_alone}

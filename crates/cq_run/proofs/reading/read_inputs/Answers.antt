@@ -1,4 +1,4 @@
-use Rattle.cq_run.proofs.Terms.{Reader, rules, arith, sym, length-append}
+use Rattle.cq_run.proofs.Terms.{rules, arith, sym, length-append}
 use Rattle.cq_run.proofs.Chain.{fails_after, judges_then, stands_as, stands_back, stands_on}
 use Rattle.cq_run.proofs.Ports.{first_left, next_left, none_left}
 use Rattle.cq_run.proofs.Stays.{packets_stay}
