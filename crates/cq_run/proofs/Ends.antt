@@ -28,9 +28,6 @@ module _ {S : Type 0} {space : S → Space} {may_fail : Call → S → S → Typ
   judging_ends {halt} h = grind (arith, common_steps, h.judges r)
 
   module _ {plan : Plan} (judged : IsJudged space may_fail unbegun pace command old mid (Ok plan)) where
-    is_planned : IsPlanned r command (space old) plan
-    is_planned = grind (arith, common_steps, judged.judges r)
-
     -- the plan is done
     pub performed : {new : World} → IsDone plan (at space out mid) new →
         CommandEnds pace r (λ _. Unit {0}) (λ _. Unit {0}) (Unit {0}) command (at space out old) new (Ok tt)
@@ -45,7 +42,8 @@ module _ {S : Type 0} {space : S → Space} {may_fail : Call → S → S → Typ
         (at space out old) (at space out_new new) (Err (Cut unwritten))
     cut_short keeps new out_new T unwritten lasts kept h =
         let decides = judged.judges r in
-        search (arith, rules, file_from, is_planned, known_faults, fails_after)
+        let emulates = judged.emulates r in
+        grind (arith, common_steps, file_from, known_faults, fails_after)
 
 -- no writing was begun where the run halted, and the status tells whether it did
 pub halted_so : {P : Type 0} (end : Result (Unit {0}) Stop) {answer : Status} → answer ≡ status_of end →

@@ -122,8 +122,7 @@ module _ (ms : List Machine) (inputs : ℕ) (many : suc inputs ≡ most_ports) w
       let p = first_slot ms s (Some a.cell ∷ replicate inputs None) (arriving_from came (s + 1) n) (alone ranks) ran
       (rw (cells, later) at h) in
       let is = one_sent ms s ranks inputs a.cell p.sent turn.0.output p.ran_slot in
-      let rest = behind p.sent.after.ranks p.second (rw is.3 at p.ran_second) in
-      rw (p.both, is.2) (grind (arith, common_steps))
+      grind (arith, common_steps, behind p.sent.after.ranks p.second (rw is.3 at p.ran_second))
 
   pub each_in_its_slot : (n s end : ℕ) (came : List Arrival) → InTurnFrom s came →
       AllByRecursion (λ a. a.slot < end) came → end ≤ s + n → LeaveFrom s came n
@@ -147,16 +146,9 @@ in_turn : (classes slot : ℕ) (came : List Arrival) → AllByRecursion (IsInRan
 in_turn classes slot [] ranges later first = tt
 in_turn classes slot (a ∷ came) ranges later first = search (arith, rules, in_turn classes (a.slot + 1) came, all_give)
 
-ran_ok : (P : List Departure → Type 0) (x : Result Ran TagFault) (sent : List Departure) →
-    departures_ran x ≡ Ok sent → ((ran : Ran) → x ≡ Ok ran → P (departures_of 0 ran.gone)) → P sent
-ran_ok P x sent h f = grind (arith, common_steps)
-
 -- no output has a limit
 pub none_limited : NoLimits (None ∷ [])
 none_limited j = grind (arith, common_steps)
-
-same_departures : (x : Result LimitedRan TagFault) → departures_ran (unlimited x) ≡ departures_limited x
-same_departures x = grind (arith, common_steps)
 
 pub sent_in_slot : (t : Tables) (came : List Arrival) (sent : List Departure) → ports_of t.setup ≡ 1 →
     NoLimits t.limits → IsTraffic (ports_of t.setup) (classes_of t.setup) came → ideal_departures t came ≡ Ok sent →
@@ -170,10 +162,10 @@ sent_in_slot t came sent one none traffic h =
     let turn : InTurnFrom 0 came =
     in_turn (classes_of t.setup) 0 came (rw one at traffic.in_range) (each_pair IsLater came traffic.one_by_one)
     (all_weaker _ (λ a. 0 ≤ a.slot) (λ a _. omega arith) came traffic.in_range) in
-    ran_ok (λ l. AreInSlot came l) (ideal_run ms 0 (traffic_of came) (empty_ideal ports ranks)) sent
-    (cc (same_sent ms ports ranks came, run_as_before t.limits ms ports ranks came none, same_departures whole, h))
-    (λ ran is. each_in_its_slot ms 63 refl (enough came) 0 (end_of came) came turn (before_end came) (omega arith)
-    ranks ran (cc (all_slots came, one, is)))
+    let same = same_sent ms ports ranks came in
+    let before = run_as_before t.limits ms ports ranks came none in
+    let each = each_in_its_slot ms 63 refl (enough came) 0 (end_of came) came turn (before_end came) (omega arith)
+    ranks in search (arith, rules, same, before, each, all_slots)
 
 -- ## Every packet leaves, once and in its place: with its last cell, which alone is marked, in its slot
 

@@ -15,14 +15,10 @@ module _ (long : Refusal) (limit : ℕ) (name : List ℕ) where
       IsToRead (short_in long limit name) told asked
   text_is_to_read told asked a = grind (arith, common_steps, get-remove_same)
 
-pub too_long : (text : List ℕ) → nat_le (length text) 1048576 ≡ false →
-    read_or_refused text ≡ Err (record { code = 10; path = codes "-" })
-unfolding read_or_refused first
-too_long text e = rw e cc
-
 pub configuration_long : (told : Option Contents) (name asked path : List ℕ) → asked ≡ name → path ≡ codes "-" →
     IfSome told (λ m. 1048576 < length (bytes_of m asked)) → IsRefused (tables_in name) told (Configuration 10 path)
-configuration_long told name asked path a e h = search (arith, rules, too_long)
+unfolding read_or_refused first
+configuration_long told name asked path a e h = search (arith, rules)
 
 pub configuration_is_to_read : (told : Option Contents) (name : List ℕ) → IsToRead (tables_in name) told name
 configuration_is_to_read told name = grind (arith, common_steps, get-remove_same)
