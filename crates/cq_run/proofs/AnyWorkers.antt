@@ -2,7 +2,7 @@
 -- run the setup and the limits, and what is written the names of the files and the length of a slot. So the same
 -- arrives whatever that number is; and each verdict, each plan that meets it, and each reason that denies it, is made
 -- of what arrives and of these. Numbers can be exchanged, so it holds both ways.
-use Rattle.cq_run.proofs.Terms.{rules, arith, common_steps, ◌≡◌, ◌+◌, ℕ, zero, suc, List, refl, ap, sym, IsOkAnd, Result, Ok, Err, arrivals, arrivals_at, arrivals_of, cell_of, cells, Captured, Tables, Departure, LimitedRecord, IsFabricRun, PortRow, captures_out, crossed, resumed, switched, ideal_departures, ran_ideal, packets_out, Contents, Aim, Denies, Meets, Crossing, Auditing, Refusal, Plan, Reader, ◌>>=◌, judged, tables_in, judged_of_given, Command, Audit, Check, Ideal, Part, Resume, Run}
+use Rattle.cq_run.proofs.Terms.{rules, arith, common_steps, ◌≡◌, ◌+◌, ℕ, zero, suc, List, refl, ap, sym, IsOkAnd, Result, Ok, Err, arrivals, arrivals_at, arrivals_of, cell_of, cells, Captured, Tables, Departure, PortRow, captures_out, crossed, resumed, switched, ideal_departures, ran_ideal, packets_out, Contents, Aim, Denies, Meets, Crossing, Auditing, Refusal, Plan, Reader, ◌>>=◌, judged, tables_in, judged_of_given, Command, Audit, Check, Ideal, Part, Resume, Run}
 use Rattle.std.specs.Prelude.{max}
 use Rattle.cq_cells.proofs.Ranges.{flat_same}
 use Rattle.cq_cells.specs.Schedule.{stamp_slot, start}
@@ -60,14 +60,11 @@ module _ (n : ℕ) (t : Tables) where
     unfolding captures_out packets_out
     outputs_same sent output rows = grind (arith, common_steps)
 
-    run_same : (rs : List LimitedRecord) → IsFabricRun t (arrivals t cs) rs → IsFabricRun u (arrivals u cs) rs
-    run_same rs is = rw arrivals_same (record { end = is.end; runs = is.runs })
-
     -- ## Each aim
 
     crossing : (sent : List Departure) → Follows (Ok (Crossing t cs sent)) (Ok (Crossing u cs sent))
     unfolding crossed
-    crossing sent = search (arith, rules, run_same, outputs_same, sym)
+    crossing sent = search (arith, rules, arrivals_same, outputs_same, sym)
 
     auditing : (sent : List Departure) (trace log : List ℕ) →
         Follows (Ok (Auditing t cs sent trace log)) (Ok (Auditing u cs sent trace log))

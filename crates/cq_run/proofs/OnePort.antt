@@ -1,11 +1,11 @@
 -- A switch of one port sends each cell in the slot in which it comes. Cells come one after another, at most one in a
 -- slot. So no cell waits when a slot begins; the cell that comes is alone in the one list, and leaves.
 -- The departures are the arrivals, and every packet leaves with its last cell, which alone is marked as last.
-use Rattle.cq_run.proofs.Terms.{common_steps, ◌⊎◌, inl, inr, ◌≡◌, ℕ, zero, suc, ◌+◌, ◌<◌, ◌≤◌, Bool, List, [], ◌∷◌, map, replicate, Option, Some, None, Result, Ok, refl, sym, ◌∙◌, ⊎_elim, arith, rules, ◌-◌, ◌*◌, flat_map, ◌==◌, append-nil, AllByRecursion, range_with_len, filter, cases_eq, eq-eqb, and_from, Arrival, arriving, arriving_at, end_of, enough, traffic_of, Departure, TagFault, filter-append, arrivals, arrivals_at, arrivals_of, cell_of, cells, cells_of, t0_of, packet_at, start, IsInRange, IsLater, IsTraffic, traffic_is, departures_limited, whole_limited_run, LimitedRan, empty_limited, unlimited, all_weaker, run_as_before, same_sent, Captured, AreTables, classes_of, ports_of, Tables, machines_of, openings_of, ideal_departures, ran_ideal, ends_packet_at, leaving, packets_out, all_leave, as_it_leaves, ne_eqb, Cell, Queued, Machine, arriving_is, first_slot, ranked_none, NoLimits, all_slots, before_end, OutPacket, one_is, most_ports, EachPair}
+use Rattle.cq_run.proofs.Terms.{common_steps, ◌⊎◌, inl, inr, ◌≡◌, ℕ, zero, suc, ◌+◌, ◌<◌, ◌≤◌, Bool, List, [], ◌∷◌, map, replicate, Option, Some, None, Ok, refl, sym, ◌∙◌, ⊎_elim, arith, rules, ◌-◌, ◌*◌, flat_map, ◌==◌, append-nil, AllByRecursion, range_with_len, filter, cases_eq, eq-eqb, and_from, Arrival, arriving, arriving_at, end_of, enough, Departure, filter-append, arrivals, arrivals_at, arrivals_of, cell_of, cells, cells_of, t0_of, packet_at, start, IsInRange, IsLater, IsTraffic, traffic_is, all_weaker, run_as_before, same_sent, Captured, AreTables, classes_of, ports_of, Tables, machines_of, openings_of, ideal_departures, ran_ideal, ends_packet_at, leaving, packets_out, all_leave, as_it_leaves, ne_eqb, Cell, Queued, Machine, arriving_is, first_slot, ranked_none, NoLimits, all_slots, before_end, OutPacket, one_is, most_ports, EachPair}
 use Rattle.cq_base.proofs.{Each.all_give, Pooled.each_pair}
 use Rattle.cq_ideal.proofs.{Came.nobody_left, Resting.none_at, Waiting.filled_next}
 use Rattle.cq_ideal.specs.Ending.{arriving_from}
-use Rattle.cq_ideal.specs.IdealRun.{Ran, departures_of, ideal_run, departures_ran, empty_ideal}
+use Rattle.cq_ideal.specs.IdealRun.{Ran, departures_of, ideal_run}
 use Rattle.cq_ideal.specs.IdealSlot.{IdealState, Sent, departures_in, filled, fronts, ideal_sends, ideal_slot, rests}
 
 -- cells of the one input for the one output, of which each comes later than the one before it, from this slot on
@@ -158,7 +158,6 @@ sent_in_slot t came sent one none traffic h =
     let ms = machines_of t.setup in
     let ports = ports_of t.setup in
     let ranks = openings_of t.setup in
-    let whole = whole_limited_run t.limits ms came (empty_limited ports ranks) in
     let turn : InTurnFrom 0 came =
     in_turn (classes_of t.setup) 0 came (rw one at traffic.in_range) (each_pair IsLater came traffic.one_by_one)
     (all_weaker _ (λ a. 0 ≤ a.slot) (λ a _. omega arith) came traffic.in_range) in

@@ -1,7 +1,7 @@
 -- The words of this crate's proofs that stand elsewhere, each passed on from its place.
-pub use Rattle.cq_base.proofs.Library.{AllByRecursion, Bool, Err, IfErr, IfOk, IfSome, IsErr, IsErrAnd, IsOk, IsOkAnd, IsTrue, List, MatchOption, None, Ok, Option, Result, Some, [], and_from, ap, append-nil, append_assoc, append_known, arith, bytes_eq-Decides, cases_eq, codes, common_steps, cond, drop, drop_all, drop_more, eq-eqb, eq_by_cmp_equiv, exact_bytes, false, filter, filter-append, flat_map, get, get-insert, get-remove, get_or, inl, inr, is_some, le-ltb, leb-true, length, length-append, length-drop, list_any, lt-ltb, map, nat_le, nat_list_cmp_total, ne_eqb, nil_from_length, not_from_false, option_map, range_with_len, recursion_from_All, refl, replicate, rules, slice_index, string_bytes, suc, sym, take, take-append-add, take-append-drop, take_at, tells_apart, true, vec_len, zero, ℕ, ⊎_elim, ◌&&◌, ◌*◌, ◌++◌, ◌+◌, ◌-◌, ◌<◌, ◌==◌, ◌^◌, ◌∙◌, ◌∷◌, ◌≡◌, ◌≢◌, ◌≤◌, ◌↔◌, ◌⊎◌}
+pub use Rattle.cq_base.proofs.Library.{AllByRecursion, Bool, Err, IfErr, IfOk, IfSome, IsErr, IsErrAnd, IsOk, IsOkAnd, IsTrue, List, MatchOption, None, Ok, Option, Result, Some, [], and_from, ap, append-nil, append_assoc, append_known, arith, bytes_eq-Decides, cases_eq, codes, common_steps, cond, drop, drop_all, drop_more, eq-eqb, eq_by_cmp_equiv, exact_bytes, false, filter, filter-append, flat_map, get, get-insert, get-remove, get_or, inl, inr, is_some, le-ltb, leb-true, length, length-append, length-drop, list_any, lt-ltb, map, nat_list_cmp_total, ne_eqb, nil_from_length, not_from_false, option_map, range_with_len, recursion_from_All, refl, replicate, rules, slice_index, string_bytes, suc, sym, take, take-append-add, take-append-drop, take_at, tells_apart, true, vec_len, zero, ℕ, ⊎_elim, ◌&&◌, ◌*◌, ◌++◌, ◌+◌, ◌-◌, ◌<◌, ◌==◌, ◌^◌, ◌∙◌, ◌∷◌, ◌≡◌, ◌≢◌, ◌≤◌, ◌↔◌, ◌⊎◌}
 pub use Rattle.std.proofs.lemmas.Option.{IfSome_then}
-pub use Rattle.cq_base.specs.Arriving.{Arrival, arriving, arriving_at, end_of, traffic_of}
+pub use Rattle.cq_base.specs.Arriving.{Arrival, arriving, arriving_at, end_of}
 unfoldable pub use Rattle.cq_base.specs.Arriving.{enough}
 pub use Rattle.cq_base.specs.{declared.cell.Departure.Departure, declared.cell.TagFault.TagFault, declared.cell.Transfer.Transfer}
 pub use Rattle.cq_space.specs.{Call.Call, Causes.Rose}
@@ -24,8 +24,8 @@ unfoldable pub use Rattle.cq_cells.specs.Schedule.{arrivals, arrivals_at, cell_o
 pub use Rattle.cq_cells.specs.Traffic.{IsInRange, IsLater, IsRecorded, IsTraffic}
 pub use Rattle.cq_scfq.specs.Disciplines.{machines_of, openings_of}
 pub use Rattle.cq_ideal.proofs.LimitedEnds.{limited_not_more, run_as_before, same_sent}
-pub use Rattle.cq_ideal.specs.LimitedEnding.{departures_limited, whole_limited_run}
-pub use Rattle.cq_ideal.specs.LimitedIdeal.{LimitedRan, empty_limited, unlimited}
+pub use Rattle.cq_ideal.specs.LimitedEnding.{whole_limited_run}
+pub use Rattle.cq_ideal.specs.LimitedIdeal.{empty_limited}
 pub use Rattle.cq_laws.specs.LimitedFabric.{LimitedRecord, slots_in}
 pub use Rattle.cq_laws.proofs.InputBest.{stable_limited_too}
 pub use Rattle.cq_simulate.proofs.FabricLaws.{always_slack, as_many_slots, best_in_each, once_each_slot, sends_as_ideal, slot_by_slot}
