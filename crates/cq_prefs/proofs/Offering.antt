@@ -1,6 +1,6 @@
 -- The inputs that have an offer, counted from the first on: one more is listed where its order has an output. And where
 -- no order has one, each is empty.
-use Rattle.cq_prefs.proofs.Terms.{common_steps, ℕ, ◌≡◌, ◌+◌, ◌≤◌, Bool, true, false, List, [], ◌∷◌, ◌++◌, length, get_or, list_all, filter, refl, arith, cases_lt, cond-true, cond-false, eqb, eqb-true, eq-eqb, lt-ltb, le-ltb, true≢false, append-nil, filter-append, length-range_with_len, nil_from_length, few_kept, Orders, outputs_of, has_offer, inputs_with_offers, length-append}
+use Rattle.cq_prefs.proofs.Terms.{common_steps, ℕ, ◌≡◌, ◌+◌, ◌≤◌, Bool, true, false, List, [], ◌∷◌, ◌++◌, length, get_or, list_all, filter, refl, arith, cases_lt, cond-true, cond-false, eqb, eqb-true, eq-eqb, lt-ltb, le-ltb, true≢false, append-nil, filter-append, length-range_with_len, nil_from_length, few_kept, Orders, outputs_of, has_offer, inputs_with_offers}
 use Rattle.cq_prefs.proofs.Members.{range_next}
 
 module _ (o : Orders) (n : ℕ) where
@@ -25,5 +25,3 @@ pub none_offers : (orders : List (List ℕ)) → list_all (λ order. eqb (length
     get_or orders i [] ≡ []
 none_offers [] all i = refl
 none_offers (order ∷ orders) all i = grind (arith, common_steps, nil_from_length, eqb-true, none_offers orders)
-
-pub ruleset offers_steps = (length-append, few_offers, offers-more, offers-same)

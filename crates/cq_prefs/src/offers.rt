@@ -157,18 +157,14 @@ impl Offers {
     }
 
     /// How many inputs have an offer.
-    #[tactic(auto, using(crate::proofs::Offering::offers_steps))]
+    #[tactic(auto, using(crate::proofs::Offering::few_offers))]
     pub fn offering(&self) -> u16
         ensures count { result ≡ length (inputs_with_offers self.now (ports self.now)) }
         ensures few { result ≤ ports self.now }
     {
-        let mut count = 0;
-        'inputs: for input in 0..self.ports() {
-            if !self.outputs_of(input).is_empty() {
-                count += 1;
-            }
-        }
-        count
+        (0..self.ports())
+            .filter(|input| !self.outputs_of(*input).is_empty())
+            .count() as u16
     }
 
     /// The outputs for which an input has a cell, the most wanted first.
