@@ -20,22 +20,24 @@ pub struct Refused {
 }
 
 /// The counts of the outputs that have a limit, in order, while nothing was refused yet. The error is want of memory.
-#[tactic(auto, using(crate::proofs::Refusals::from_output), unfolding(crate::specs::Refused::refused_counts, crate::specs::Refused::cells_refused, crate::specs::Refused::packets_refused))]
+#[tactic(auto, using(std::proofs::lemmas::Iterator::items_from_collect), unfolding(crate::specs::Refused::refused_counts, crate::specs::Refused::cells_refused, crate::specs::Refused::packets_refused))]
 pub fn none_refused(alloc: Global, limits: &[Option<u64>]) -> Result<Vec<Refused>, NoMemory>
     requires { length limits.now ≤ most_ports }
     ensures { IfOk result (λ refused. refused.items ≡ refused_counts limits.now []) }
 {
-    let mut refused = Vec::new(alloc);
-    'outputs: for output in 0..limits.len() {
-        if let Some(limit) = limits[output] {
-            refused.push(Refused {
-                output: output as Port,
-                limit,
-                packets: 0,
-                cells: 0,
-            })?;
-        }
-    }
+    let none_at = |(output, limit): (usize, &Option<u64>)| {
+        limit.map(|limit| Refused {
+            output: output as Port,
+            limit,
+            packets: 0,
+            cells: 0,
+        })
+    };
+    let refused = limits
+        .iter()
+        .enumerate()
+        .filter_map(none_at)
+        .collect(alloc)?;
     Ok(refused)
 }
 
