@@ -2,7 +2,7 @@
 -- The places of a slot's arrivals are filled input by input. Those before the next input have what arrives there, and
 -- the others have what stood there before. No cell stood behind the last line, and none arrives there. So in the end
 -- each place has what arrives.
-use Rattle.cq_cells.proofs.Terms.{rules, ◌≡◌, ◌≢◌, ℕ, IfSome, and_right, cond_both, eqb-true, zero, suc, ◌+◌, ◌<◌, ◌≤◌, max, Bool, ◌&&◌, List, [], ◌∷◌, ◌++◌, length, filter, take, slice_index_or, None, option_map, refl, arith, common_steps, AllByRecursion, find, ne_eqb, append-nil, take_more, flat_map-append, filter-append, Arrival, arriving_at, end_of, AreOwn, all_of, is_from, filter_all, filter_none, all_weaker, eq-eqb, get_or, Option, cases_lt, fill_by_all, unwrap_or-slice_get, no_arrivals, arriving, Cell, arrival_at-no_arrivals, StandBelow}
+use Rattle.cq_cells.proofs.Terms.{rules, ◌≡◌, ◌≢◌, ℕ, IfSome, and_right, cond_both, eqb-true, zero, suc, ◌+◌, ◌<◌, ◌≤◌, max, Bool, ◌&&◌, List, [], ◌∷◌, ◌++◌, length, filter, take, slice_index_or, None, option_map, refl, arith, common_steps, AllByRecursion, find, ne_eqb, append-nil, take_more, flat_map-append, filter-append, Arrival, arriving_at, end_of, AreOwn, all_of, is_from, filter_all, filter_none, all_weaker, eq-eqb, get_or, Option, cases_lt, fill_by_all, unwrap_or-slice_get, no_arrivals, arriving, Cell, arrival_at-no_arrivals, StandBelow, fold, map}
 use Rattle.cq_cells.proofs.Looked.{is_in}
 
 abbrev pub AllFrom : ℕ → List Arrival → Type 0
@@ -63,6 +63,14 @@ all_of_more lines i line h is = grind (arith, common_steps, take_more, flat_map-
 pub end_of-append : (xs ys : List Arrival) → end_of (xs ++ ys) ≡ max (end_of xs) (end_of ys)
 end_of-append [] ys = omega arith
 end_of-append (x ∷ xs) ys = omega (arith, end_of-append xs ys)
+
+ends_later : (e : ℕ) (lines : List (List Arrival)) → fold max e (map end_of lines) ≡ max e (end_of (all_of lines))
+ends_later e [] = omega arith
+ends_later e (line ∷ lines) = grind (arith, common_steps, end_of-append, ends_later (max e (end_of line)) lines)
+
+-- the end of all lines
+pub end_of_all : (lines : List (List Arrival)) → fold max 0 (map end_of lines) ≡ end_of (all_of lines)
+end_of_all lines = omega (arith, ends_later 0 lines)
 
 -- what arrives at an input is its own
 pub arrives_own : (came : List Arrival) (slot input : ℕ) →

@@ -223,14 +223,11 @@ fn total_of(lines: &[Line]) -> u64
 }
 
 // The first slot from which on no cell arrives at any input.
+#[tactic(auto, using(crate::proofs::Owned::end_of_all))]
 fn end_of(lines: &[Line]) -> Slot
     ensures { result ≡ end_of (all_of lines.now) }
 {
-    let mut end = 0;
-    'lines: for line in lines {
-        end = line.end().max(end);
-    }
-    end
+    lines.iter().map(Line::end).fold(0, Slot::max)
 }
 
 // The least slot from this one on in which a cell arrives at the inputs of these lines, or None where there is
