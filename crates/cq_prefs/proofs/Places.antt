@@ -1,6 +1,7 @@
 -- Places in an order, and what offers say of them. A place that is found shows its port, and where no port is twice
 -- the port at a place is found there. So an offered pair has its ports in range, and no order is longer than there
 -- are ports.
+use Rattle.std.proofs.iter.runs.Made.{chains}
 use Rattle.cq_prefs.proofs.Terms.{common_steps, rules, ℕ, ◌≡◌, ◌<◌, ◌≤◌, List, length, get_or, eqb, refl, arith, IsDistinct, cases_lt, eqb-true, eq-eqb, ne_eqb, get_or_past, get_or_default, get_or-replicate, length-replicate, position_or_len_is, passes_at_first, prefix_len-le-length, apart_from_distinct, Any-from_list_any, length-le_from_distinct_below, Orders, AreOffers, ports, outputs_of, inputs_of, place_in, place_of, position_of, IsOffered, no_offers}
 
 pub get_or-place_in : (xs : List ℕ) (y : ℕ) → place_in xs y < length xs → get_or xs (place_in xs y) 0 ≡ y
@@ -64,3 +65,5 @@ no_offers_are n = search (arith, rules, get_or-replicate, get_or_past, length-re
 pub ruleset nothing_offered = (length-replicate, no_offers_are)
 
 pub ruleset asked_place = (place_of-at)
+
+pub ruleset found_place = (chains, place_in_is)
