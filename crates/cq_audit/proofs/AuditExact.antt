@@ -1,5 +1,5 @@
 -- A log has one verdict: it cannot be read, or what was read is that of a stable run or has one fault first.
-use Rattle.cq_audit.proofs.Terms.{common_steps, rules, ◌≡◌, ◌≢◌, ℕ, ◌⊎◌, List, length, Option, sym, ap, ◌∙◌, inl, inr, arith, Arrival, Setup, machines_of, IsAuditExact, IsNo, IsReadNo, IsYes, opening_fabric, IsLogExact, IsLogFault, AuditRefusal, Line, NoMemory}
+use Rattle.cq_audit.proofs.Terms.{common_steps, rules, ◌≡◌, ◌≢◌, ℕ, ◌⊎◌, List, length, Option, sym, ap, ◌∙◌, inl, inr, arith, Arrival, Setup, IsAuditExact, IsNo, IsReadNo, IsYes, IsLogExact, IsLogFault, AuditRefusal, Line, NoMemory}
 use Rattle.cq_audit.proofs.LogLines.{log_is_exact}
 use Rattle.cq_audit.proofs.WholeFollowing.{no_no, one_no_of}
 
@@ -19,9 +19,7 @@ module _ (setup : Setup) (limits : List (Option ℕ)) (came : List Arrival) (log
   one_no r s (inl a) (inl b) = a.1 ∙ ap (λ (n : ℕ). Line n) (exact.one_fault log a.0 b.0 a.2 b.2) ∙ sym b.1
   one_no r s (inl a) (inr b) = absurd (exact.never_both b.note log a.0 b.read a.2)
   one_no r s (inr a) (inl b) = absurd (exact.never_both a.note log b.0 a.read b.2)
-  one_no r s (inr a) (inr b) =
-      let same = rw (exact.one_reading a.note b.note log a.read b.read) at a.wrong in
-      one_no_of limits (machines_of setup) came (opening_fabric setup) b.note r s same b.wrong
+  one_no r s (inr a) (inr b) = search (rules, exact.one_reading a.note b.note log, one_no_of)
 
   never_both : (r : AuditRefusal) → IsYes setup limits came log → IsWrong r → ⊥
   never_both r y (inl a) = exact.never_both y.note log a.0 y.read a.2

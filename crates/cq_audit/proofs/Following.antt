@@ -72,10 +72,8 @@ module _ (limits : List (Option ℕ)) (ms : List Machine) where
   unfolding transfers_of_run
   one_stable_run slot [] f g h [] [] x y moved = (refl, x ∙ sym y)
   one_stable_run slot (cells ∷ traffic) f g h (r ∷ rs) (s ∷ ss) x y moved =
-      let here = slot_at IsStable ms slot r.admission.cells f.state x.0.state r.of_slot x.1.runs in
-      let there = slot_at IsStable ms slot s.admission.cells f.state y.0.state s.of_slot y.1.runs in
-      let parts = one_parting (slot + 1) (transfers_in r.of_slot) (transfers_of_run (slots_in rs))
-      (transfers_in s.of_slot) (transfers_of_run (slots_in ss)) in
+      let parts = one_parting (slot + 1) (transfers_in r.of_slot) (transfers_of_run (slots_in rs)) in
       let one = one_stable_slot ms slot r.admission.cells f.state x.0.state y.0.state r.of_slot s.of_slot x.1.runs in
-      search (arith, rules, parts, all_weaker, run_later, one, one_stable_run (slot + 1) traffic x.0 g h rs ss)
+      let rest = one_stable_run (slot + 1) traffic x.0 g h rs ss in
+      search (arith, rules, parts, all_weaker, run_later, slot_at IsStable ms, one, rest)
   one_stable_run slot traffic f g h rs ss x y moved = grind (arith, common_steps)

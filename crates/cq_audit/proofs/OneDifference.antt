@@ -2,7 +2,7 @@
 -- of two such beginnings neither is longer, for there the texts would have a byte in common.
 -- Comparing two texts byte by byte. What was the same so far stands at the front of both, and one same byte more
 -- stands there too.
-use Rattle.cq_audit.proofs.Terms.{common_steps, arith, ◌≡◌, ◌≢◌, ℕ, ◌+◌, List, [], ◌∷◌, ◌++◌, drop, refl, ap, sym, ◌≤◌, length, append_assoc, rules, append_cancel_left, cases_eq}
+use Rattle.cq_audit.proofs.Terms.{common_steps, arith, ◌≡◌, ◌≢◌, ℕ, ◌+◌, List, [], ◌∷◌, ◌++◌, refl, ap, sym, ◌≤◌, length, append_assoc, rules, append_cancel_left, cases_eq}
 use Rattle.cq_audit.specs.Trace.{DiffersFirst, IsTraceExact, feeds}
 
 -- the texts have no byte in common at their front
@@ -14,8 +14,7 @@ same_front : (f g left right a b : List ℕ) → f ++ left ≡ g ++ a → f ++ r
 same_front [] [] left right a b e h parted ends = refl
 same_front [] (c ∷ g) left right a b e h parted ends = absurd (parted c (g ++ a) (g ++ b) e h)
 same_front (c ∷ f) [] left right a b e h parted ends = absurd (ends c (f ++ left) (f ++ right) (sym e) (sym h))
-same_front (c ∷ f) (d ∷ g) left right a b e h parted ends =
-    grind (arith, common_steps, same_front f g left right a b (ap (drop 1) e) (ap (drop 1) h) parted ends)
+same_front (c ∷ f) (d ∷ g) left right a b e h parted ends = grind (arith, common_steps, same_front f g left right a b)
 
 same_goes_on : (a b : List ℕ) → Parted a b → ((a ≡ []) × (b ≡ []) → ⊥) → a ≢ b
 same_goes_on [] b parted goes_on e = goes_on (refl, sym e)

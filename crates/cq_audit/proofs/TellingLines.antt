@@ -106,14 +106,12 @@ module _ (ws : List Waiting) (lines : List Transfer) (n : ℕ) (d : Transfer) (m
   pub wrong_at : (first_id line.output w.cells ≢ Some line.id) ⊎ ((k : ℕ) × (partner_of m k ≡ Some line.output)) →
       IsFirstWrong (cells_of ws) lines line.input
   wrong_at why =
-      let rest = drop (n + 1) lines in
-      let stands = subst (λ (l : List Transfer). line_of_input line.input l ≡ Some line) (sym parts) (own_line rest) in
+      let stands : line_of_input line.input lines ≡ Some line = cc (own_line (drop (n + 1) lines), parts) in
       let same = λ (k : ℕ) (less : k < line.input). subst (λ (ls : List Transfer). line_of_input k ls
-      ≡ line_of_input k front) (sym parts) (lesser_line front rest line sides.1 k less) in
+      ≡ line_of_input k front) (sym parts) (lesser_line front (drop (n + 1) lines) line sides.1 k less) in
       record {
         wrong = search (arith, rules, same, stands, told_before, had.told, list);
-        least = λ k below wrong. had.right k
-            (same_wrong (cells_of ws) lines front k (λ j le. same j (omega arith)) wrong);
+        least = λ k below. search (arith, rules, same, had.right k, same_wrong (cells_of ws) lines front k);
       }
 
   pub can_join : IsFreeOutput m line.output → CanBeJoined m line.input line.output
@@ -125,11 +123,9 @@ module _ (ws : List Waiting) (lines : List Transfer) (n : ℕ) (d : Transfer) (m
   right_at names free = rw (take_more lines n d inside) (record {
     size = search (arith, rules, length-set, had.size);
     told = λ i.
-        let own = own.input in
-        grind (arith, common_steps, get_or-set_same, get_or-set_other, had.told, own_line, other_line, long, cases_eq);
+        grind (arith, common_steps, get_or-set_same, get_or-set_other, had, own_line, other_line, long, own, cases_eq);
     right = λ i wrong.
-        let told = had.told in
-        search (arith, rules, own_line, other_line, free, told_before, had.right i, same_wrong, list, cases_eq);
+        search (arith, rules, own_line, other_line, free, told_before, had, had.right i, same_wrong, list, cases_eq);
   })
 
 pub ruleset told_steps = (none_told, cells_at, can_join)
