@@ -1,11 +1,12 @@
 //! Whether the lines of a state stand in order.
 ghost use Rattle.std.specs.Prelude.{◌≡◌, ◌↔◌, ◌<◌, AllPairs, IfSome, IsTrue, None, length, map, replicate};
 ghost use Rattle.std.specs.List.{AllByRecursion};
-ghost use Rattle.cq_resume.specs.Terms.{IsBefore, BuffersStand, IsBufferedBefore, IsListedBefore, IsNoLaterInput, IsSentBefore, IsTimely, ListsStand, SentStand, begins_at, most_ports, IsTransferBefore};
+ghost use Rattle.cq_resume.specs.Terms.{AreOrdered, IsBefore, BuffersStand, IsBufferedBefore, IsListedBefore, IsNoLaterInput, IsSentBefore, IsTimely, ListsStand, SentStand, begins_at, most_ports, IsTransferBefore};
 
 use crate::found::{Found, Gone};
 use crate::neighbours::neighbours_hold;
 use cq_base::{Key, MOST_PORTS, Queued, Slot, Transfer};
+use cq_state::State;
 
 /// Whether a cell is more urgent than another.
 pub fn is_before(queued: &Queued, other: &Queued) -> bool
@@ -179,16 +180,14 @@ fn transfers_in_order(moved: &[Transfer], next: Slot) -> bool
     moved_in_order(moved) && are_before(moved, next)
 }
 
-/// Whether all lines stand in order, the cells of a list for one output by their keys, and each departure and each
-/// transfer has its time.
-pub fn in_order(found: &Found, moved: &[Transfer], next: Slot) -> bool
+/// Whether all lines of a state, of which these cells were found, stand in order, the cells of a list for one output by
+/// their keys, and each departure and each transfer has its time.
+pub fn in_order(found: &Found, state: &State) -> bool
     requires { AllByRecursion (λ q. q.cell.output < most_ports) found.now.listed.items }
-    ensures { IsTrue result ↔ (ListsStand found.now.listed.items × BuffersStand found.now.buffered.items
-        × SentStand next found.now.sent.items × AllPairs IsTransferBefore moved.now
-        × AllByRecursion (λ t. t.slot < next) moved.now) }
+    ensures { IsTrue result ↔ AreOrdered found.now state.now.head.next state.now.moved }
 {
     lists_in_order(&found.listed)
         && buffers_in_order(&found.buffered)
-        && departures_in_order(&found.sent, next)
-        && transfers_in_order(moved, next)
+        && departures_in_order(&found.sent, state.head.next)
+        && transfers_in_order(state.moved.as_slice(), state.head.next)
 }

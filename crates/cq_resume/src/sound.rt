@@ -23,7 +23,7 @@ fn judge_places(found: &Found, state: &State) -> Result<(), StateRefusal>
     ensures refused { IfErr result
         (IsFirstOfTwo 2 (AreOrdered found.now state.now.head.next state.now.moved) (HaveRoom found.now)) }
 {
-    if !in_order(found, state.moved.as_slice(), state.head.next) {
+    if !in_order(found, state) {
         return Err(StateRefusal::Unsound { clause: 2 });
     }
     if !have_slack(&found.listed, &found.buffered) {

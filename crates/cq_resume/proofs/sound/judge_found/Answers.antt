@@ -3,9 +3,6 @@
 use Rattle.cq_resume.proofs.Judging.{tally_from}
 use Rattle.cq_resume.proofs.sound.judge_found.Goals as goal
 
-pub tally_packets-requires-clause-ordered : goal.tally_packets-requires-clause-ordered
-tally_packets-requires-clause-ordered c = rw c.deref.ensures.value c.requires.known.found.ordered
-
 pub returns-clause-tally : goal.returns-clause-tally
 returns-clause-tally c = tally_from _ _ _ _ c.requires.known c.in-Some.tally
     (rw (c.in-Some.is, c.deref.ensures.value, c.as_slice.ensures) at c.in_ok-tally.ensures.tally)
