@@ -29,8 +29,7 @@ IsEarlier a b = a.slot < b.slot
 
 behind_rising : (a : Arrival) (line : List Arrival) → ComeBehind a line → EachPair IsEarlier (a ∷ line)
 behind_rising a [] behind = (tt, tt)
-behind_rising a (b ∷ line) behind =
-    let rest = behind_rising b line behind.1 in search (arith, rules, all_weaker (IsEarlier b))
+behind_rising a (b ∷ line) behind = search (arith, rules, all_weaker (IsEarlier b), behind_rising b line behind.1)
 
 line_rising : (line : List Arrival) → IsLine line → EachPair IsEarlier line
 line_rising [] is = tt

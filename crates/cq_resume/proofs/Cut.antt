@@ -1,10 +1,11 @@
 -- A list that stands by a number is cut where the number begins and where it ends, and what is between are all items
 -- that have it. First a list whose items pass a test between two places and nowhere else; then the places that halving
 -- finds. What halving finds in cells that stand in order: the cells of one output, of cells that stand by output,
--- which stand by their keys. What the items of a list come to with their places, item by item. The departures of the
--- cells that were sent stand by slot, and are before the next one. The figures of the outputs change departure by
--- departure, each those of its own output. And the slots of a run: departures that stand by slot end with the last.
-use Rattle.cq_resume.proofs.Terms.{IsBefore, pairs_kept_with, ◌&&◌, rules, ◌≡◌, ℕ, ◌+◌, ◌-◌, ◌<◌, ◌≤◌, eqb, leb, ltb, Bool, true, false, List, [], ◌∷◌, length, get_or, take, drop, refl, ap, ◌∙◌, length-drop, Bor, arith, map, common_steps, filter, Called, ComputesKey, Mut, IsPartitionPoint, IsNonDecreasingBy, always_returns_same, append-nil, get_or-drop, get_or-take, length-take-le, take-append-drop, map-append, take_more, filter-append, eq-eqb, leb-false, leb-true, ltb-false, ltb-true, ne_eqb, cases_eq, eqb-true, AllPairs, range_with_len, IsRising, Queued, IsBufferedBefore, ◌^◌, set, length-append, AllByRecursion, Departure, OutputFigures, output_told, IsSentBefore, IsTimely, departed, with_departure, Gone, recursion_from_All, filter_all, filter_none, cases_Bool, get_or-map-range_with_len, set_one, slots_of, all_weaker, of_images, few_kept, each_pair, all_pairs, EachPair, pairs_mapped, All-from_recursion, map-constant, take_all, flat_map-append, has_at}
+-- which stand by their keys. The departures of the cells that were sent stand by slot, and are before the next one. The
+-- figures of the outputs change departure by departure, each those of its own output. Items that stand in order of a
+-- number, taken number by number and laid end on end, are the same list. And the slots of a run: departures that stand
+-- by slot end with the last.
+use Rattle.cq_resume.proofs.Terms.{IsBefore, pairs_kept_with, ◌&&◌, rules, ◌≡◌, ℕ, ◌+◌, ◌-◌, ◌<◌, ◌≤◌, eqb, leb, ltb, Bool, true, false, List, [], ◌∷◌, length, get_or, take, drop, refl, ap, ◌∙◌, length-drop, Bor, arith, map, common_steps, filter, Called, ComputesKey, Mut, IsPartitionPoint, IsNonDecreasingBy, always_returns_same, append-nil, get_or-drop, get_or-take, length-take-le, take-append-drop, map-append, take_more, filter-append, eq-eqb, leb-false, leb-true, ltb-false, ltb-true, ne_eqb, cases_eq, eqb-true, AllPairs, range_with_len, IsRising, Queued, IsBufferedBefore, ◌^◌, set, length-append, AllByRecursion, Departure, OutputFigures, output_told, IsSentBefore, IsTimely, departed, with_departure, Gone, recursion_from_All, filter_all, filter_none, cases_Bool, get_or-map-range_with_len, set_one, slots_of, all_weaker, of_images, few_kept, each_pair, all_pairs, EachPair, pairs_mapped, All-from_recursion, map-constant, take_all, flat_map-append, has_at, ◌==◌, flat_map, suc, zero}
 use Rattle.std.proofs.lemmas.List.{take_rest}
 
 -- a test computes what each of its calls answers
@@ -48,8 +49,7 @@ module _ {X : Type 0} (key : X → ℕ) (t start end : ℕ) (xs upto : List X) (
 -- items of which each later one has no lesser number do not fall
 pub not_falling : {X : Type 0} (R : X → X → Type 0) (key : X → ℕ) → ((a b : X) → R a b → key a ≤ key b) →
     (xs : List X) → AllPairs R xs → IsNonDecreasingBy key xs
-not_falling R key no_less xs pairs i j d le inside =
-    let before = pairs i j d in grind (arith, common_steps, cases_eq i j)
+not_falling R key no_less xs pairs i j d le inside = grind (arith, common_steps, cases_eq i j, pairs i j d)
 
 pub output_no_less : (a b : Queued) → IsBufferedBefore a b → a.cell.output ≤ b.cell.output
 output_no_less a b before = grind (arith, common_steps)
@@ -75,6 +75,38 @@ filter_both p q (x ∷ xs) = grind (arith, common_steps, filter_both p q xs)
 pub ruleset named_on = (take_more, flat_map-append, append-nil, map-append)
 
 pub ruleset found_on = (All-from_recursion, has_at, take_all)
+
+-- ## Items in order of a number
+
+module _ {X : Type 0} (number : X → ℕ) where
+  abbrev pub numbered : List X → ℕ → List X
+  numbered xs i = filter (λ x. number x == i) xs
+
+  -- those of so many numbers, from one on
+  abbrev pub by_number : List X → ℕ → ℕ → List X
+  by_number xs a n = flat_map (numbered xs) (range_with_len a n)
+
+  no_items : (a n : ℕ) → by_number [] a n ≡ []
+  no_items a zero = refl
+  no_items a (suc n) = no_items (a + 1) n
+
+  -- an item is none of the later numbers
+  past : (x : X) (xs : List X) (a n : ℕ) → number x < a → by_number (x ∷ xs) a n ≡ by_number xs a n
+  past x xs a zero lt = refl
+  past x xs a (suc n) lt = grind (arith, common_steps, ne_eqb, past x xs (a + 1) n)
+
+  -- the first item stays the first
+  first : (x : X) (xs : List X) (a n : ℕ) → a ≤ number x → number x < a + n →
+      AllByRecursion (λ y. number x ≤ number y) xs → by_number (x ∷ xs) a n ≡ x ∷ by_number xs a n
+  first x xs a zero low high all = absurd (omega arith)
+  first x xs a (suc n) low high all =
+      search (arith, rules, past, cases_eq, ne_eqb, eq-eqb, filter_none, all_weaker, first x xs (a + 1) n)
+
+  -- number by number they are all of them
+  pub ordered : (xs : List X) (n : ℕ) → EachPair (λ x y. number x ≤ number y) xs →
+      AllByRecursion (λ x. number x < n) xs → by_number xs 0 n ≡ xs
+  ordered [] n pairs all = no_items 0 n
+  ordered (x ∷ xs) n pairs all = grind (arith, common_steps, first x xs 0 n, ordered xs n)
 
 -- ## Slots
 

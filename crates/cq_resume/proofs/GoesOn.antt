@@ -1,9 +1,10 @@
 -- What a run goes on from. The cells that a sound state names are different arrivals before its next slot. So the
 -- fabric that it tells of stands in order, no key is in it twice, and in each list, for each output and in each count
--- there are no more cells than came, and none has more than there were slots.
-use Rattle.cq_resume.proofs.Terms.{common_steps, rules, ◌≡◌, ◌≢◌, ℕ, zero, suc, ◌+◌, ◌<◌, ◌≤◌, ◌^◌, Bool, true, List, [], ◌∷◌, length, get_or, map, Option, None, Some, refl, ap, arith, length-append, ◌==◌, IsSome, filter, nat_lt, slice_get, AllByRecursion, enumerate_from, filter_map, range_with_len, option_map, cases_lt, eq-eqb, eqb-true, lt-ltb, ne_eqb, get_or_past, length-map, filter-append, get_or-map-range_with_len, length-enumerate_from, length-map-range_with_len, Arrival, IsBefore, is_for, Cell, Departure, Queued, OutputFigures, IsTraffic, is_from, is_to, number_of, cells_refused, packets_refused, refused_at, refused_counts, Refused, Fabric, buffer, input, AreCountsOf, AreOwn, HasPorts, IsSoundFabric, fabric_in, departure_of, figures_told, frozen_told, sent_told, IsSound, HasShape, Switch, arriving_cell, buffer_told, fabric_told, is_ahead, key_of, list_told, named_in, output_in, output_of, queued_in, queued_of, IsInRange, Named, Sent, State, few_kept, InputFigures, Key, held_for, waiting_for, Apart, Early, all_before, differ_from, IsFabric, ListsKeepOrder, Frozen, AreSized, all_of_has, all_from_has, all_has, has_left, has_right, has_kept, kept_has, Has, AreApart, no_more, each_pair, pairs_left, pairs_cross, pairs_kept_with, looked_up, pairs_looked_up, kept_few, looked_few, image_at, numbers_few, EachPair}
-use Rattle.cq_ideal.proofs.Waiting.{total, total_more, total_none}
-use Rattle.cq_resume.proofs.Cut.{rising_kept}
+-- there are no more cells than came, and none has more than there were slots. The lists, input by input, are all cells
+-- that wait at inputs, since these stand by input.
+use Rattle.cq_resume.proofs.Terms.{common_steps, rules, ◌≡◌, ◌≢◌, ℕ, ◌+◌, ◌<◌, ◌≤◌, ◌^◌, Bool, true, List, [], ◌∷◌, length, get_or, map, Option, None, Some, refl, ap, ◌∙◌, arith, length-append, ◌==◌, IsSome, filter, flat_map, flat_same, IsNamed, nat_lt, slice_get, AllByRecursion, enumerate_from, filter_map, range_with_len, option_map, cases_lt, eq-eqb, eqb-true, lt-ltb, get_or_past, length-map, filter-append, get_or-map-range_with_len, length-enumerate_from, length-map-range_with_len, Arrival, IsBefore, is_for, Cell, Departure, Queued, OutputFigures, IsTraffic, is_from, is_to, number_of, cells_refused, packets_refused, refused_at, refused_counts, Refused, Fabric, buffer, input, AreCountsOf, AreOwn, HasPorts, IsSoundFabric, fabric_in, departure_of, figures_told, frozen_told, sent_told, IsSound, HasShape, Switch, arriving_cell, buffer_told, fabric_told, is_ahead, key_of, list_told, named_in, output_in, output_of, queued_in, queued_of, IsInRange, Named, Sent, State, few_kept, InputFigures, Key, held_for, waiting_for, Apart, Early, all_before, differ_from, IsFabric, ListsKeepOrder, Frozen, AreSized, all_of_has, all_from_has, all_has, has_left, has_right, has_kept, kept_has, Has, AreApart, no_more, each_pair, pairs_left, pairs_cross, pairs_kept_with, looked_up, pairs_looked_up, kept_few, looked_few, image_at, numbers_few, EachPair}
+use Rattle.std.proofs.lemmas.List.{Elements.filter_map-append, Folds.flat_map-map}
+use Rattle.cq_resume.proofs.Cut.{ordered, rising_kept}
 pub use Rattle.cq_resume.proofs.Coming.{FoundAt, found_at}
 pub use Rattle.cq_resume.proofs.Zipped.{Differ, is_cell_of, sifted}
 use Rattle.cq_resume.specs.Sound.{IsBufferedBefore, IsSentBefore}
@@ -79,6 +80,11 @@ unfolding cells_refused packets_refused
 counts_few [] cells j n le = tt
 counts_few (limit ∷ limits) cells j n le = grind (arith, common_steps, few_kept, counts_few limits cells (j + 1) n le)
 
+waiting_all : (j : ℕ) (lists : List (List Queued)) →
+    waiting_for j lists ≡ length (filter (is_for j) (flat_map (λ l. l) lists))
+waiting_all j [] = refl
+waiting_all j (cells ∷ lists) = grind (arith, common_steps, filter-append, length-append, waiting_all j lists)
+
 -- ## The fabric that is told of
 
 module _ (w : Switch) (s : State) (in_range : IsInRange s) (shape : HasShape w s) (sound : IsSound w s)
@@ -119,8 +125,7 @@ module _ (w : Switch) (s : State) (in_range : IsInRange s) (shape : HasShape w s
 
   pub of_traffic : (c : Named) (q : Queued) → t c ≡ Some q → OfTraffic c q
   of_traffic c q is =
-      let it = found_at w.came c.slot c.input q.cell (is_cell_of w.came c q is).arrives in
-      search (arith, rules, all_of_has)
+      search (arith, rules, all_of_has, found_at w.came c.slot c.input q.cell (is_cell_of w.came c q is).arrives)
 
   pub its_output : (c : Named) (q : Queued) → t c ≡ Some q → output_of w.came c ≡ q.cell.output
   its_output c q is = ap output_in (is_cell_of w.came c q is).arrives
@@ -229,38 +234,28 @@ module _ (w : Switch) (s : State) (in_range : IsInRange s) (shape : HasShape w s
       of_list (λ l. length l ≤ number_of (is_from i) (came_before s.head.next w.came)) (omega arith) i
       (omega (arith, looked_few t (filter (at_input i) s.listed)))
 
+  -- the lists, input by input, are all cells that wait at inputs
+  pub lists_joined :
+      flat_map (λ l. l) (map (list_told w.came s) (range_with_len 0 s.head.ports)) ≡ filter_map t s.listed
+  lists_joined =
+      let all = ordered (λ (q : Queued). q.key.input) (filter_map t s.listed) s.head.ports
+      (pairs_looked_up t (λ c d. c.input ≤ d.input) (λ q r. q.key.input ≤ r.key.input)
+      (search (arith, rules, its_input)) s.listed (each_pair _ s.listed sound.order.lists))
+      (all_from_has _ _ (search (arith, rules, looked_up, all_of_has (IsNamed s.head.ports) s.listed, its_input))) in
+      rw flat_map-map (flat_same _ _ 0 s.head.ports (λ i _ _. sifted w.came i s.listed) ∙ all)
+
   module _ (j : ℕ) where
     abbrev for_it : Named → Bool
     for_it c = output_of w.came c == j
-
-    -- how many cells of an input's list are for the output
-    abbrev listed_for : List Named → ℕ → ℕ
-    listed_for names i = length (filter (is_for j) (filter_map t (filter (at_input i) names)))
-
-    spread : (names : List Named) (n : ℕ) → total (listed_for names) 0 n ≤ length (filter for_it names)
-    spread [] n = omega (arith, total_none (listed_for []) 0 n (λ i. refl))
-    spread (c ∷ names) n =
-        let more = total_more (listed_for (c ∷ names)) (listed_for names) c.input (length (filter for_it (c ∷ []))) 0 n
-        (λ i ne. grind (arith, common_steps, ne_eqb)) (grind (arith, common_steps, eq-eqb)) in
-        grind (arith, common_steps, spread names n)
-
-    waiting_is : (a n : ℕ) →
-        waiting_for j (map (list_told w.came s) (range_with_len a n)) ≡ total (listed_for s.listed) a n
-    unfolding total
-    waiting_is a zero = refl
-    waiting_is a (suc n) = grind (arith, common_steps, waiting_is (a + 1) n)
-
-    buffered_few : length (buffer f j) ≤ length (filter for_it s.buffered)
-    buffered_few = of_buffer (λ (l : List Queued). length l ≤ length (filter for_it s.buffered)) (omega arith) j
-        (kept_few t (is_for j) for_it (search (arith, rules, eq-eqb, its_output, eqb-true)) s.buffered)
 
     held_few : held_for j f ≤ number_of (is_to j) (came_before s.head.next w.came)
     unfolding fabric_told
     held_few =
         let few = names_few (is_to j) s.head.next w.came for_it (queued_in s) queued_differ
         (search (rules, comes, queued_named)) (search (arith, rules, eq-eqb, eqb-true)) in
-        let waiting = waiting_is 0 s.head.ports in
-        grind (arith, common_steps, filter-append, length-append, waiting, spread s.listed s.head.ports, buffered_few)
+        let kept = kept_few t (is_for j) for_it (search (arith, rules, eq-eqb, its_output, eqb-true)) (queued_in s) in
+        let buffered = of_buffer (λ (l : List Queued). length l ≤ length (buffer_told w.came s j)) (omega arith) j in
+        grind (arith, common_steps, waiting_all, filter-append, length-append, lists_joined, filter_map-append)
 
   -- ## No more were counted than there were slots
 
@@ -277,10 +272,9 @@ module _ (w : Switch) (s : State) (in_range : IsInRange s) (shape : HasShape w s
   output_counts j =
       let told = kept_few (departure_of w.came) (λ (d : Departure). d.output == j) (sent_to j) in
       let timely = all_has (λ (d : Sent). (d.cell.slot ≤ d.slot) × (d.slot < s.head.next)) s.sent in
-      let few = numbers_few (λ (d : Sent). d.slot) (filter (sent_to j) s.sent) s.head.next
-      (pairs_kept_with (IsSentBefore w.came) (λ (d e : Sent). d.slot ≢ e.slot) (sent_to j)
-      (search (arith, rules, eqb-true)) s.sent (each_pair (IsSentBefore w.came) s.sent sound.order.sent))
-      (search (arith, rules, all_from_has, timely, kept_has)) in
+      let few = numbers_few (λ (d : Sent). d.slot) (filter (sent_to j) s.sent) s.head.next (pairs_kept_with
+      (IsSentBefore w.came) (λ d e. d.slot ≢ e.slot) (sent_to j) (search (arith, rules, eqb-true)) s.sent
+      (each_pair _ s.sent sound.order.sent)) (search (arith, rules, all_from_has, timely, kept_has)) in
       search (arith, rules, told, eqb-true, eq-eqb)
 
   -- ## Together

@@ -31,8 +31,7 @@ module _ (ms : List Machine) (n : ℕ) (marks : List Bool) where
   pub kept_quiet : (k : Kept) (count slot : ℕ) (ranks : List (List ℕ)) →
       kept_on k slot (quiet_limited_slots ms count slot n ranks marks) ≡ k
   kept_quiet k count slot ranks =
-      let nothing = adds_nothing ms n count slot ranks in
-      search (arith, rules, quiet_records, nothing, append-nil, none_counted)
+      search (arith, rules, quiet_records, append-nil, none_counted, adds_nothing ms n count slot ranks)
 
 -- ## From a slot on
 
@@ -68,9 +67,7 @@ module _ (w : Switch) where
       RunBy Step next (arriving_from w.came next all) start rs end →
       (take n rs ≡ ps) × RunBy Step at (arriving_from w.came at k) middle (drop n rs) end
   goes_past next n k all at start middle end ps rs many there x y =
-      let cut = arriving_parts w.came next at n k all there many in
-      let p = parts Step next (arriving_from w.came next n) (arriving_from w.came at k) start end rs in
-      search (arith, rules, one.run, arriving_length)
+      search (arith, rules, one.run, arriving_length, arriving_parts w.came next at n k all, parts Step next)
 
   -- one that stops does so behind what another has done
   stops_past : (slot n count at : ℕ) (f middle : Marked Fabric) (ps rs : List LimitedRecord) (fault : TagFault) →
@@ -98,9 +95,7 @@ module _ (w : Switch) where
       StopBy Step Fault slot (arriving_from w.came slot a) f rs fault →
       StopBy Step Fault slot (arriving_from w.came slot all) f rs fault
   unfolding arriving_from
-  stops_later slot (suc a) (suc all) f [] fault le x = x
-  stops_later slot (suc a) (suc all) f (r ∷ rs) fault le x =
-      (x.0, x.1, stops_later (slot + 1) a all x.0 rs fault (omega arith) x.2)
+  stops_later slot (suc a) (suc all) f (r ∷ rs) fault le x = search (arith, rules, stops_later (slot + 1) a all x.0 rs)
   stops_later slot a all f rs fault le x = grind (arith, common_steps)
 
   one_fault : (from : Taken) (u v : TagFault) → IsResumedFault w from u → IsResumedFault w from v → u ≡ v
@@ -111,9 +106,8 @@ module _ (w : Switch) where
   -- where nothing comes no rank is a tag fault
   quiet_stop : (count slot : ℕ) (f : Marked Fabric) (rs : List LimitedRecord) (fault : TagFault) →
       StopBy Step Fault slot (replicate count no_arrivals) f rs fault → ⊥
-  quiet_stop zero slot f rs fault x = x
-  quiet_stop (suc count) slot f [] fault x = grind (arith, common_steps, no_arrivals_refuse_none)
   quiet_stop (suc count) slot f (r ∷ rs) fault x = quiet_stop count (slot + 1) x.0 rs fault x.2
+  quiet_stop count slot f rs fault x = grind (arith, common_steps, no_arrivals_refuse_none)
 
   never_both : (from : Taken) (k : Kept) (fault : TagFault) → IsResumed w from k → IsResumedFault w from fault → ⊥
   never_both from k fault x y =

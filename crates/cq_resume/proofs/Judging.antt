@@ -2,11 +2,12 @@
 -- were found. A name and its found cell have one input, one output and one key. So lists, buffers and departures stand
 -- in order by the one exactly where they do by the other, and so for levels and floors; the list of an input are the
 -- found cells of that input, in their order, so as many stand ahead of a cell by the one as by the other, and its
--- cushion is counted among all buffered cells; and what is named is the same. Of any two names of one flow the one that
--- arrived first leaves first. What a sound state comes to is said of found cells too. Where a step of judging fails it
--- names the first clause that fails, since those before it are known; and a state is sound of which all are known.
-use Rattle.cq_resume.proofs.Terms.{common_steps, Option, arith, rules, ◌≡◌, ◌<◌, ◌↔◌, ◌⊎◌, eqb, Bool, true, false, List, [], length, map, refl, ◌∙◌, ℕ, ap, All, IsPermutation, filter, AllByRecursion, AllZip, list_any-IsPermutation, sum_by-IsPermutation, Arrival, Queued, IsTally, input_told, sent_told, AreFound, IsWholePacket, PacketsStand, TalliesUp, has_name, names_of, IsFound, AllNamed, AreWholePackets, NoneNamed, HasLimit, Switch, is_named, named_in, packet_before, buffer_told, fabric_told, Gone, Name, Tally, State, length-filter, departed, figures_at_input, Found, Seen, ◌++◌, get_or, ◌≤◌, AllPairs, cases_order, map-append, All-permutation, IsPermutation-sym, IsBefore, FlowsStand, IsGone, IsNameBefore, IsTold, InOneFlow, Leaves, LeavesEarlier, sent_name, waiting_name, IsFoundBefore, IsListedBefore, IsNoLaterInput, IsGoneBefore, IsTimely, StandsBelow, StandBelow, AreOrdered, AreArrivals, KeepArrivalOrder, OfOneFlow, AreBelowFloors, IsBelowFloor, StandInOrder, is_ahead, queued_in, output_of, Named, Sent, All-from_recursion, Option, recursion_from_All, machines_of, None, Some, inl, inr, ◌+◌, filter_map, slice_get, cases_Bool, cases_lt, eqb-true, get_or_past, map-id, get_or-map-range_with_len, length-map-range_with_len, is_for, cushion_of, input, SlackStands, cushion_in, HaveSlack, list_told, queued_of, length-map, Scheduled, AreCellsFor, AreNamesFor, HaveRoom, IsCellFor, IsFirstOfTwo, AreFoundIn, IsForPorts, Clause, IsFirstOf, IsFirstUnsound, IsSound, switch_of, CanTakeUp, ports_of, Tables, machine_of, IsInRange, IsNamed, below_more, below_none, all_weaker, all_both, all_front, all_back, of_images, Setup, has_at, has_there, all_of_has, all_has, has_all, has_left, has_right, has_cases, has_image, image_has, pair_of_has, Has, each_pair, all_pairs, pairs_right, pairs_cross, EachPair, pairs_of_images, most_ports, StateRefusal, err_from_is_err_and, kept_has}
-use Rattle.cq_resume.proofs.Zipped.{zip_by, same_mapped, IsOf, names_zip, sifted, told_facts, zip_both, zip_has, zip_mate, pairs_alike, all_alike, each_right, one_for, Differ}
+-- cushion is counted among all buffered cells; and what is named is the same. The clause of flows is said of found
+-- cells: it holds where of any two names of one flow the one that arrived first leaves first. What a sound state comes
+-- to is said of found cells too. Where a step of judging fails it names the first clause that fails, since those before
+-- it are known; and a state is sound of which all are known.
+use Rattle.cq_resume.proofs.Terms.{common_steps, arith, rules, ◌≡◌, ◌<◌, ◌↔◌, ◌⊎◌, eqb, Bool, true, false, List, [], length, map, refl, ◌∙◌, ℕ, ap, All, IsPermutation, filter, AllByRecursion, AllZip, list_any-IsPermutation, sum_by-IsPermutation, Arrival, Queued, IsTally, input_told, sent_told, AreFound, IsWholePacket, PacketsStand, TalliesUp, has_name, names_of, IsFound, AllNamed, AreWholePackets, NoneNamed, HasLimit, Switch, is_named, named_in, packet_before, buffer_told, fabric_told, Gone, Name, Tally, State, length-filter, departed, figures_at_input, Found, Seen, ◌++◌, get_or, ◌≤◌, AllPairs, map-append, All-permutation, IsPermutation-sym, IsBefore, FlowsStand, IsGone, IsNameBefore, IsTold, InOneFlow, LeavesEarlier, sent_name, waiting_name, IsFoundBefore, IsListedBefore, IsNoLaterInput, IsGoneBefore, IsTimely, StandsBelow, StandBelow, AreOrdered, KeepArrivalOrder, OfOneFlow, AreBelowFloors, IsBelowFloor, StandInOrder, is_ahead, queued_in, output_of, Named, Sent, All-from_recursion, recursion_from_All, machines_of, Some, ◌+◌, filter_map, slice_get, cases_Bool, cases_lt, get_or_past, map-id, get_or-map-range_with_len, length-map-range_with_len, is_for, cushion_of, input, SlackStands, cushion_in, HaveSlack, list_told, queued_of, length-map, Scheduled, AreCellsFor, AreNamesFor, HaveRoom, IsCellFor, IsFirstOfTwo, AreFoundIn, IsForPorts, Clause, IsFirstOf, IsFirstUnsound, IsSound, filter_none, ne_eqb, switch_of, CanTakeUp, ports_of, Tables, machine_of, IsInRange, IsNamed, below_more, below_none, all_weaker, all_both, all_front, all_back, of_images, Setup, has_at, has_there, all_of_has, all_has, has_all, has_left, has_right, has_cases, has_image, image_has, pair_of_has, all_from_has, Has, each_pair, most_ports, StateRefusal, err_from_is_err_and, kept_has}
+use Rattle.cq_resume.proofs.Zipped.{zip_by, same_mapped, IsOf, names_zip, sifted, told_facts, zip_both, pairs_alike, all_alike, all_as, each_right, one_for}
 use Rattle.cq_resume.proofs.Cut.{filter_both}
 use Rattle.cq_resume.specs.Sound.{IsBufferedBefore, IsSentBefore}
 
@@ -23,24 +24,8 @@ mapped_alike {X} {Y} f g same xs = ap (λ (h : X → Y). map h xs) (λ k x. same
 
 -- ## Names by input and slot
 
--- of any two of these names the one that arrived first leaves first
-abbrev FlowsHold : List Name → Type 0
-FlowsHold names = (m n : Name) → Has names m → Has names n → IsNameBefore m n → LeavesEarlier m n
-
-flows_hold : (names : List Name) → AllPairs IsNameBefore names → FlowsStand names → FlowsHold names
-flows_hold names rising flows m n first second before =
-    let Both : Name → Name → Type 0 = λ a b. IsNameBefore a b × LeavesEarlier a b in
-    let both = each_pair Both names (λ i j d lt inside. (rising i j d lt inside, flows i j d lt inside)) in
-    grind (arith, common_steps, pair_of_has)
-
 has_moved : (xs ys : List Name) (m : Name) → IsPermutation ys xs → Has xs m → Has ys m
 has_moved xs ys m back has = search (rules, all_has (Has ys) xs, All-permutation (Has ys) ys, has_all (Has ys) ys)
-
--- ## Two names and their cells
-
-same_ahead : (came : List Arrival) (next : ℕ) (c d : Named) (q r : Queued) → IsTold came next c q →
-    IsTold came next d r → (is_ahead c d ≡ true) ↔ IsBefore q r
-same_ahead came next c d q r first second = grind (arith, common_steps, told_facts)
 
 abbrev of_input : ℕ → Queued → Bool
 of_input i q = eqb q.key.input i
@@ -65,13 +50,11 @@ module _ (w : Switch) (s : State) (names : List Name)
   abbrev ByNames : Arrival → Type 0
   ByNames a = a.cell.id.index ≡ 0 → a.slot < s.head.next → IsWholePacket w.limits s.head.next w.came names a
 
-  alike : (t : Bool) (xs : List Arrival) →
-      All (λ b. is_named (named_in s) b ≡ t) xs ↔ AllByRecursion (λ b. has_name names b ≡ t) xs
-  alike t xs = search (rules, all_same, same)
-
   pub packets_alike : AreWholePackets w s ↔ PacketsStand w.limits s.head.next w.came names
-  packets_alike = all_same ByState ByNames (λ a. let before = packet_before w.came s.head.next a in
-      search (arith, rules, alike true before, alike false before)) w.came
+  packets_alike = all_same ByState ByNames (λ a.
+      let alike = λ (t : Bool). all_same (λ b. is_named (named_in s) b ≡ t) (λ b. has_name names b ≡ t)
+      (search (rules, same)) (packet_before w.came s.head.next a) in
+      search (arith, rules, alike true, alike false)) w.came
 
   pub tally_is : (x : Tally) → length w.limits ≡ s.head.ports → TalliesUp w.limits s.head.next w.came names x →
       IsTally w s x
@@ -118,105 +101,90 @@ module _ (w : Switch) (s : State) (f : Found) (found : IsFound w.came s f) where
   module _ (setup : Setup) (own : w.machines ≡ machines_of setup) where
     pub floors_alike : AreBelowFloors w s ↔ StandBelow setup s.ranks f
     floors_alike =
-        let both = all_alike Told (IsBelowFloor w s) (StandsBelow setup s.ranks) in
-        search (rules, both, told_facts, zips, recursion_from_All, All-from_recursion, all_both, all_front, all_back)
+        let both = all_as Told (IsBelowFloor w s) (StandsBelow setup s.ranks) (search (rules, told_facts)) (queued_in s)
+        waiting zips in search (rules, both, all_both, all_front, all_back)
 
   -- ## Flows
 
   abbrev told : List Name
-  told = names_of f.listed.items f.buffered.items f.sent.items
+  told = map waiting_name waiting ++ map sent_name f.sent.items
+
+  same : IsPermutation told f.names.items
+  same = rw map-append found.same
 
   back : IsPermutation f.names.items told
-  back = IsPermutation-sym told f.names.items found.same
+  back = IsPermutation-sym told f.names.items same
 
-  -- a name of the state, with the slot in which its cell was sent, if it was
-  abbrev IsEntry : Named → Option ℕ → Type 0
-  IsEntry c o = (Has (queued_in s) c × (o ≡ None)) ⊎ ((d : Sent) × Has s.sent d × (d.cell ≡ c) × (o ≡ Some d.slot))
+  -- of two names of one flow the first arrived earlier
+  abbrev Earlier : Name → Name → Type 0
+  Earlier m n = InOneFlow m n → m.queued.key.slot < n.queued.key.slot
+
+  abbrev Behind : Gone → Queued → Type 0
+  Behind g q = Earlier (sent_name g) (waiting_name q)
+
+  abbrev InTurn : Queued → Queued → Type 0
+  InTurn q r = InOneFlow (waiting_name q) (waiting_name r) → q.key.slot < r.key.slot → IsBefore q r
+
+  -- the fifth clause, of found cells
+  record TurnsKept : Type 0 where
+    pub sent : AllPairs (λ g h. Earlier (sent_name g) (sent_name h)) f.sent.items
+    pub after : AllByRecursion (λ g. AllByRecursion (Behind g) waiting) f.sent.items
+    pub queued : AllByRecursion (λ q. AllByRecursion (InTurn q) waiting) waiting
+
+  turns_alike : KeepArrivalOrder w s ↔ TurnsKept
+  turns_alike =
+      let Turned : Named → Named → Type 0 = λ c d. OfOneFlow w.came c d → c.slot < d.slot in
+      let Ahead : Named → Named → Type 0 = λ c d. OfOneFlow w.came c d → c.slot < d.slot → is_ahead c d ≡ true in
+      let sends = pairs_alike Left (λ d e. Turned d.cell e.cell) (λ g h. Earlier (sent_name g) (sent_name h))
+      (λ d e g h first second. grind (arith, common_steps, told_facts)) s.sent f.sent.items found.sent in
+      let behind = all_as Left _ _ (λ d g gone. all_as Told (Turned d.cell) (Behind g) (λ c q is.
+      grind (arith, common_steps, told_facts)) (queued_in s) waiting zips) s.sent f.sent.items found.sent in
+      let turns = all_as Told _ _ (λ c q first. all_as Told (Ahead c) (InTurn q) (λ d r second.
+      grind (arith, common_steps, told_facts)) (queued_in s) waiting zips) (queued_in s) waiting zips in (
+        (λ keep. record { sent = sends.0 keep.sent; after = behind.0 keep.after; queued = turns.0 keep.queued }),
+        (λ kept. record { sent = sends.1 kept.sent; after = behind.1 kept.after; queued = turns.1 kept.queued }),
+      )
 
   told_cases : (m : Name) → Has told m →
       ((q : Queued) × Has waiting q × (waiting_name q ≡ m)) ⊎ ((g : Gone) × Has f.sent.items g × (sent_name g ≡ m))
-  told_cases m has = grind (arith, common_steps, image_has, has_left, has_right, has_cases)
+  told_cases m has = grind (arith, common_steps, image_has, has_cases)
 
-  entry : (m : Name) → Has f.names.items m → (c : Named) × Told c m.queued × IsEntry c m.sent
-  entry m has = search (arith, rules, told_cases, zip_has, zips, has_moved f.names.items told)
+  abbrev Rises : Name → Name → Type 0
+  Rises m n = IsNameBefore m n × LeavesEarlier m n
 
-  mate : (c : Named) (o : Option ℕ) → IsEntry c o → (m : Name) × Has f.names.items m × Told c m.queued × (m.sent ≡ o)
-  mate c o (inl waits) =
-      let by = zip_mate Told (queued_in s) waiting zips c waits.0 in
-      let among = rw map-append at (has_image waiting_name waiting by.0 by.1) in
-      search (arith, rules, has_left, has_moved told f.names.items (waiting_name by.0) back)
-  mate c o (inr left) =
-      let by = zip_mate Left s.sent f.sent.items found.sent left.0 left.1 in
-      search (arith, rules, has_right, has_image sent_name, has_moved told f.names.items (sent_name by.0) back)
+  -- of two names one leaves earlier, or they are one
+  in_turn : FlowsStand f.names.items → (m n : Name) → Has told m → Has told n → (Rises m n ⊎ Rises n m) ⊎ (m ≡ n)
+  in_turn flows =
+      let both = each_pair Rises f.names.items (λ i j d lt low. (found.ordered i j d lt low, flows i j d lt low)) in
+      search (rules, pair_of_has Rises f.names.items, has_moved told f.names.items, back)
 
-  module _ (c d : Named) (m n : Name) (first : Told c m.queued) (second : Told d n.queued) where
-    of_one : OfOneFlow w.came c d ↔ InOneFlow m n
-    of_one = grind (arith, common_steps, told_facts)
+  turns_kept : AllPairs IsGoneBefore f.sent.items → FlowsStand f.names.items → TurnsKept
+  turns_kept stand flows =
+      let wait = λ (q : Queued) (has : Has waiting q). has_left _ _ _ (has_image waiting_name waiting q has) in
+      let gone = λ (g : Gone) (has : Has f.sent.items g). has_right _ _ _ (has_image sent_name f.sent.items g has) in
+      record {
+        sent = λ i j d lt inside one.
+            let turn = in_turn flows (sent_name (get_or f.sent.items i d)) (sent_name (get_or f.sent.items j d)) in
+            grind (arith, common_steps, turn, stand i j d, gone, has_at);
+        after = all_from_has _ f.sent.items (λ g first. all_from_has (Behind g) waiting (λ q has one.
+            grind (arith, common_steps, in_turn flows (sent_name g) (waiting_name q) (gone g first) (wait q has))));
+        queued = all_from_has _ waiting (λ q first. all_from_has (InTurn q) waiting (λ r has one less.
+            grind (arith, common_steps, in_turn flows (waiting_name q) (waiting_name r) (wait q first) (wait r has))));
+      }
 
-    earlier : c.input ≡ d.input → ((c.slot < d.slot) ↔ IsNameBefore m n)
-    earlier same = grind (arith, common_steps, told_facts)
+  leave : AllPairs IsGoneBefore f.sent.items → TurnsKept → (m n : Name) → Has told m → Has told n → IsNameBefore m n →
+      LeavesEarlier m n
+  leave stand kept m n first second before one =
+      let Sent : Gone → Gone → Type 0 = λ g h. IsGoneBefore g h × Earlier (sent_name g) (sent_name h) in
+      let sent = each_pair Sent f.sent.items (λ i j d lt inside. (stand i j d lt inside, kept.sent i j d lt inside)) in
+      search (arith, rules, told_cases, pair_of_has Sent, all_of_has)
 
-  leave : FlowsHold f.names.items → (c d : Named) (o p : Option ℕ) → IsEntry c o → IsEntry d p → OfOneFlow w.came c d →
-      c.slot < d.slot → (q : Queued) × (r : Queued) × Told c q × Told d r × Leaves q r o p
-  leave hold c d o p first second one less =
-      search (arith, rules, mate c o, mate d p, hold, earlier c d, of_one c d)
-
-  abbrev Behind : Sent → Named → Type 0
-  Behind d c = OfOneFlow w.came d.cell c → d.cell.slot < c.slot
-
-  abbrev BehindAll : Sent → Type 0
-  BehindAll d = All (Behind d) (queued_in s)
-
-  abbrev InTurn : Named → Named → Type 0
-  InTurn a b = OfOneFlow w.came a b → a.slot < b.slot → is_ahead a b ≡ true
-
-  abbrev InTurnAll : Named → Type 0
-  InTurnAll a = All (InTurn a) (queued_in s)
-
-  module _ (arrivals : AreArrivals w.came s) (stand : StandInOrder w s) where
-    differ : EachPair Differ (named_in s)
-    differ = each_pair Differ (named_in s) arrivals.once
-
-    sent_differ : AllPairs (λ (d e : Sent). Differ d.cell e.cell) s.sent
-    sent_differ = all_pairs (λ (d e : Sent). Differ d.cell e.cell) s.sent
-        (pairs_of_images (λ (d : Sent). d.cell) Differ s.sent (pairs_right Differ (queued_in s) _ differ))
-
-    flows_keep : FlowsHold f.names.items → KeepArrivalOrder w s
-    flows_keep hold = record {
-      sent = λ i j e lt inside one.
-          let d = get_or s.sent i e in
-          let g = get_or s.sent j e in
-          let order = stand.sent i j e lt inside in
-          let turned = leave hold g.cell d.cell (Some g.slot) (Some d.slot) in
-          search (arith, rules, turned, has_at s.sent i e, has_at s.sent j e, cases_order, sent_differ i j e);
-      after = has_all BehindAll s.sent (λ d gone. has_all (Behind d) (queued_in s) (λ c has one.
-          let other = pairs_cross Differ (queued_in s) _ c d.cell differ has (has_image _ s.sent d gone) in
-          search (arith, rules, leave hold c d.cell None (Some d.slot), cases_order)));
-      queued = has_all InTurnAll (queued_in s) (λ c first. has_all (InTurn c) (queued_in s) (λ d second one less.
-          let both = leave hold c d None None (inl (first, refl)) (inl (second, refl)) one less in
-          (same_ahead w.came s.head.next c d both.0 both.1 both.2 both.3).1 both.4));
-    }
-
-    keep_flows : KeepArrivalOrder w s → FlowsHold f.names.items
-    keep_flows keep m n first second before one =
-        let a = entry m first in
-        let b = entry n second in
-        let flow = (of_one a.0 b.0 m n a.1 b.1).1 one in
-        let before_it = (same_ahead w.came s.head.next a.0 b.0 m.queued n.queued a.1 b.1).0 in
-        let all_turn = all_has InTurnAll (queued_in s) a.0 keep.queued in
-        let all_behind = λ (d : Sent). all_has (Behind d) (queued_in s) a.0 in
-        let Both : Sent → Sent → Type 0 = λ d e. IsSentBefore w.came d e
-        × (OfOneFlow w.came d.cell e.cell → d.cell.slot < e.cell.slot) in
-        let both = each_pair Both s.sent (λ i j d lt inside. (stand.sent i j d lt inside, keep.sent i j d lt inside)) in
-        let turns = all_has (InTurn a.0) (queued_in s) in
-        search (arith, rules, earlier a.0 b.0 m n, pair_of_has, all_turn, all_behind, turns, all_has BehindAll s.sent)
-
-    -- the fifth clause, by the names that were found
-    pub flows_alike : KeepArrivalOrder w s ↔ FlowsStand f.names.items
-    flows_alike = (
-      (λ keep i j d lt inside. grind (arith, common_steps, keep_flows keep, has_at, found.ordered i j d)),
-      (search (arith, rules, flows_keep, flows_hold)),
-    )
+  -- the fifth clause, by the names that were found
+  pub flows_alike : AllPairs IsGoneBefore f.sent.items → KeepArrivalOrder w s ↔ FlowsStand f.names.items
+  flows_alike stand = (
+    (λ keep i j d. search (arith, rules, leave, turns_alike, has_moved f.names.items, same, has_at, found.ordered i j)),
+    (λ flows. turns_alike.1 (turns_kept stand flows)),
+  )
 
   -- ## Slack
 
@@ -226,33 +194,29 @@ module _ (w : Switch) (s : State) (f : Found) (found : IsFound w.came s f) where
   pub buffer_is : (j : ℕ) → buffer_told w.came s j ≡ filter (is_for j) f.buffered.items
   buffer_is j = grind (arith, common_steps, all_found)
 
-  pub input_is : (i : ℕ) → i < s.head.ports → input (fabric_told w.came s) i ≡ filter (of_input i) f.listed.items
-  unfolding fabric_told
-  input_is i inside = grind (arith, common_steps, get_or-map-range_with_len, list_is)
-
-  no_input : (i : ℕ) → s.head.ports ≤ i → input (fabric_told w.came s) i ≡ []
-  unfolding fabric_told
-  no_input i past = grind (arith, common_steps, length-map-range_with_len, get_or_past)
-
-  cushion_is : (c : Queued) → c.cell.output < s.head.ports →
-      cushion_of (fabric_told w.came s) c ≡ length (cushion_in f.buffered.items c)
-  unfolding fabric_told
-  cushion_is c inside = search (arith, rules, get_or-map-range_with_len, buffer_is, filter_both)
-
   module _ (inputs : AllByRecursion (λ q. q.key.input < s.head.ports) f.listed.items)
       (outputs : AllByRecursion (λ q. q.cell.output < s.head.ports) f.listed.items) where
+    input_is : (i : ℕ) → input (fabric_told w.came s) i ≡ filter (of_input i) f.listed.items
+    unfolding fabric_told
+    input_is i =
+        let long = length-map-range_with_len (list_told w.came s) 0 s.head.ports in
+        let low = all_weaker (λ (q : Queued). q.key.input < s.head.ports) in
+        search (arith, rules, get_or-map-range_with_len, get_or_past, list_is, cases_lt, filter_none, low, ne_eqb)
+
+    cushion_is : (i ahead : ℕ) (c : Queued) → slice_get (filter (of_input i) f.listed.items) ahead ≡ Some c →
+        cushion_of (fabric_told w.came s) c ≡ length (cushion_in f.buffered.items c)
+    unfolding fabric_told
+    cushion_is i ahead c is =
+        let has = kept_has (of_input i) f.listed.items c (has_there _ ahead c is) in
+        let inside : c.cell.output < s.head.ports = all_of_has _ f.listed.items c outputs has.0 in
+        let j = c.cell.output in
+        let there = get_or-map-range_with_len (buffer_told w.came s) 0 s.head.ports j j [] inside (omega arith) in
+        search (arith, rules, there, buffer_is, filter_both)
+
     pub slack_alike : HaveSlack w s ↔ SlackStands f.listed.items f.buffered.items
     slack_alike = (
-      (λ have i ahead c is.
-          let has = kept_has (of_input i) f.listed.items c (has_there _ ahead c is) in
-          let enough = have i ahead c in
-          grind (arith, common_steps, input_is, cushion_is, all_of_has, eqb-true)),
-      (λ stands i ahead c is.
-          let split = cases_lt i s.head.ports in
-          let there : slice_get (filter (of_input i) f.listed.items) ahead ≡ Some c =
-          search (arith, rules, input_is, no_input) in
-          let has = kept_has (of_input i) f.listed.items c (has_there _ ahead c there) in
-          let enough = stands i ahead c there in grind (arith, common_steps, cushion_is, all_of_has)),
+      (λ have i ahead c is. grind (arith, common_steps, input_is i, cushion_is i ahead c, have i ahead c)),
+      (λ stands i ahead c is. grind (arith, common_steps, input_is i, cushion_is i ahead c, stands i ahead c)),
     )
 
   -- ## Names
@@ -363,7 +327,7 @@ module _ (t : Tables) (c : Scheduled) (s : State) (f : Found) (k : AreFoundIn t 
       search (arith, rules, all_weaker IsNameFor, recursion_from_All IsNameFor f.names.items)
 
   pub flows_is : AreOrdered f s.head.next s.moved → KeepArrivalOrder (switch_of t c) s ↔ FlowsStand f.names.items
-  flows_is is = flows_alike (switch_of t c) s f k.found k.arrivals ((order_alike (switch_of t c) s f k.found).1 is)
+  flows_is is = flows_alike (switch_of t c) s f k.found is.2.ordered
 
   -- ## Clause by clause
 

@@ -116,7 +116,7 @@ module _ {X : Type 0} (input lane : X → ℕ) (R : X → X → Type 0) where
     module _ (read : Option X) (own : lane here < length now → read ≡ get_or now (lane here) read) (may : Bool)
         (test : (may ≡ true) ↔ IfSome read (λ y. R y here)) where
       test_there : (may ≡ true) ↔ IfSome (get_or now (lane here) None) (λ y. R y here)
-      test_there = rw (get_or_read now (lane here) read within (own within) None) at test
+      test_there = search (arith, rules, get_or_read now (lane here) read, within)
 
       -- one that may come behind the last one of its lane stands behind all of the lane, and is the last one then
       module _ (goes_on : (a b c : X) → R a b → R b c → R a c) (comes : may ≡ true) where

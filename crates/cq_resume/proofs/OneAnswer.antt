@@ -24,11 +24,9 @@ module _ (w : Switch) (text : List ℕ) where
   one_read x y r s = search (arith, rules, have_one_text.one_state)
 
   never_refused : (x : Taken) (r : StateRefusal) → IsRead w text x → IsRefusal w text r → r ≡ refusal.NoMemory
-  never_refused x (refusal.Unsound k) read first =
-      let same = have_one_text.one_state first.state read.state in
-      absurd (search (arith, rules, first.unsound.fails, each_clause w first.state))
   never_refused x refusal.NoMemory read memory = refl
-  never_refused x r read why = absurd (search (arith, rules, no_fault read.state, no_other read.state))
+  never_refused x r read why =
+      absurd (search (arith, rules, no_fault read.state, no_other read.state, have_one_text.one_state, each_clause))
 
   one_refusal : (r s : StateRefusal) → r ≢ refusal.NoMemory → s ≢ refusal.NoMemory → IsRefusal w text r →
       IsRefusal w text s → r ≡ s

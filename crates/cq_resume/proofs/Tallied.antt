@@ -4,7 +4,7 @@
 -- The walk over the cells of one input ends with a mark exactly where each packet that has begun is named whole, or
 -- not at all and its output has a limit. Cells of one packet come one behind the other, so each is compared with the
 -- one before it. The mark is up where the last cell is not named, which is of the packet that began last.
-use Rattle.cq_resume.proofs.Terms.{common_steps, rules, ◌≡◌, ℕ, ◌<◌, ◌≤◌, eqb, ltb, Bool, true, false, cond, List, [], ◌∷◌, fold, Option, Some, refl, sym, inl, inr, arith, None, ◌==◌, filter, not, and_from, and_parts, and_right, cases_Bool, cases_lt, eq-eqb, eqb-true, le-leb, le-ltb, lt-ltb, ltb-true, Arrival, latest, ArePackets, ComeBehind, IsLine, PacketsStand, coming, firsts_before, has_limit, has_name, is_left_out, mark_on, may_come, packet_before, Name, all_of_has, all_from_has, has_kept, kept_has, Has, any_alike}
+use Rattle.cq_resume.proofs.Terms.{common_steps, rules, ◌↔◌, ◌≡◌, ℕ, ◌<◌, ◌≤◌, eqb, ltb, Bool, true, false, cond, List, [], ◌∷◌, fold, Option, Some, refl, inl, inr, arith, None, ◌==◌, filter, not, and_from, and_parts, and_right, cases_Bool, cases_lt, eq-eqb, eqb-true, le-leb, le-ltb, lt-ltb, ltb-true, Arrival, latest, ArePackets, ComeBehind, IsLine, PacketsStand, coming, firsts_before, has_limit, has_name, is_left_out, mark_on, may_come, packet_before, Name, all_of_has, all_from_has, has_kept, kept_has, Has, any_alike}
 use Rattle.cq_resume.proofs.Coming.{is_between}
 
 -- whether a cell is the first of its packet
@@ -112,21 +112,15 @@ module _ (limits : List (Option ℕ)) (ports next : ℕ) (came : List Arrival) (
   whole i inside = search (arith, rules, is_between, early_behind, none_behind, is_late)
 
   -- what is among them
-  in_line : (i : ℕ) (b : Arrival) → Has (coming i 0 next came) b →
-      Has came b × (b.cell.id.input ≡ i) × (b.slot < next)
-  in_line i b has = grind (arith, common_steps, kept_has, is_between, eqb-true, ltb-true, and_parts)
-
-  to_line : (b : Arrival) → Has came b → b.slot < next → Has (coming b.cell.id.input 0 next came) b
-  to_line b has early = grind (arith, common_steps, has_kept, is_between, eq-eqb, and_from, le-leb, lt-ltb)
+  line_has : (i : ℕ) (b : Arrival) → Has (coming i 0 next came) b ↔
+      (Has came b × (b.cell.id.input ≡ i) × (b.slot < next))
+  line_has i b =
+      search (arith, rules, kept_has, is_between, eqb-true, ltb-true, and_parts, has_kept, eq-eqb, and_from, lt-ltb)
 
   -- and what is of a packet
-  in_packet : (a b : Arrival) → Has (packet_before came next a) b →
-      Has came b × (b.cell.id.input ≡ a.cell.id.input) × (b.cell.id.packet ≡ a.cell.id.packet) × (b.slot < next)
-  in_packet a b has = grind (arith, common_steps, kept_has, and_parts, eqb-true, ltb-true)
-
-  to_packet : (a b : Arrival) → Has came b → b.cell.id.input ≡ a.cell.id.input →
-      b.cell.id.packet ≡ a.cell.id.packet → b.slot < next → Has (packet_before came next a) b
-  to_packet a b has input packet early = grind (arith, common_steps, has_kept, and_from, eq-eqb, lt-ltb)
+  packet_has : (a b : Arrival) → Has (packet_before came next a) b ↔
+      (Has came b × (b.cell.id.input ≡ a.cell.id.input) × (b.cell.id.packet ≡ a.cell.id.packet) × (b.slot < next))
+  packet_has a b = search (arith, rules, kept_has, eqb-true, ltb-true, and_parts, has_kept, eq-eqb, and_from, lt-ltb)
 
   abbrev pub LineStands : ℕ → Type 0
   LineStands i = AsFirst (has_name names) (has_limit limits) (coming i 0 next came)
@@ -135,12 +129,12 @@ module _ (limits : List (Option ℕ)) (ports next : ℕ) (came : List Arrival) (
   pub packets_stand : ((i : ℕ) → i < ports → LineStands i) → PacketsStand limits next came names
   packets_stand stand =
       all_from_has _ came (λ a has begins early. let line = stand a.cell.id.input in
-      search (arith, rules, line, in_packet a, cases_Bool (has_name names a), all_of_has, to_line, all_from_has))
+      search (arith, rules, line, packet_has a, cases_Bool (has_name names a), all_of_has, line_has, all_from_has))
 
   -- and the other way
   pub as_first : PacketsStand limits next came names → (i : ℕ) → LineStands i
   as_first stand i f b first second begins packet =
-      search (arith, rules, in_line i, all_of_has, to_packet f f, to_packet f b)
+      search (arith, rules, line_has i, all_of_has, packet_has f f, packet_has f b)
 
   -- ## Marks
 
@@ -153,14 +147,13 @@ module _ (limits : List (Option ℕ)) (ports next : ℕ) (came : List Arrival) (
       by : (line : List Arrival) → coming i 0 next came ≡ line → IsLine line →
           mark_on (has_name names) (has_limit limits) false line ≡ Some m →
           m ≡ is_left_out names next came (latest (filter is_first line))
-      by [] is line ends = let same : false ≡ m = cc in sym same
+      by [] is line ends = cc
       by (a ∷ rest) is line ends =
           let step = one_step (has_name names) (has_limit limits) false m a rest ends in
           let its = last_first (has_name names) (has_limit limits) (a ∷ rest) a a rest m line.1 (λ c has. inr has)
           (inl refl) line.0 (omega arith) refl step.1 in
           let g = fold later_one a (filter is_first rest) in
           let there : Has (coming i 0 next came) g = rw is its.0 in
-          let g_in = in_line i g there in
-          let any = any_alike (has_name names) (has_name names g) (packet_before came next g) g
-          (search (rules, to_packet)) (search (arith, rules, in_packet g, to_line, stand g)) in
-          grind (arith, common_steps, eq-eqb)
+          let g_in = (line_has i g).0 there in
+          let any = any_alike (has_name names) (has_name names g) (packet_before came next g) g in
+          grind (arith, common_steps, eq-eqb, any, packet_has g, line_has, stand g)

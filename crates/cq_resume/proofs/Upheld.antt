@@ -20,8 +20,8 @@ module _ (limits : List (Option ℕ)) (next : ℕ) (came : List Arrival) (names 
 
     mark_there : (i : ℕ) → i < ports → mark_at limits next came names i ≡ Some (get_or marks i false)
     mark_there i inside =
-        let there = get_or-map-range_with_len (mark_at limits next came names) 0 ports i i None inside (omega arith) in
-        search (arith, rules, get_or-map, many)
+        let there = get_or-map-range_with_len (mark_at limits next came names) 0 ports i i None in
+        search (arith, rules, there, get_or-map, many)
 
     stands : (i : ℕ) → i < ports → LineStands limits ports next came names are i
     stands i inside = search (rules, line_stands, whole, mark_there)

@@ -6,7 +6,7 @@
 -- are the same; and where no two are the same they do. The name of an arrival, if there is one, stands where halving
 -- finds the first that is not ahead of it. So no cell is named twice exactly where the names that were found stand
 -- strictly in order: order changes nothing of which names are the same.
-use Rattle.cq_resume.proofs.Terms.{rules, arith, ◌≡◌, ℕ, ◌+◌, ◌<◌, ◌≤◌, ◌↔◌, List, [], ◌∷◌, ◌++◌, length, get_or, map, take, refl, None, Some, Bool, common_steps, filter_map, Option, IsSome, AllByRecursion, AllPairs, AllZip, take_more, All-from_recursion, cases_Bool, lt-ltb, ltb-true, Arrival, Queued, AreGone, AreFound, IsTold, names_of, told_of, arriving_cell, key_of, named_in, queued_of, Gone, Name, Named, State, IsOfSwitch, IsTraffic, ◌≢◌, ◌⊎◌, eqb, ltb, true, false, sym, Bor, ◌&&◌, ◌||◌, IsPermutation, Called, ComputesKey, Mut, AllAdjacentBelow, IsDistinct, list_any, IsPartitionPoint, IsPartitionedBy, IsSortedByKey, Ordering, is_lt, nat_cmp, ordering_then, and_from, and_left, and_parts, and_right, cases_eq, cases_lt, cases_order, eq-eqb, eqb-true, le-ltb, ne_eqb, or_cases, or_left, or_right, false_from_ne_true, always_returns_same, get_or_default, list_any_at, list_any_none, IsDistinct-IsPermutation, IsDistinct-from_apart, apart_from_distinct, ge_from_not_lt, IsNameBefore, IsNameNotAfter, IsPermutation-sym, AreArrivals, all_has, all_of_has, all_from_has, Has, each_pair, all_pairs, EachPair, StateRefusal, filter}
+use Rattle.cq_resume.proofs.Terms.{rules, arith, ◌≡◌, ℕ, ◌+◌, ◌<◌, ◌≤◌, ◌↔◌, List, [], ◌∷◌, ◌++◌, length, get_or, map, take, refl, None, Some, Bool, common_steps, filter_map, Option, IsSome, AllByRecursion, AllPairs, AllZip, take_more, All-from_recursion, cases_Bool, lt-ltb, ltb-true, All, recursion_from_All, Arrival, Queued, AreGone, AreFound, IsTold, names_of, told_of, waiting_name, sent_name, IsGone, Sent, arriving_cell, key_of, named_in, queued_of, Gone, Name, Named, State, IsOfSwitch, IsTraffic, ◌≢◌, ◌⊎◌, eqb, ltb, true, false, sym, Bor, ◌&&◌, ◌||◌, IsPermutation, Called, ComputesKey, Mut, AllAdjacentBelow, IsDistinct, list_any, IsPartitionPoint, IsPartitionedBy, IsSortedByKey, Ordering, is_lt, nat_cmp, ordering_then, and_from, and_left, and_parts, and_right, cases_eq, cases_lt, cases_order, eq-eqb, eqb-true, le-ltb, ne_eqb, or_cases, or_left, or_right, false_from_ne_true, always_returns_same, get_or_default, list_any_at, list_any_none, IsDistinct-IsPermutation, IsDistinct-from_apart, apart_from_distinct, ge_from_not_lt, IsNameBefore, IsNameNotAfter, IsPermutation-sym, AreArrivals, all_has, all_of_has, all_from_has, Has, each_pair, all_pairs, EachPair, StateRefusal, filter}
 use Rattle.cq_resume.specs.Sound.{IsOnlyFor}
 use Rattle.cq_resume.specs.declared.refusal.StateRefusal.TheVariants as refusal
 use Rattle.cq_resume.proofs.Coming.{found_at}
@@ -22,9 +22,6 @@ module _ {A B : Type 0} (R : A → B → Type 0) where
   zip_by P none more xs ys zips = absurd zips
 
   -- each of the one list has its own in the other
-  pub zip_has : (xs : List A) (ys : List B) → AllZip R xs ys → (y : B) → Has ys y → (x : A) × Has xs x × R x y
-  zip_has = zip_by _ (λ y has. absurd has) (search (arith, rules))
-
   pub zip_mate : (xs : List A) (ys : List B) → AllZip R xs ys → (x : A) → Has xs x → (y : B) × Has ys y × R x y
   zip_mate = zip_by _ (λ x has. absurd has) (search (arith, rules))
 
@@ -43,10 +40,14 @@ module _ {A B : Type 0} (R : A → B → Type 0) where
       (ys : List B) → AllZip R xs ys → AllByRecursion P xs ↔ AllByRecursion Q ys
   all_alike P Q same = zip_by _ (search rules) (search (arith, rules))
 
+  pub all_as : (P : A → Type 0) (Q : B → Type 0) → ((x : A) (y : B) → R x y → P x ↔ Q y) → (xs : List A)
+      (ys : List B) → AllZip R xs ys → All P xs ↔ AllByRecursion Q ys
+  all_as P Q same xs ys zips = search (rules, all_alike P Q same xs ys zips, recursion_from_All, All-from_recursion)
+
   -- what holds of each item by its own
   pub each_right : (Q : B → Type 0) → ((x : A) (y : B) → R x y → Q y) → (xs : List A) (ys : List B) → AllZip R xs ys →
       AllByRecursion Q ys
-  each_right Q give xs ys zips = all_from_has Q ys (λ y has. let it = zip_has xs ys zips y has in give it.0 y it.2)
+  each_right Q give = zip_by (λ xs ys. AllByRecursion Q ys) tt (search (rules, give))
 
   -- and of two of one side
   module _ (P : A → A → Type 0) (Q : B → B → Type 0)
@@ -91,20 +92,17 @@ pub record IsOf (came : List Arrival) (next : ℕ) (c : Named) (n : Name) : Type
   pub early : c.slot < next
   pub cell : IsCellOf came c n.queued
 
-zip_images : {A B C D : Type 0} (R : A → B → Type 0) (S : C → D → Type 0) (f : A → C) (g : B → D) →
-    ((x : A) (y : B) → R x y → S (f x) (g y)) → (xs : List A) (ys : List B) → AllZip R xs ys →
-    AllZip S (map f xs) (map g ys)
-zip_images R S f g give = zip_by R (λ xs ys. AllZip S (map f xs) (map g ys)) tt (search (rules, give))
-
-zip_right : {A B D : Type 0} (R : A → B → Type 0) (S : A → D → Type 0) (g : B → D) →
-    ((x : A) (y : B) → R x y → S x (g y)) → (xs : List A) (ys : List B) → AllZip R xs ys → AllZip S xs (map g ys)
-zip_right R S g give = zip_by R (λ xs ys. AllZip S xs (map g ys)) tt (λ x y xs ys own zips rest. (give x y own, rest))
-
 -- the names of a state and those that were found, in the order of the lines
 pub names_zip : (came : List Arrival) (s : State) (listed buffered : List Queued) (sent : List Gone) →
     AreFound came s.head.next s.listed listed → AreFound came s.head.next s.buffered buffered →
     AreGone came s.head.next s.sent sent → AllZip (IsOf came s.head.next) (named_in s) (names_of listed buffered sent)
-names_zip came s listed buffered sent first second third = search (rules, zip_right, told_facts, zip_both, zip_images)
+names_zip came s listed buffered sent first second third =
+    let next = s.head.next in
+    let waits = zip_by (IsTold came next) (λ cs qs. AllZip (IsOf came next) cs (map waiting_name qs)) tt
+    (search (rules, told_facts)) in
+    let left = zip_by (IsGone came next) (λ ds gs. AllZip (IsOf came next) (map (λ (d : Sent). d.cell) ds)
+    (map sent_name gs)) tt (search (rules, told_facts)) in
+    search (rules, zip_both, waits, left)
 
 module _ (ports classes : ℕ) (came : List Arrival) (traffic : IsTraffic ports classes came) (next : ℕ) where
   -- the output and the class of a found cell are in range
@@ -168,14 +166,10 @@ abbrev pub is_its : ℕ → ℕ → Name → Bool
 is_its input slot n = eqb n.queued.key.slot slot && eqb n.queued.key.input input
 
 -- what it says in numbers
-ahead_says : (input slot : ℕ) (n : Name) → is_ahead input slot n ≡ true →
-    (n.queued.key.input < input) ⊎ ((n.queued.key.input ≡ input) × (n.queued.key.slot < slot))
-ahead_says input slot n holds = grind (arith, common_steps, ltb-true, and_parts, eqb-true, or_cases)
-
-says_ahead : (input slot : ℕ) (n : Name) →
-    (n.queued.key.input < input) ⊎ ((n.queued.key.input ≡ input) × (n.queued.key.slot < slot)) →
-    is_ahead input slot n ≡ true
-says_ahead input slot n says = grind (arith, common_steps, or_left, or_right, and_from, eq-eqb, lt-ltb)
+ahead_is : (input slot : ℕ) (n : Name) → (is_ahead input slot n ≡ true) ↔
+    ((n.queued.key.input < input) ⊎ ((n.queued.key.input ≡ input) × (n.queued.key.slot < slot)))
+ahead_is input slot n =
+    search (arith, rules, ltb-true, and_parts, eqb-true, or_cases, or_left, or_right, and_from, eq-eqb, lt-ltb)
 
 not_its : (input slot : ℕ) (n : Name) → ((n.queued.key.slot ≡ slot) → (n.queued.key.input ≡ input) → ⊥) →
     is_its input slot n ≡ false
@@ -184,7 +178,7 @@ not_its input slot n other = grind (arith, common_steps, and_right, ne_eqb, and_
 pub ahead_parts : (input slot : ℕ) (names : List Name) → AllPairs IsNameBefore names →
     IsPartitionedBy (is_ahead input slot) names
 ahead_parts input slot names order i j d le inside holds =
-    let before = order i j d in search (arith, rules, ahead_says, says_ahead, cases_eq)
+    let before = order i j d in search (arith, rules, ahead_is, cases_eq)
 
 any_only : {X : Type 0} (p : X → Bool) (xs : List X) (n : ℕ) (e : X) → n < length xs →
     ((k : ℕ) (d : X) → k < length xs → k ≢ n → p (get_or xs k d) ≡ false) → list_any p xs ≡ p (get_or xs n e)
@@ -194,12 +188,12 @@ module _ (input slot : ℕ) (names : List Name) (order : AllPairs IsNameBefore n
     (point : IsPartitionPoint (λ n. is_ahead input slot n ≡ true) (λ n. is_ahead input slot n ≡ false) names at) where
   -- past the last name there is none
   pub named_past : length names ≤ at → false ≡ list_any (is_its input slot) names
-  named_past past = search (arith, rules, list_any_none, ahead_says, not_its, point)
+  named_past past = search (arith, rules, list_any_none, ahead_is, not_its, point)
 
   pub named_here : (e : Name) → at < length names →
       is_its input slot (get_or names at e) ≡ list_any (is_its input slot) names
   named_here e inside = sym (any_only (is_its input slot) names at e inside
-      (search (arith, rules, order at, says_ahead, ahead_says, cases_lt, not_its)))
+      (search (arith, rules, order at, ahead_is, cases_lt, not_its)))
 
 -- two names are of different arrivals
 abbrev pub Differ : Named → Named → Type 0
