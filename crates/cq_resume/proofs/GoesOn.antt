@@ -57,8 +57,7 @@ names_few : (test : Arrival → Bool) (next : ℕ) (came : List Arrival) (p : Na
     ((c : Named) (a : Arrival) → p c ≡ true → arriving_cell came c ≡ Some a.cell → a.cell.id.input ≡ c.input →
     test a ≡ true) → length (filter p names) ≤ number_of test (came_before next came)
 names_few test next came p names pairs arrive passes =
-    let apart = pairs_kept_with Differ (AreApart IsOfArrival) p
-    (λ c d _ _ differ a first second. search (arith, rules, differ)) names pairs in
+    let apart = pairs_kept_with Differ (AreApart IsOfArrival) p (search (arith, rules)) names pairs in
     no_more IsOfArrival (filter p names) (filter test (came_before next came)) apart
     (all_from_has _ _ (λ c has. let kept = kept_has p names c has in
     let some = some_cell (arriving_cell came c) (arrive c kept.0).1 in
@@ -279,13 +278,11 @@ module _ (w : Switch) (s : State) (in_range : IsInRange s) (shape : HasShape w s
 
   -- ## Together
 
-  has_ports : HasPorts (length w.machines) (frozen_told w s)
-  unfolding frozen_told fabric_told figures_told
-  has_ports = grind (arith, common_steps, length-map-range_with_len, ports_are, length-map, length-enumerate_from)
+  ruleset its_parts = (is_sound, are_own, input_counts, output_counts, lists_few, held_few, counts_few)
 
-  ruleset its_parts = (has_ports, is_sound, are_own, input_counts, output_counts, lists_few, held_few, counts_few)
+  ruleset its_lengths = (length-map, length-map-range_with_len, length-enumerate_from, ports_are)
 
   pub goes_on : GoesOn w (frozen_told w s)
   unfolding frozen_told fabric_told figures_told refused_counts
   goes_on =
-      search (arith, rules, its_parts, in_range.head, shape.ranks, same_outputs, length-map, few_kept, image_at)
+      search (arith, rules, its_parts, in_range.head, shape.ranks, same_outputs, its_lengths, few_kept, image_at)

@@ -11,10 +11,6 @@ use Rattle.cq_resume.proofs.Zipped.{zip_by, same_mapped, IsOf, names_zip, sifted
 use Rattle.cq_resume.proofs.Cut.{filter_both}
 use Rattle.cq_resume.specs.Sound.{IsBufferedBefore, IsSentBefore}
 
-passed_moved : {X : Type 0} (p : X → Bool) (xs ys : List X) → IsPermutation xs ys →
-    length (filter p xs) ≡ length (filter p ys)
-passed_moved p xs ys same = grind (arith, common_steps, length-filter, sum_by-IsPermutation)
-
 -- what holds of both sides of a clause alike holds of all items alike
 all_same : {X : Type 0} (P Q : X → Type 0) → ((x : X) → P x ↔ Q x) → (xs : List X) → All P xs ↔ AllByRecursion Q xs
 all_same P Q same xs = grind (arith, common_steps, all_weaker, recursion_from_All, All-from_recursion)
@@ -22,7 +18,7 @@ all_same P Q same xs = grind (arith, common_steps, all_weaker, recursion_from_Al
 pub mapped_alike : {X Y : Type 0} (f g : X → Y) → ((x : X) → f x ≡ g x) → (xs : List X) → map f xs ≡ map g xs
 mapped_alike {X} {Y} f g same xs = ap (λ (h : X → Y). map h xs) (λ k x. same x k)
 
--- ## Names by input and slot
+-- ## Names in another order
 
 has_moved : (xs ys : List Name) (m : Name) → IsPermutation ys xs → Has xs m → Has ys m
 has_moved xs ys m back has = search (rules, all_has (Has ys) xs, All-permutation (Has ys) ys, has_all (Has ys) ys)
@@ -145,10 +141,6 @@ module _ (w : Switch) (s : State) (f : Found) (found : IsFound w.came s f) where
         (λ kept. record { sent = sends.1 kept.sent; after = behind.1 kept.after; queued = turns.1 kept.queued }),
       )
 
-  told_cases : (m : Name) → Has told m →
-      ((q : Queued) × Has waiting q × (waiting_name q ≡ m)) ⊎ ((g : Gone) × Has f.sent.items g × (sent_name g ≡ m))
-  told_cases m has = grind (arith, common_steps, image_has, has_cases)
-
   abbrev Rises : Name → Name → Type 0
   Rises m n = IsNameBefore m n × LeavesEarlier m n
 
@@ -177,7 +169,7 @@ module _ (w : Switch) (s : State) (f : Found) (found : IsFound w.came s f) where
   leave stand kept m n first second before one =
       let Sent : Gone → Gone → Type 0 = λ g h. IsGoneBefore g h × Earlier (sent_name g) (sent_name h) in
       let sent = each_pair Sent f.sent.items (λ i j d lt inside. (stand i j d lt inside, kept.sent i j d lt inside)) in
-      search (arith, rules, told_cases, pair_of_has Sent, all_of_has)
+      search (arith, rules, has_cases, image_has, pair_of_has Sent, all_of_has)
 
   -- the fifth clause, by the names that were found
   pub flows_alike : AllPairs IsGoneBefore f.sent.items → KeepArrivalOrder w s ↔ FlowsStand f.names.items
@@ -238,7 +230,8 @@ module _ (w : Switch) (s : State) (f : Found) (found : IsFound w.came s f) where
       let passed = zip_by (IsOf w.came s.head.next) (λ (cs : List Named) (ns : List Name).
       length (filter (λ c. eqb c.input i) cs) ≡ length (filter (λ n. eqb n.queued.key.input i) ns)) refl
       (search (arith, rules)) (named_in s) _ named_zips in
-      grind (arith, common_steps, passed_moved (λ (n : Name). eqb n.queued.key.input i) _ f.names.items found.same)
+      let moved = λ (g : Name → ℕ). sum_by-IsPermutation g _ f.names.items found.same in
+      grind (arith, common_steps, length-filter, moved)
 
 -- ## The inputs that are named
 

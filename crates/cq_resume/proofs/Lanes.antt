@@ -135,9 +135,7 @@ module _ {X : Type 0} (input lane : X → ℕ) (R : X → X → Type 0) where
                 rw its (here, read_here, inl refl)
             | inr before ↦
                 let it = are.each k d (omega arith) own in
-                let follows = goes_on (get_or xs k d) it.0 here in
-                let same_lane = cases_eq (lane (get_or xs k d)) (lane here) in
-                search (arith, rules, get_or-set_other, read_here, test_there, same_lane)
+                search (arith, rules, cases_eq, get_or-set_other, read_here, test_there)
           ];
         }
 
@@ -227,7 +225,6 @@ module _ {listed buffered : List Queued} {n thread now : ℕ} (e : Queued) {begu
     few = grind (arith, common_steps, known.few, at.ways);
     stand = λ i ahead c is.
         let p : Queued → Bool = λ q. eqb q.key.input i in
-        let more = rw (filter_more p listed n e at.inside) at is in
         grind (arith, common_steps, now_counted, push_cases, known.stand i ahead c, append-nil, eqb-true, cases_Bool);
   }
 

@@ -154,6 +154,5 @@ module _ (limits : List (Option ℕ)) (ports next : ℕ) (came : List Arrival) (
           (inl refl) line.0 (omega arith) refl step.1 in
           let g = fold later_one a (filter is_first rest) in
           let there : Has (coming i 0 next came) g = rw is its.0 in
-          let g_in = (line_has i g).0 there in
           let any = any_alike (has_name names) (has_name names g) (packet_before came next g) g in
           grind (arith, common_steps, eq-eqb, any, packet_has g, line_has, stand g)

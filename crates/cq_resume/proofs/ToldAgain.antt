@@ -2,7 +2,7 @@
 -- The cells of the lists stand in order of their inputs and those of the buffers in order of their outputs, and all of
 -- these are ports, so taken port by port they are the same. Each name arrives, so its cell is told by it, and a
 -- departure by the slot and the name of its cell.
-use Rattle.cq_resume.proofs.Terms.{common_steps, rules, ◌≡◌, ℕ, ◌+◌, ◌≤◌, List, [], ◌∷◌, length, map, flat_map, Option, Some, refl, arith, enumerate_from, filter_map, range_with_len, option_map, length-map, length-map-range_with_len, Cell, Queued, Scheduled, IsTraffic, departure_of, figures_told, frozen_told, input_told, machine_of, sent_told, AreTables, IsScheduleOf, IsSound, HasShape, Switch, Tables, arriving_cell, buffer_told, fabric_told, list_told, named_as, named_in, queued_of, switch_of, IsInRange, Named, Seen, Sent, State, Taken, all_from_has, has_left, has_right, has_image, Has, each_pair, looked_up, pairs_looked_up}
+use Rattle.cq_resume.proofs.Terms.{common_steps, rules, ◌≡◌, ℕ, ◌+◌, ◌≤◌, List, [], ◌∷◌, length, map, flat_map, Option, Some, refl, arith, enumerate_from, filter_map, range_with_len, option_map, length-map, length-map-range_with_len, Cell, Queued, Scheduled, IsTraffic, departure_of, figures_told, frozen_told, input_told, machine_of, sent_told, AreTables, IsScheduleOf, IsSound, HasShape, Switch, Tables, arriving_cell, buffer_told, fabric_told, named_as, named_in, queued_of, switch_of, IsInRange, Named, Seen, Sent, State, Taken, all_from_has, has_left, has_right, has_image, Has, each_pair, looked_up, pairs_looked_up}
 use Rattle.std.proofs.lemmas.List.Folds.{flat_map-map}
 use Rattle.cq_resume.proofs.Cut.{ordered}
 use Rattle.cq_resume.proofs.GoesOn.{comes, lists_joined, of_traffic, its_output, some_cell}
@@ -41,9 +41,6 @@ module _ (w : Switch) (s : State) (in_range : IsInRange s) (shape : HasShape w s
       map named_as (filter_map cell_of xs) ≡ xs
   names_again xs named = told_again cell_of named_as xs (search (arith, rules, arrives, named))
 
-  lists_again : map named_as (flat_map (λ l. l) (map (list_told w.came s) (range_with_len 0 s.head.ports))) ≡ s.listed
-  lists_again = search (rules, lists_joined, names_again, has_left)
-
   buffers_again : map named_as (flat_map (λ l. l) (map (buffer_told w.came s) (range_with_len 0 s.head.ports)))
       ≡ s.buffered
   buffers_again =
@@ -52,12 +49,13 @@ module _ (w : Switch) (s : State) (in_range : IsInRange s) (shape : HasShape w s
       let low = λ (c : Named) (q : Queued). of_traffic w s in_range shape sound traffic c q in
       let all = ordered (λ (q : Queued). q.cell.output) (filter_map cell_of s.buffered) s.head.ports rising
       (all_from_has _ _ (search (arith, rules, looked_up, low, shape.head.ports))) in
-      let names = names_again s.buffered (search (rules, has_left, has_right)) in
-      grind (arith, common_steps, flat_map-map)
+      search (arith, rules, names_again, has_left, has_right, flat_map-map)
 
   pub state_again : state_of (frozen_told w s) (sent_told w.came s) s.moved w.t0 w.classes (length w.came) ≡ s
   unfolding state_of frozen_told fabric_told figures_told
-  state_again = search (rules, lists_again, buffers_again, sent_again, seen_again, length-map-range_with_len)
+  state_again =
+      let lists = names_again s.listed in
+      search (rules, lists_joined, lists, has_left, buffers_again, sent_again, seen_again, length-map-range_with_len)
 
 -- ## The text
 

@@ -1,6 +1,6 @@
 -- The walk over the cells of one input, cell by cell: the mark so far with the cells that are left gives the mark in
 -- the end, and so do the counts. Each step takes the first of the cells that are left.
-use Rattle.cq_resume.proofs.Terms.{rules, ◌≡◌, ℕ, suc, eqb, Bool, true, false, cond, List, [], ◌∷◌, ◌++◌, length, map, filter, and_parts, Option, None, refl, ap, inl, arith, common_steps, ◌&&◌, ◌==◌, not, list_any, eqb-true, Arrival, Cell, Refused, CanCount, with_refused, all_counted_both, counts_left, fewer_left, none_counted, coming, has_limit, has_name, mark_on, may_come, unnamed, Name, kept_has, Has}
+use Rattle.cq_resume.proofs.Terms.{rules, ◌≡◌, ℕ, suc, eqb, Bool, true, false, cond, List, [], ◌∷◌, length, map, filter, and_parts, Option, None, refl, ap, inl, arith, common_steps, ◌&&◌, ◌==◌, not, list_any, eqb-true, Arrival, Cell, Refused, CanCount, with_refused, all_counted_both, counts_left, fewer_left, none_counted, coming, has_limit, has_name, mark_on, may_come, unnamed, Name, kept_has, Has}
 use Rattle.std.proofs.lemmas.Map.Views.{any-filter_same}
 use Rattle.cq_resume.proofs.Coming.{is_between}
 
@@ -50,10 +50,6 @@ module _ (input from next : ℕ) (came : List Arrival) {names : List Name} {limi
   size : length (coming input from next came) ≡ suc (length rest)
   size = ap (λ (l : List Arrival). length l) splits
 
-  one_left : (left : Bool) → left ≡ not is_told → cells_in (unnamed names (coming input from next came))
-      ≡ cond left (cell ∷ []) [] ++ cells_in (unnamed names rest)
-  one_left left not_told = let name = its_name in rw splits (grind (arith, common_steps))
-
   fits : (left : Bool) → CanCount (length rest) (with_refused (cond left (cell ∷ []) []) now)
   fits false = grind (arith, common_steps, none_counted, fewer_left, known.few, size)
   fits true = counts_left (length rest) cell now (grind (arith, common_steps, known.few, size))
@@ -62,4 +58,6 @@ module _ (input from next : ℕ) (came : List Arrival) {names : List Name} {limi
   pub walk_goes_on : (left : Bool) (after : List Refused) → may ≡ true → left ≡ not is_told →
       after ≡ with_refused (cond left (cell ∷ []) []) now → Walked names limits all rest left first after
   walk_goes_on left after is not_told counted =
-      let both = all_counted_both (cond left (cell ∷ []) []) in search (arith, rules, one_left, step, fits, both)
+      let both = all_counted_both (cond left (cell ∷ []) []) in
+      let name = its_name in
+      grind (arith, common_steps, step, fits, both, splits)

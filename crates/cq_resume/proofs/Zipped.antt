@@ -143,18 +143,8 @@ same_name a b = eqb a.queued.key.slot b.queued.key.slot && eqb a.queued.key.inpu
 eqb_flips : (m n : ℕ) → eqb m n ≡ eqb n m
 eqb_flips m n = grind (arith, common_steps, eq-eqb, ne_eqb, cases_eq)
 
--- names that stand in order and differ stand strictly in order
-pub rising_names : (xs : List Name) → AllAdjacentBelow IsNameNotAfter xs (length xs) → IsDistinct same_name xs →
-    AllPairs IsNameBefore xs
-rising_names xs order differ =
-    next_pairs IsNameBefore xs name_on (search (arith, rules, eq-eqb, and_from, cases_eq, apart_from_distinct))
-
 pub still_differ : (xs ys : List Name) → IsPermutation xs ys → IsDistinct same_name xs → IsDistinct same_name ys
 still_differ = search (arith, rules, IsDistinct-IsPermutation, eqb_flips)
-
--- names that stand strictly in order differ
-pub rising_differ : (xs : List Name) → AllPairs IsNameBefore xs → IsDistinct same_name xs
-rising_differ xs rising = IsDistinct-from_apart same_name xs (search (arith, rules, and_right, and_left, ne_eqb))
 
 -- ## Looked up
 
@@ -202,10 +192,6 @@ Differ a b = (a.slot ≡ b.slot) → a.input ≢ b.input
 abbrev IsApart : Name → Name → Type 0
 IsApart a b = same_name a b ≡ false
 
-apart_is : (came : List Arrival) (next : ℕ) (c d : Named) (m n : Name) → IsOf came next c m → IsOf came next d n →
-    Differ c d ↔ IsApart m n
-apart_is came next c d m n first second = search (rules, false_from_ne_true, and_parts, eqb-true, and_from, eq-eqb)
-
 -- ## All names
 
 abbrev CanBe : List Arrival → ℕ → Named → Type 0
@@ -225,17 +211,20 @@ module _ (came : List Arrival) (s : State) where
   module _ {told names : List Name} (same : IsPermutation told names)
       (zips : AllZip (IsOf came s.head.next) (named_in s) told) where
     apart_alike : AllPairs Differ (named_in s) ↔ AllPairs IsApart told
-    apart_alike = pairs_alike (IsOf came s.head.next) Differ IsApart (apart_is came s.head.next) (named_in s) told zips
+    apart_alike = pairs_alike (IsOf came s.head.next) Differ IsApart
+        (search (rules, false_from_ne_true, and_parts, eqb-true, and_from, eq-eqb)) (named_in s) told zips
 
     -- names that stand strictly in order are of different arrivals, and each arrives
     pub are_arrivals : AllPairs IsNameBefore names → AreArrivals came s
     are_arrivals rising =
-        let still = still_differ names told (IsPermutation-sym told names same) (rising_differ names rising) in
+        let still = still_differ names told (IsPermutation-sym told names same)
+        (IsDistinct-from_apart same_name names (search (arith, rules, and_right, and_left, ne_eqb))) in
         let can_be = All-from_recursion (CanBe came s.head.next) (named_in s) in
         search (arith, rules, can_be, all_from_has, zip_mate, apart_alike, apart_from_distinct same_name told)
 
     -- and the other way
     pub arrivals_rise : AllAdjacentBelow IsNameNotAfter names (length names) → AreArrivals came s →
         AllPairs IsNameBefore names
-    arrivals_rise order arrive = rising_names names order
-        (still_differ told names same (IsDistinct-from_apart same_name told (apart_alike.0 arrive.once)))
+    arrivals_rise order arrive =
+        let differ = still_differ told names same (IsDistinct-from_apart same_name told (apart_alike.0 arrive.once)) in
+        next_pairs IsNameBefore names name_on (search (arith, rules, eq-eqb, and_from, cases_eq, apart_from_distinct))
