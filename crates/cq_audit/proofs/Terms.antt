@@ -23,7 +23,7 @@ pub use Rattle.cq_audit.specs.Audit.{IsAuditExact, IsNo, IsNoOf, IsReadNo, IsYes
 pub use Rattle.cq_audit.specs.Phase.{AllBehind, AreOfPhase, AreParted, AreRight, IsBlocking, IsFirstWrong, IsPhaseExact, IsPhaseFault, IsStableTold, IsWrongLine, NoneBefore, RiseByInput, first_id, in_phase, is_at, line_of_input, output_told}
 unfoldable pub use Rattle.cq_audit.specs.Phase.{told}
 pub use Rattle.cq_audit.specs.Replay.{CanCome, CanReplay, HasRested, IsInStep, IsMadeAs, IsSlotFault, ReplayView, SlotReplayed, ports_in, refusal_of, shown}
-pub use Rattle.cq_audit.specs.StableRun.{Begins, BeginsFirst, IsFaultAt, IsHalfPast, IsLeftAt, IsOfStableRun, Reaches, StableRun, before_slot}
+pub use Rattle.cq_audit.specs.StableRun.{Begins, BeginsFirst, IsFaultAt, IsLeftAt, IsOfStableRun, Reaches, StableRun, before_slot}
 pub use Rattle.cq_audit.specs.{declared.phase.PhaseFault.PhaseFault, declared.refusal.AuditRefusal.AuditRefusal, declared.replay.SlotFault.SlotFault}
 pub use Rattle.cq_audit.specs.declared.refusal.AuditRefusal.TheVariants.{Left, Line, NoMemory}
 pub use Rattle.cq_list.specs.InputList.{Waiting, cells_of}
