@@ -20,9 +20,6 @@ module _ (w : Switch) (text : List ℕ) where
   no_other : (s : State) → IsInRange s → state_text s ≡ text → HasShape w s → HasOtherShape w text → ⊥
   no_other s a e shape o = o.other (rw (have_one_text.one_state o.state s o.in_range a (o.spelled ∙ sym e)) shape)
 
-  one_read : (x y : Taken) → IsRead w text x → IsRead w text y → x ≡ y
-  one_read x y r s = search (arith, rules, have_one_text.one_state)
-
   never_refused : (x : Taken) (r : StateRefusal) → IsRead w text x → IsRefusal w text r → r ≡ refusal.NoMemory
   never_refused x refusal.NoMemory read memory = refl
   never_refused x r read why =
@@ -37,4 +34,4 @@ module _ (w : Switch) (text : List ℕ) where
   one_refusal x y some other r s = absurd (search (arith, rules, no_fault, no_other))
 
 pub read_exact : (w : Switch) → IsReadExact w
-read_exact w = record { one_state = one_read w; one_refusal = one_refusal w; never_refused = never_refused w }
+read_exact w = search (arith, rules, one_refusal w, never_refused w, have_one_text.one_state)

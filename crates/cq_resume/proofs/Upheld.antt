@@ -1,6 +1,6 @@
 -- The walks over all inputs ended with a mark: so all packets stand, and the marks and the counts are those of what is
 -- left out. Or one stopped: so a packet does not stand.
-use Rattle.cq_resume.proofs.Terms.{common_steps, rules, ◌≡◌, ℕ, ◌<◌, Bool, false, List, length, get_or, Option, None, Some, sym, arith, get_or-map, length-map, get_or-map-range_with_len, length-map-range_with_len, Arrival, Refused, latest, ArePackets, PacketsStand, TalliesUp, coming, firsts_before, has_limit, has_name, is_left_out, Name, Tally, fill_by_all}
+use Rattle.cq_resume.proofs.Terms.{common_steps, rules, ◌≡◌, ℕ, ◌<◌, Bool, false, List, length, get_or, Option, None, Some, arith, get_or-map, length-map, get_or-map-range_with_len, length-map-range_with_len, Arrival, Refused, latest, ArePackets, PacketsStand, TalliesUp, firsts_before, is_left_out, Name, Tally, fill_by_all}
 use Rattle.cq_resume.proofs.Adding.{Tallied, mark_at, tallied_counts}
 use Rattle.cq_resume.proofs.Tallied.{line_ends, line_stands, LineStands, as_first, mark_is, packets_stand, whole}
 
@@ -9,9 +9,8 @@ module _ (limits : List (Option ℕ)) (next : ℕ) (came : List Arrival) (names 
   -- one that stopped
   pub packet_fails : (input : ℕ) → input < ports → None ≡ mark_at limits next came names input →
       PacketsStand limits next came names → ⊥
-  packet_fails input inside stops stand = line_ends (has_name names) (has_limit limits) (coming input 0 next came)
-      (whole limits ports next came names are input inside)
-      (as_first limits ports next came names are stand input) (sym stops)
+  packet_fails input inside stops stand =
+      search (rules, line_ends, whole limits ports next came names are, as_first limits ports next came names are stand)
 
   module _ (marks : List Bool) (refused : List Refused) (known : Tallied limits next came names ports marks
       refused) where

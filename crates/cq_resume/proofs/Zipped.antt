@@ -40,6 +40,7 @@ module _ {A B : Type 0} (R : A → B → Type 0) where
       (ys : List B) → AllZip R xs ys → AllByRecursion P xs ↔ AllByRecursion Q ys
   all_alike P Q same = zip_by _ (search rules) (search (arith, rules))
 
+  -- and so it is where it is said by places
   pub all_as : (P : A → Type 0) (Q : B → Type 0) → ((x : A) (y : B) → R x y → P x ↔ Q y) → (xs : List A)
       (ys : List B) → AllZip R xs ys → All P xs ↔ AllByRecursion Q ys
   all_as P Q same xs ys zips = search (rules, all_alike P Q same xs ys zips, recursion_from_All, All-from_recursion)
@@ -52,12 +53,10 @@ module _ {A B : Type 0} (R : A → B → Type 0) where
   -- and of two of one side
   module _ (P : A → A → Type 0) (Q : B → B → Type 0)
       (same : (x x' : A) (y y' : B) → R x y → R x' y' → P x x' ↔ Q y y') where
-    each_alike : (xs : List A) (ys : List B) → AllZip R xs ys → EachPair P xs ↔ EachPair Q ys
-    each_alike = zip_by (λ xs ys. EachPair P xs ↔ EachPair Q ys) (search rules) (search (arith, rules, all_alike))
-
     pub pairs_alike : (xs : List A) (ys : List B) → AllZip R xs ys → AllPairs P xs ↔ AllPairs Q ys
     pairs_alike xs ys zips =
-        search (arith, rules, each_alike xs ys zips, all_pairs Q ys, all_pairs P xs, each_pair P xs, each_pair Q ys)
+        let each = zip_by (λ xs ys. EachPair P xs ↔ EachPair Q ys) (search rules) (search (arith, rules, all_alike)) in
+        search (arith, rules, each xs ys, all_pairs Q ys, all_pairs P xs, each_pair P xs, each_pair Q ys)
 
   -- where each item of the first list comes to something that its own comes to, the lists come to the same
   pub same_mapped : {C : Type 0} (f : A → Option C) (g : B → C) → ((x : A) (y : B) → R x y → f x ≡ Some (g y)) →
