@@ -20,12 +20,9 @@ before_end : (came : List Arrival) (slot : ℕ) → ArrivesIn slot came → slot
 before_end [] slot at = absurd at
 before_end (a ∷ came) slot at = grind (arith, common_steps, before_end came slot)
 
-no_stretch : (came : List Arrival) (slot : ℕ) → IsQuiet came slot slot
-no_stretch came slot = grind (arith, common_steps)
-
 -- none arrives up to the next arrival, or up to the slot itself
 pub quiet_of : {came : List Arrival} {slot next : ℕ} → IsQuietUntil came slot next → IsQuiet came slot next
-quiet_of {came} {slot} {next} is = search (arith, rules, no_stretch, cases_lt, none_arrive, all_weaker, before_end)
+quiet_of {came} {slot} {next} is = search (arith, rules, cases_lt, none_arrive, all_weaker, before_end)
 
 ends_before : (came : List Arrival) (slot : ℕ) → AllByRecursion (λ a. a.slot < slot) came → end_of came ≤ slot
 ends_before [] slot all = omega arith
