@@ -36,5 +36,4 @@ other_place input class input' class' n l l' differs e =
 pub others_kept : (new joiner : JoinerView) (cell : Cell) (now : Option Open) →
     new ≡ with_open joiner cell.id.input cell.class now → cell.class < joiner.classes → (input class : ℕ) →
     class < joiner.classes → IsOtherPair input class cell → open_at new input class ≡ open_at joiner input class
-others_kept new joiner cell now left inside input class l differs =
-    rw left (search (rules, get_or-set_other, other_place))
+others_kept new joiner cell now left inside input class l differs = search (rules, left, get_or-set_other, other_place)

@@ -1,9 +1,9 @@
 -- The cells of whole packets are taken one after another. At each cell before the last one the packet stays open,
 -- with this cell's piece behind the others, so the next cell is the next of the packet. The last one gives the
 -- packet, and closes it, so the first cell of the packet behind it is the next.
-use Rattle.cq_reasm.proofs.Terms.{rules, ◌≡◌, ℕ, ◌+◌, List, [], ◌∷◌, ◌++◌, Option, None, Some, refl, arith, append_assoc, common_steps, flat_map, append-nil, Open, bytes_taken, with_piece, IsNext, Piece}
+use Rattle.cq_reasm.proofs.Terms.{rules, ◌≡◌, ℕ, ◌+◌, List, [], ◌∷◌, ◌++◌, Option, None, Some, refl, arith, append_assoc, common_steps, flat_map, append-nil, Open, bytes_taken, with_piece, Piece}
 use Rattle.cq_reasm.specs.declared.joiner.Joined.{Joined}
-use Rattle.cq_reasm.specs.Whole.{IsCellOf, AreCellsFrom, cells_in, AreNext, given, open_after_all, WholeAreTaken}
+use Rattle.cq_reasm.specs.Whole.{AreCellsFrom, cells_in, AreNext, given, open_after_all, WholeAreTaken}
 
 -- so many cells of the packet with this number are taken
 abbrev IsOpenAt : Option Open → ℕ → ℕ → Type 0
@@ -11,19 +11,6 @@ IsOpenAt None packet index = 0 ≡ index
 IsOpenAt (Some p) packet index = (p.packet ≡ packet) × (p.taken ≡ index)
 
 module _ (input class packet : ℕ) where
-  is_next : (was : Option Open) (index : ℕ) (x : Piece) → IsOpenAt was packet index →
-      IsCellOf input class packet index x → IsNext was x.cell
-  is_next was index x o h = grind (arith, common_steps)
-
-  one_more : (was : Option Open) (index : ℕ) (x : Piece) → IsOpenAt was packet index →
-      IsCellOf input class packet index x →
-      IsOpenAt (Some (with_piece was x.cell.id.packet x.bytes)) packet (index + 1)
-  one_more was index x o h = grind (arith, common_steps)
-
-  bytes_more : (was : Option Open) (number : ℕ) (bytes rest : List ℕ) →
-      bytes_taken (Some (with_piece was number bytes)) ++ rest ≡ bytes_taken was ++ (bytes ++ rest)
-  bytes_more was number bytes rest = search (arith, rules, append_assoc)
-
   -- the cells of a packet from one on, and others behind them
   record Rest (was : Option Open) (xs later : List Piece) : Type 0 where
     next : AreNext None later → AreNext was (xs ++ later)
@@ -36,10 +23,10 @@ module _ (input class packet : ℕ) where
   rest_of : (was : Option Open) (index : ℕ) (xs later : List Piece) → IsOpenAt was packet index →
       AreCellsFrom input class packet index xs → Rest was xs later
   rest_of was index [] later o h = absurd h
-  rest_of was index (x ∷ []) later o h = grind (arith, common_steps, is_next, append-nil)
+  rest_of was index (x ∷ []) later o h = grind (arith, common_steps, append-nil)
   rest_of was index (x ∷ y ∷ xs) later o h =
       let on : Option Open = Some (with_piece was x.cell.id.packet x.bytes) in
-      grind (arith, common_steps, one_more, is_next, bytes_more, rest_of on (index + 1) (y ∷ xs) later)
+      grind (arith, common_steps, append_assoc, rest_of on (index + 1) (y ∷ xs) later)
 
 pub whole_are_taken : WholeAreTaken
 whole_are_taken input class [] h = record { next = tt; gives = refl; closes = refl }

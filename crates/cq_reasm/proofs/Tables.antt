@@ -1,9 +1,9 @@
 -- The open packets lie in a slab under keys, no key stands at two places, and each packet of the slab stands at one.
 -- So what happens under one key changes what is seen at its own place, and at no other.
-use Rattle.cq_reasm.proofs.Terms.{common_steps, rules, ◌≡◌, ◌≢◌, ℕ, zero, suc, ◌<◌, List, length, map, get_or, set, Option, None, Some, refl, sym, ap, subst, ◌∙◌, ⊎_elim, ◌⊎◌, arith, replicate, IsSome, option_map, same_Some, cases_eq, get_or-set_same, get_or-set_other, set-get_or, length-map, Open, grown, with_piece, get_or_read, ext_get_or, length-set}
+use Rattle.cq_reasm.proofs.Terms.{common_steps, rules, ◌≡◌, ◌≢◌, ℕ, zero, suc, ◌<◌, List, length, map, get_or, set, Option, None, Some, refl, sym, ap, ◌∙◌, ⊎_elim, ◌⊎◌, arith, replicate, option_map, same_Some, cases_eq, get_or-set_same, get_or-set_other, set-get_or, length-map, Open, grown, with_piece, get_or_read, ext_get_or, length-set}
 use Rattle.std.proofs.Math.ListN.{get_or-map}
 use Rattle.std.proofs.lemmas.List.{get_or-map as read_map}
-use Rattle.slab.specs.Slab.{Slab, get, ContainsKey}
+use Rattle.slab.specs.Slab.{Slab, get}
 use Rattle.cq_reasm.specs.declared.open_packets.OpenPacket.{OpenPacket}
 use Rattle.cq_reasm.specs.Table.{packet_under, IsTable}
 
@@ -57,52 +57,30 @@ module _ (old new : Slab OpenPacket) (keys : List (Option ℕ)) (seen : List (Op
   inside : place < length keys
   inside = inside_keys old keys seen place view within read was_read
 
-  kept_present : (k : ℕ) → k ≢ key → ContainsKey old k → ContainsKey new k
-  kept_present k ne h = let P : Option OpenPacket → Type 0 = λ o. IsSome o in subst P (sym (others k ne)) h
-
-  was_present : (k : ℕ) → k ≢ key → ContainsKey new k → ContainsKey old k
-  was_present k ne h = let P : Option OpenPacket → Type 0 = λ o. IsSome o in subst P (others k ne) h
-
-  shown_elsewhere : (q : ℕ) (now k : Option ℕ) → q ≢ place → get_or (set keys place now) q None ≡ k →
-      get_or keys q None ≡ k
-  shown_elsewhere q now k ne e = sym (get_or-set_other keys place q now None ne) ∙ e
-
   -- the packet under the key of this place grows, or goes
   module _ (is : read ≡ Some key) where
     at : get_or keys place None ≡ Some key
     at = key_at old keys seen place view within read was_read ∙ is
 
-    not_elsewhere : (q k : ℕ) → q ≢ place → get_or keys q None ≡ Some k → k ≢ key
-    not_elsewhere q k ne e same = ne (table.apart q place k e (at ∙ ap Some (sym same)))
-
-    seen_elsewhere : (q : ℕ) → q ≢ place → packet_under old (get_or keys q None) ≡ packet_under new (get_or keys q None)
-    seen_elsewhere q ne = seen_alike old new (get_or keys q None) (λ k e. others k (not_elsewhere q k ne e))
-
     -- one more piece of the packet that is seen at the place
     grown_now : (number : ℕ) (piece : List ℕ) → option_map (grown piece) (packet_under old (Some key))
         ≡ Some (with_piece (get_or seen place None) number piece)
-    grown_now number piece =
-        grind (arith, common_steps, table.present place, at, get_or-map (packet_under old) keys place None)
+    grown_now number piece = search (arith, rules, table.present, at, get_or-map (packet_under old) keys place None)
 
     pub grown_seen : (number : ℕ) (piece : List ℕ) →
         packet_under new (Some key) ≡ option_map (grown piece) (packet_under old (Some key)) →
         map (packet_under new) keys ≡ set seen place (Some (with_piece (get_or seen place None) number piece))
     grown_seen number piece e =
         let there = seen_at_one (packet_under old) (packet_under new) keys place (get_or keys place None) None in
-        search (arith, rules, there, set-get_or, view, at, grown_now, seen_elsewhere)
-
-    -- what is left in the slab stands where it stood
-    left_at : get_or keys place None ≡ Some key → get new key ≡ None → (k : ℕ) → ContainsKey new k →
-        (p : ℕ) × (get_or (set keys place None) p None ≡ Some k)
-    left_at here gone k h = search (rules, was_present, same_Some, get_or-set_other)
+        search (arith, rules, there, set-get_or, view, at, grown_now, seen_alike, others, table.apart)
 
     pub closed_table : get new key ≡ None → IsTable new (set keys place None)
     closed_table gone =
-        let left = left_at at gone in
-        search (arith, rules, inside, shown_elsewhere, kept_present, not_elsewhere, left, get_or-set_same)
+        search (arith, rules, inside, get_or-set_other, others, table.apart, table.placed, at, same_Some, get_or-set_same)
 
     pub closed_seen : map (packet_under new) (set keys place None) ≡ set seen place None
-    closed_seen = search (arith, rules, seen_at_one (packet_under old) (packet_under new), view, seen_elsewhere)
+    closed_seen =
+        search (arith, rules, seen_at_one (packet_under old) (packet_under new), view, seen_alike, others, table.apart, at)
 
   -- a packet comes under a key that had none
   module _ (is : read ≡ None) (vacant : get old key ≡ None) (now : Open)
@@ -110,33 +88,18 @@ module _ (old new : Slab OpenPacket) (keys : List (Option ℕ)) (seen : List (Op
     none : get_or keys place None ≡ None
     none = key_at old keys seen place view within read was_read ∙ is
 
-    vacant_elsewhere : (q k : ℕ) → get_or keys q None ≡ Some k → k ≢ key
-    vacant_elsewhere q k e same = grind (arith, common_steps)
-
-    present_now : ContainsKey new key
-    present_now = grind (arith, common_steps)
-
-    -- what stands at a place now
-    stands : (p k : ℕ) → get_or (set keys place (Some key)) p None ≡ Some k →
-        ((p ≡ place) × (k ≡ key)) ⊎ ((k ≢ key) × (get_or keys p None ≡ Some k))
-    stands p k e =
-        search (arith, rules, cases_eq p place, get_or-set_same, inside, same_Some, vacant_elsewhere, shown_elsewhere)
-
     -- what was in the slab stands where it stood, and the new packet at this place
     pub started_table : IsTable new (set keys place (Some key))
     started_table =
         record {
-          present = search (arith, rules, stands, present_now, kept_present, table.present);
-          apart = search (arith, rules, stands, table.apart);
-          placed = λ k h. ⊎_elim
-              (λ same. (place, (search (arith, rules, get_or-set_same, inside))))
-              (λ ne.
-              let was = table.placed k (was_present k ne h) in
-              (was.0, (search (arith, rules, get_or-set_other, none))))
-              (cases_eq k key);
+          present = search (arith, rules, get_or-set_same, get_or-set_other, inside, others, table.present);
+          apart = search (arith, rules, get_or-set_same, get_or-set_other, inside, table.apart);
+          placed = λ k h. ⊎_elim (λ same. (place, (search (arith, rules, get_or-set_same, inside)))) (λ ne.
+              let was = table.placed k (search (rules, others)) in
+              (was.0, (search (arith, rules, get_or-set_other, none)))) (cases_eq k key);
         }
 
     pub started_seen : map (packet_under new) (set keys place (Some key)) ≡ set seen place (Some now)
-    started_seen = seen_at_one (packet_under old) (packet_under new) keys place (Some key) None (Some now) stored
-        (λ q l ne. seen_alike old new (get_or keys q None) (λ k e. others k (vacant_elsewhere q k e)))
-        ∙ ap (λ s. set s place (Some now)) view
+    started_seen =
+        let there = seen_at_one (packet_under old) (packet_under new) keys place (Some key) None (Some now) stored in
+        search (rules, there, seen_alike, others, view)
