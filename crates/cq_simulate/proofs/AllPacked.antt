@@ -26,9 +26,7 @@ module _ (t : Tables) (captures : List (List Captured)) (input : ℕ) (some : 0 
   -- and those with the next cell's, which is as long, or what is left of the frame
   pieces_more : (k m : ℕ) → pieces k (m + 1) ≡ pieces k m ++ take
       (min t.cell_bytes (length (frame k) - m * t.cell_bytes)) (drop (m * t.cell_bytes) (frame k))
-  pieces_more k m =
-      let next : (m + 1) * t.cell_bytes ≡ m * t.cell_bytes + t.cell_bytes = omega arith in
-      grind (arith, common_steps, length-drop, take_min, take-add)
+  pieces_more k m = grind (arith, common_steps, length-drop, take_min, take-add)
 
   all_pieces : (k : ℕ) → pieces k (cells t captures input k) ≡ frame k
   unfolding cells cells_of
@@ -41,8 +39,7 @@ module _ (t : Tables) (captures : List (List Captured)) (input : ℕ) (some : 0 
 
   fits : (k m : ℕ) → Fits captures (open_at_cell k m) (cell_of t captures input k m)
   unfolding cell_of
-  fits k zero =
-      let none : 0 * t.cell_bytes ≡ 0 = omega arith in search (arith, rules, pieces_more k zero, all_pieces k)
+  fits k zero = search (arith, rules, pieces_more k zero, all_pieces k)
   fits k (suc m) = search (arith, rules, pieces_more k (suc m), all_pieces k)
 
   after_cell : (k m : ℕ) →

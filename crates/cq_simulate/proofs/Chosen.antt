@@ -2,8 +2,8 @@
 -- at any moment of it: so both its matchings are chosen of orders by first cells. After the slot both agree again. So
 -- it is of a run from the empty fabric on, and of one that goes on from a sound state, whichever stable matchings may
 -- be chosen; and after the arrivals of each slot no slack is below 0.
-use Rattle.cq_simulate.proofs.Terms.{common_steps, rules, ◌≡◌, ℕ, ◌+◌, List, [], ◌∷◌, length, arith, take_all, Option, Arrival, IsTraffic, traffic_is, schedule_of, Cell, Machine, Marked, empty_limited, first_slots, arriving_from, IdealState, AreForPorts, admission_for_ports, agrees_of, after_sent, arrived, orders_are, same_limited_slot, slots_fit, Fabric, ideal_of, LimitedFabricRun, LimitedFabricSlot, LimitedRecord, empty_limited_fabric, Partners, IsInputBest, IsStable, Captured, IsResumed, Kept, Switch, switch_of, Taken, AreTables, classes_of, ports_of, openings_of, Tables, AlwaysHasSlack, AreChosen, AreInputBest, CanBeTakenUp, GoesOn, each_run, stable_limited_too, fabric_in, marked_in, Orders, IsParted}
-use Rattle.cq_laws.proofs.LimitedWhole.{Stands, begin, limited_run_slack}
+use Rattle.cq_simulate.proofs.Terms.{common_steps, rules, ◌≡◌, ℕ, ◌+◌, List, [], ◌∷◌, length, arith, take_all, Option, Arrival, IsTraffic, traffic_is, schedule_of, Cell, Machine, Marked, empty_limited, first_slots, arriving_from, IdealState, AreForPorts, admission_for_ports, agrees_of, after_sent, arrived, slack_arrived, orders_are, same_limited_slot, slots_fit, Fabric, ideal_of, LimitedFabricRun, LimitedFabricSlot, LimitedRecord, empty_limited_fabric, Partners, IsInputBest, IsStable, Captured, IsResumed, Kept, Switch, switch_of, Taken, AreTables, classes_of, ports_of, openings_of, Tables, AlwaysHasSlack, AreChosen, AreInputBest, CanBeTakenUp, GoesOn, fabric_in, marked_in, Orders, IsParted}
+use Rattle.cq_laws.proofs.LimitedWhole.{Stands, begin}
 use Rattle.cq_simulate.proofs.TakenUp.{goes_of, machines_many}
 
 module _ (MayChoose : Orders → Partners → Type 0)
@@ -15,8 +15,8 @@ module _ (MayChoose : Orders → Partners → Type 0)
 
   pub each_chosen : (slot : ℕ) (traffic : List (List (Option Cell))) (f g : Marked Fabric) (ideal : Marked IdealState)
       (rs : List LimitedRecord) → Stands limits ms class_count slot traffic f ideal →
-      LimitedFabricRun MayChoose limits ms slot traffic f rs g → AreChosen MayChoose rs
-  each_chosen slot [] f g ideal [] s run = tt
+      LimitedFabricRun MayChoose limits ms slot traffic f rs g → AreChosen MayChoose rs × AlwaysHasSlack rs
+  each_chosen slot [] f g ideal [] s run = (tt, tt)
   each_chosen slot (cells ∷ traffic) f g ideal (r ∷ rs) s (next, is, rest) =
       let step = stable_step slot cells f next r is in
       let one = same_limited_slot limits ms slot class_count cells f next ideal r s.agrees s.come.0 step in
@@ -24,6 +24,7 @@ module _ (MayChoose : Orders → Partners → Type 0)
       search (arith, rules, admission_for_ports) in
       let before = arrived ms slot class_count _ f.state next.state ideal.state _ s.agrees.states come step.runs in
       let after = after_sent ms slot class_count _ f.state next.state ideal.state _ s.agrees.states come step.runs in
+      let slack = slack_arrived ms slot class_count _ f.state next.state ideal.state _ s.agrees.states come step.runs in
       search (arith, rules, orders_are, each_chosen (slot + 1) traffic next g one.next rs)
   each_chosen slot traffic f g ideal rs s run = absurd run
 
@@ -36,12 +37,8 @@ module _ (MayChoose : Orders → Partners → Type 0)
         (empty_limited ports ranks)
     stands = begin limits ms class_count ports ranks _ (slots_fit ports class_count came 0 slots traffic)
 
-    pub first_chosen : AreChosen MayChoose rs
+    pub first_chosen : AreChosen MayChoose rs × AlwaysHasSlack rs
     first_chosen = each_chosen 0 _ _ end (empty_limited ports ranks) rs stands run
-
-    pub first_slack : AlwaysHasSlack rs
-    first_slack = limited_run_slack limits ms class_count 0 _ _ end (empty_limited ports ranks) rs stands
-        (search (arith, rules, each_run, stable_step))
 
 -- ## A run in parts
 
@@ -59,7 +56,8 @@ module _ (t : Tables) (captures : List (List Captured)) (are : AreTables t)
     parted_best = grind (arith, common_steps, first_chosen, traffic_there)
 
     pub parted_slack : AlwaysHasSlack parted.records
-    parted_slack = grind (arith, common_steps, first_slack, traffic_there)
+    parted_slack =
+        (first_chosen IsInputBest (λ o m h. h.stable) _ _ _ w.came _ _ _ _ _ traffic_there parted.runs).1
 
   -- and those from a state that was taken up
   module _ (from : Taken) (kept : Kept) (up : CanBeTakenUp w from) (resumed : IsResumed w from kept) where
@@ -84,8 +82,7 @@ module _ (t : Tables) (captures : List (List Captured)) (are : AreTables t)
     run_there = rw (take_all (length rs) rs (omega arith)) at resumed.runs.after
 
     pub resumed_best : AreInputBest rs
-    resumed_best = each_chosen IsInputBest (λ o m h. h.stable) _ _ _ _ _ _ _ _ _ stands_on run_there
+    resumed_best = (each_chosen IsInputBest (λ o m h. h.stable) _ _ _ _ _ _ _ _ _ stands_on run_there).0
 
     pub resumed_slack : AlwaysHasSlack rs
-    resumed_slack = limited_run_slack w.limits w.machines (classes_of t.setup) _ to_run _ _ beside rs stands_on
-        ((stable_limited_too w.machines w.limits).run _ to_run _ _ rs run_there)
+    resumed_slack = (each_chosen IsInputBest (λ o m h. h.stable) _ _ _ _ _ _ _ _ _ stands_on run_there).1

@@ -70,9 +70,7 @@ module _ (t : Tables) (captures : List (List Captured)) (sent : List Departure) 
     -- of what comes to the input its cells are those of its number, and of its flow those too
     in_line : filter own (came_at input (arrivals t captures)) ≡ its
     unfolding arrivals_at cell_of
-    in_line =
-        let here = by_packet t captures input own (λ n. n == k) (λ n m. refl) in
-        search (arith, rules, append-nil, line_cells, at_input, here, one_is k 0)
+    in_line = search (arith, rules, append-nil, line_cells, at_input, by_packet t captures input own, one_is k 0)
 
     in_its_flow : filter own (came_in_flow input class j (arrivals t captures)) ≡ filter in_flow its
     in_its_flow = search (arith, rules, flow_in_line, tests_turned own in_flow, filter_both in_flow own, in_line)

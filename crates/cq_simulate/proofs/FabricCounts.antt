@@ -1,28 +1,9 @@
 -- One slot of the fabric by its numbers. The cells that wait at the inputs grow by those that arrive and fall by one
 -- for each transfer. A phase has no more proposals than the number of ports squared, and none where no cell waits at
--- an input.
-use Rattle.cq_simulate.proofs.Terms.{common_steps, rules, ◌≡◌, ℕ, zero, suc, ◌+◌, ◌*◌, ◌≤◌, List, [], ◌∷◌, length, length-append, Option, Some, None, refl, ap, ◌∙◌, arith, mul-le-mul, sum, range_with_len, filter_map, cons_option, length-map, nil_from_length, length-insert, length-map-range_with_len, get_or-map-range_with_len, sum_by-le, arrival_at, is_for, Cell, Queued, Transfer, present, outputs_at, Fabric, IsFabric, input, SlotRecord, FabricSlot, proposals_in, transfers_in, list_of, orders_of, output_order, Partners, partner_of, spent, proposals, IsMatching, IsInputBest, Machine, one_if, total, total_none, came_from, first_at, Transfers, came_to, list_arrived, OutputsInRange, are_offers, outputs_at_most, has_there, most_ports, fabric_listed, map, sum_by-cons}
+-- an input. Beside an ideal switch a cell leaves in each slot in which one waits or comes.
+use Rattle.cq_simulate.proofs.Terms.{common_steps, rules, ◌≡◌, ℕ, zero, suc, ◌+◌, ◌*◌, ◌≤◌, List, [], ◌∷◌, length, length-append, Option, Some, None, refl, arith, mul-le-mul, sum, range_with_len, filter_map, cons_option, length-map, nil_from_length, length-insert, length-map-range_with_len, get_or-map-range_with_len, sum_by-le, arrival_at, is_for, Cell, Queued, Transfer, present, outputs_at, Fabric, IsFabric, input, SlotRecord, FabricSlot, proposals_in, transfers_in, orders_of, output_order, Partners, partner_of, spent, proposals, IsMatching, IsInputBest, Machine, one_if, came_from, first_at, Transfers, came_to, list_arrived, OutputsInRange, are_offers, outputs_at_most, has_there, most_ports, fabric_listed, map, sum_by-cons, ◌-◌, waiting, Agrees, fabric_held, hold_as_many, IdealState, IsEmptyFabric, empty_together, nothing_left, AreForPorts, IsStable, stable_slot, same_slot, counted, arrived, after_sent, get_or_past, cases_lt}
 use Rattle.cq_prefs.specs.Moves.{list_taken, noted, transfers_of}
 use Rattle.cq_prefs.specs.Orders.{Orders, ports, outputs_of}
-
--- ## Numbers that are added over a range
-
--- each is at most two others together
-pub total_most : (f g h : ℕ → ℕ) (a n : ℕ) → ((t : ℕ) → f t ≤ g t + h t) → total f a n ≤ total g a n + total h a n
-unfolding total
-total_most f g h a zero le = omega arith
-total_most f g h a (suc n) le = let here = le a in let rest = total_most f g h (a + 1) n le in omega arith
-
--- from the next place on
-pub total_next : (f : ℕ → ℕ) (a b n : ℕ) → b ≡ suc a → total f b n ≡ total (λ i. f (suc i)) a n
-unfolding total
-total_next f a b zero e = refl
-total_next f a b (suc n) e = grind (arith, common_steps, total, total_next f (a + 1) (b + 1) n)
-
-pub summed : (f : ℕ → ℕ) (a n : ℕ) → sum (map f (range_with_len a n)) ≡ total f a n
-unfolding total
-summed f a zero = refl
-summed f a (suc n) = grind (arith, common_steps, sum_by-cons, summed f (a + 1) n)
 
 -- ## Arrivals
 
@@ -31,21 +12,15 @@ one_present [] i = omega arith
 one_present (o ∷ cells) zero = grind (arith, common_steps)
 one_present (o ∷ cells) (suc i) = grind (arith, common_steps, one_present cells i)
 
-all_arrivals : (cells : List (Option Cell)) (n : ℕ) → total (λ i. one_if (arrival_at cells i)) 0 n ≤ length
-    (present cells)
-unfolding total
-all_arrivals cells zero = omega arith
-all_arrivals [] (suc n) = search (arith, rules, total_none)
-all_arrivals (o ∷ cells) (suc n) =
-    grind (arith, common_steps, total_next (λ i. one_if (arrival_at (o ∷ cells) i)) 0 (0 + 1) n, all_arrivals cells n)
-
--- how many cells wait at the first n inputs
-unfoldable pub at_inputs : Fabric → ℕ → ℕ
-at_inputs f n = total (λ i. length (input f i)) 0 n
-
-pub all_listed : (f : Fabric) (n : ℕ) → length f.inputs ≡ n → sum (fabric_listed f) ≡ at_inputs f n
-unfolding at_inputs fabric_listed
-all_listed f n same = rw same (summed (λ i. length (input f i)) 0 n)
+-- where each number in a row grows by one at most, and only where a cell arrives, their sum grows by no more than come
+grown : (cells : List (Option Cell)) (f g : ℕ → ℕ) (a n : ℕ) →
+    ((t k : ℕ) → t ≡ a + k → g t ≤ f t + one_if (arrival_at cells k)) →
+    sum (map g (range_with_len a n)) ≤ sum (map f (range_with_len a n)) + length (present cells)
+grown cells f g a zero le = omega arith
+grown [] f g a (suc n) le =
+    grind (arith, common_steps, sum_by-cons, le a zero, grown [] f g (a + 1) n (λ t k e. le t (suc k) (omega arith)))
+grown (o ∷ cells) f g a (suc n) le =
+    grind (arith, common_steps, sum_by-cons, le a zero, grown cells f g (a + 1) n (λ t k e. le t (suc k) (omega arith)))
 
 longer_one : (f : Fabric) (came : Option Queued) (cell : Option Cell) (xs : List Queued) →
     ((c : Queued) → came ≡ Some c → cell ≡ Some c.cell) → length (list_arrived f came xs) ≤ length xs + one_if cell
@@ -66,14 +41,16 @@ module _ (slot phase : ℕ) where
 
   module _ (m : Partners) (f g : Fabric) (step : Transfers m f g) where
     some_cross : (a n : ℕ) → length (filter_map (λ i. noted slot phase i (input f i) (partner_of m i))
-        (range_with_len a n)) + total (λ i. length (input g i)) a n ≤ total (λ i. length (input f i)) a n
-    unfolding total
+        (range_with_len a n)) + sum (map (λ i. length (input g i)) (range_with_len a n))
+        ≤ sum (map (λ i. length (input f i)) (range_with_len a n))
     some_cross a zero = omega arith
-    some_cross a (suc n) = grind (arith, common_steps, one_taken, length-cons_option, some_cross (a + 1) n)
+    some_cross a (suc n) =
+        grind (arith, common_steps, sum_by-cons, one_taken, length-cons_option, some_cross (a + 1) n)
 
-    all_cross : (n : ℕ) → length m ≡ n → length (transfers_of m f.inputs slot phase) + at_inputs g n ≤ at_inputs f n
-    unfolding transfers_of at_inputs
-    all_cross n same = rw (← same) (some_cross 0 (length m))
+    all_cross : length m ≡ length f.inputs →
+        length (transfers_of m f.inputs slot phase) + sum (fabric_listed g) ≤ sum (fabric_listed f)
+    unfolding transfers_of fabric_listed
+    all_cross same = rw (step.moves.ports.0, ← same) (some_cross 0 (length m))
 
 pub shorter : (m : Partners) (f g : Fabric) → Transfers m f g → (i : ℕ) → length (input g i) ≤ length (input f i)
 shorter m f g step i = search (arith, rules, one_taken 0 0 i (partner_of m i) (input f i), step.moves.taken)
@@ -100,38 +77,77 @@ module _ (f : Fabric) (m : Partners) (is : IsMatching (orders_of f.inputs) m) wh
   pub proposals_none : ((i : ℕ) → length (input f i) ≡ 0) → proposals (orders_of f.inputs) m ≡ 0
   proposals_none none = search (arith, rules, proposals_within (orders_of f.inputs) m is 0, outputs_at, nil_from_length)
 
+pub square_few : (n : ℕ) → n ≤ most_ports → n * n ≤ 4096
+square_few n few = let square : n * n ≤ most_ports * most_ports = mul-le-mul few few in omega arith
+
+-- ## Beside an ideal switch
+
+waiting-sum : (lists : List (List Queued)) → waiting lists ≡ sum (map length lists)
+unfolding waiting
+waiting-sum [] = refl
+waiting-sum (cells ∷ lists) = grind (arith, common_steps, sum_by-cons, waiting-sum lists)
+
+-- as many cells wait in the ideal switch as the fabric holds
+pub all_wait : (slot : ℕ) (f : Fabric) (ideal : IdealState) → Agrees slot f ideal →
+    waiting ideal.lists ≡ sum (fabric_held f)
+all_wait slot f ideal agrees = cc (waiting-sum ideal.lists, hold_as_many slot f ideal agrees)
+
+pub empty_beside : (slot : ℕ) (f : Fabric) (ideal : IdealState) → Agrees slot f ideal → sum (fabric_held f) ≡ 0 →
+    IsEmptyFabric f
+empty_beside slot f ideal agrees none =
+    let wait = all_wait slot f ideal agrees in search (arith, rules, empty_together slot f ideal, nothing_left)
+
 -- ## A slot
 
-module _ (ms : List Machine) (slot : ℕ) (cells : List (Option Cell)) (f g : Fabric) (r : SlotRecord)
+module _ {ms : List Machine} {slot : ℕ} {cells : List (Option Cell)} {f g : Fabric} {r : SlotRecord}
     (step : FabricSlot IsInputBest ms slot cells f r g) where
   arrived_one : (i : ℕ) → length (input r.arrived i) ≤ length (input f i) + one_if (arrival_at cells i)
   arrived_one i =
       let from = came_from ms slot 0 cells f.ranks (record { came = r.came; ranks = r.arrived.ranks }) in
       search (arith, rules, longer_one f (came_to r.came i) (arrival_at cells i) (input f i), from, step.arrive)
 
-  arrived_all : (n : ℕ) → at_inputs r.arrived n ≤ at_inputs f n + length (present cells)
-  unfolding at_inputs
-  arrived_all n = omega (arith, total_most _ _ _ 0 n arrived_one, all_arrivals cells n)
+  arrived_all : sum (fabric_listed r.arrived) ≤ sum (fabric_listed f) + length (present cells)
+  unfolding fabric_listed
+  arrived_all = rw step.arrive.ports (grown cells (λ i. length (input f i)) (λ i. length (input r.arrived i)) 0
+      (length f.inputs) (λ t k e. let same : t ≡ k = omega arith in rw same (arrived_one k)))
 
-  sent_all : (n : ℕ) → at_inputs r.sent n ≡ at_inputs r.filled n
-  unfolding at_inputs
-  sent_all n = ap (λ (ls : List (List Queued)). total (λ i. length (list_of ls i)) 0 n) step.depart.inputs
-
-  sent_ports : length r.sent.inputs ≡ length f.inputs
-  sent_ports = ap length step.depart.inputs ∙ step.fill.moves.ports.0 ∙ step.arrive.ports
+  sent_all : sum (fabric_listed r.sent) ≡ sum (fabric_listed r.filled)
+  unfolding fabric_listed
+  sent_all = simp step.depart.inputs
 
   -- each transfer takes a cell from an input
-  pub cross_few : (n : ℕ) → length f.inputs ≡ n → length (transfers_in r) + at_inputs g n ≤ at_inputs f n + length
-      (present cells)
+  pub cross_few : length (transfers_in r) + sum (fabric_listed g) ≤ sum (fabric_listed f) + length (present cells)
   unfolding transfers_in
-  cross_few n same = search (arith, rules, arrived_all, all_cross, sent_all, length-append, length-map, sent_ports)
+  cross_few = search (arith, rules, arrived_all, all_cross, sent_all, length-append, length-map)
 
-  -- where no cell waits and none arrives none is proposed
-  pub none_proposed : ((i : ℕ) → length (input f i) ≡ 0) → length (present cells) ≡ 0 → sum (proposals_in r) ≡ 0
-  unfolding proposals_in
-  none_proposed none quiet =
-      let fewer = shorter r.first r.arrived r.filled step.fill in
-      search (arith, rules, arrived_one, one_present cells, fewer, step.depart.inputs, proposals_none)
+  -- where the fabric agrees with an ideal switch a cell leaves in a slot in which one waits or comes, so each of them
+  -- pays for the proposals of one slot
+  module _ {classes : ℕ} {ideal : IdealState} (agrees : Agrees slot f ideal)
+      (come : AreForPorts (length f.inputs) classes cells) where
+    stable : FabricSlot IsStable ms slot cells f r g
+    stable = stable_slot ms slot cells f g r step
 
-pub square_few : (n : ℕ) → n ≤ most_ports → n * n ≤ 4096
-square_few n few = let square : n * n ≤ most_ports * most_ports = mul-le-mul few few in omega arith
+    pub fewer_held : sum (fabric_held g) ≤ sum (fabric_held f) + length (present cells) - 1
+    fewer_held =
+        let alike = same_slot ms slot classes cells f g ideal r agrees come stable in
+        omega (arith, counted ms slot cells ideal _ alike.sent, all_wait, alike.agrees)
+
+    proposed_few : length f.inputs ≤ most_ports → sum (proposals_in r) ≤ 8192
+    unfolding proposals_in
+    proposed_few few =
+        let before = arrived ms slot classes cells f g ideal r agrees come stable in
+        let after = after_sent ms slot classes cells f g ideal r agrees come stable in
+        search (arith, rules, proposals_few, before, after, stable, square_few)
+
+    -- where no cell waits and none arrives none is proposed
+    none_proposed : sum (fabric_held f) ≡ 0 → length (present cells) ≡ 0 → sum (proposals_in r) ≡ 0
+    unfolding proposals_in
+    none_proposed none quiet =
+        let empty = empty_beside slot f ideal agrees none in
+        let no_cell : (i : ℕ) → length (input f i) ≡ 0 = search (arith, rules, empty.inputs, get_or_past, cases_lt) in
+        let fewer = shorter r.first r.arrived r.filled step.fill in
+        search (arith, rules, no_cell, arrived_one, one_present cells, fewer, step.depart.inputs, proposals_none)
+
+    pub slot_proposed : length f.inputs ≤ most_ports →
+        sum (proposals_in r) + 8192 * sum (fabric_held g) ≤ 8192 * (sum (fabric_held f) + length (present cells))
+    slot_proposed few = grind (arith, common_steps, fewer_held, proposed_few few, none_proposed, cases_lt)

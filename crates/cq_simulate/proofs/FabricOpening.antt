@@ -77,8 +77,7 @@ module _ {t : Tables} {s : Scheduled} {first : EngineView} {sent : RoomView Depa
       (record { frozen = frozen; sent = sent_new.items; note = note_new.items })
   parted_of has is =
       let all = rw made.fresh.fresh at has in
-      let runs = rw made.fresh.machines at all.went.runs in
-      rw is (search (arith, rules, machines_many))
+      rw is (search (arith, rules, made.fresh.machines, machines_many))
 
 -- What a run says that goes on from where a run was taken up: what it kept, or the tag fault at which it stops.
 

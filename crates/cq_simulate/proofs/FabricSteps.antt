@@ -1,9 +1,9 @@
 -- What each step of the loop over the slots of the fabric asks for, where so many slots are left as are not yet over.
-use Rattle.cq_simulate.proofs.Terms.{common_steps, rules, ◌≡◌, ℕ, suc, ◌+◌, ◌-◌, ◌<◌, ◌≤◌, ◌^◌, Bool, true, false, List, [], ◌++◌, length, map, Option, Err, refl, sym, ap, arith, zero, ◌*◌, ◌∷◌, length-append, sum, slice_index, cases_lt, and_left, leb-false, ne_eqb, Arrival, arriving, end_of, arriving_at, RoomView, Cell, Departure, TagFault, Transfer, EngineView, HaveBufferRoom, HaveListRoom, IsMadeAs, IsReadyFor, SlotDone, answer_to, its_admission, marked_fabric, HaveLeft, CanCount, AreForPorts, ranking, IsEmptyFabric, Fabric, input, LimitedFabricRun, LimitedRecord, IsLimitedFault, LimitedFabricSlot, IsInputBest, Machine, class_count, counts_fit, none_counted, HasRunOn, IsReadyOn, NoneCome, StopsWithin, RanTo, WentOn, to_come, arrivals_for, arrives_found, from_here, one_if, come_from, no_more_from, for_here, come_for, no_more_to, IsQuiet, append-nil, get_or_past, take_all, take-append-le, IdealState, transfers_of_run, range_with_len, Queued, nothing_left, come_count, come_count-first, arriving_length, arriving_here, arriving_parts, waiting, total, total_same, Marked, arriving_from, departures_of, LimitedSent, stable_limited_slot, limited_ports_kept, same_limited_slot, only_limited_run, empty_together, Agrees, fabric_held, held_for, LimitedAgrees, figures_after, sum_by-cons, agrees_of, ideal_of, is_from, is_to, number_of, arriving_is, found, quiet_limited_slots, limited_lists_kept, limited_outputs_kept, all_go_on, departures_one, transfers_one, hold_as_many, most_ports, quiet_slots, best_act_alike, kept_on, kept_with, slots_fit, run_length, ◌∙◌, kept_both, kept_quiet}
+use Rattle.cq_simulate.proofs.Terms.{common_steps, rules, ◌≡◌, ℕ, suc, ◌+◌, ◌-◌, ◌<◌, ◌≤◌, ◌^◌, Bool, true, false, List, [], ◌++◌, length, map, Option, Err, refl, sym, ap, arith, zero, ◌*◌, ◌∷◌, length-append, sum, slice_index, cases_lt, and_left, leb-false, ne_eqb, Arrival, arriving, end_of, arriving_at, RoomView, Cell, Departure, TagFault, Transfer, EngineView, HaveListRoom, IsMadeAs, IsReadyFor, SlotDone, answer_to, its_admission, marked_fabric, HaveLeft, CanCount, AreForPorts, ranking, IsEmptyFabric, Fabric, input, LimitedFabricRun, LimitedRecord, IsLimitedFault, LimitedFabricSlot, IsInputBest, Machine, class_count, counts_fit, none_counted, HasRunOn, IsReadyOn, NoneCome, StopsWithin, RanTo, WentOn, to_come, arrivals_for, arrives_found, from_here, one_if, come_from, no_more_from, for_here, come_for, no_more_to, IsQuiet, append-nil, take_all, take-append-le, IdealState, transfers_of_run, range_with_len, come_count, come_count-first, arriving_length, arriving_here, arriving_parts, total, total_same, Marked, arriving_from, departures_of, LimitedSent, stable_limited_slot, limited_ports_kept, same_limited_slot, only_limited_run, fabric_held, held_for, LimitedAgrees, figures_after, agrees_of, ideal_of, is_from, is_to, number_of, arriving_is, found, quiet_limited_slots, limited_lists_kept, limited_outputs_kept, all_go_on, departures_one, transfers_one, most_ports, quiet_slots, best_act_alike, kept_on, kept_with, slots_fit, run_length, ◌∙◌, kept_both, kept_quiet, fabric_listed, admission_for_ports}
 use Rattle.cq_engine.specs.Engine.{HasGoneOn, ports_of}
 use Rattle.cq_engine.specs.Resting.{HasRested}
 use Rattle.cq_simulate.proofs.Steps.{fewer_come, of_admitted, come_here, numbers, slot_err}
-use Rattle.cq_simulate.proofs.FabricCounts.{all_listed, at_inputs, cross_few, none_proposed, square_few}
+use Rattle.cq_simulate.proofs.FabricCounts.{all_wait, cross_few, empty_beside, slot_proposed}
 
 -- What is still to come. The first arrival of a slot from this one on is the same among all arrivals as among those
 -- that are still to come. So in any slots from this one on no more cells come than are to come, and no more for an
@@ -76,24 +76,15 @@ pub record Crossing (whole : Bool) (ms : List Machine) (came : List Arrival) (fi
       length (input now.fabric i) + come_from i came slot n ≤ slice_index first.from_inputs i
   pub buffers : (j : ℕ) → j < ports_of first →
       held_for j now.fabric + come_for j (arriving_from came slot n) ≤ slice_index first.to_outputs j
-  pub spare : waiting ideal.state.lists + come_count (arriving_from came slot n) + ports_of first ≤ sent.spare
-  pub room : at_inputs now.fabric (ports_of first) + come_count
-      (arriving_from came slot n) + 2 * ports_of first ≤ note.spare
-  pub proposed : now.figures.proposals + 8192 * (waiting ideal.state.lists + come_count
+  pub spare : sum (fabric_held now.fabric) + come_count (arriving_from came slot n) + ports_of first ≤ sent.spare
+  pub room : sum (fabric_listed now.fabric) + come_count (arriving_from came slot n) + 2 * ports_of first ≤ note.spare
+  pub proposed : now.figures.proposals + 8192 * (sum (fabric_held now.fabric) + come_count
       (arriving_from came slot n)) ≤ first.figures.proposals + 8192 * length came
   pub counts : CanCount (ports_of first + come_count (arriving_from came slot n)) now.refused
-  pub few : whole ≡ true → waiting ideal.state.lists + come_count (arriving_from came slot n) + (end_of came - slot) ≤ n
+  pub few : whole ≡ true →
+      sum (fabric_held now.fabric) + come_count (arriving_from came slot n) + (end_of came - slot) ≤ n
   pub going : whole ≡ true → (m : ℕ) (f : Marked Fabric) → m < length records → RanTo ms came first m records f →
       end_of came ≤ first.next + m → IsEmptyFabric f.state → ⊥
-
--- the slot was done, and what left in it, which stood in a list of its own, stands behind what was sent
-pub record Passed (ms : List Machine) (slot : ℕ) (cells : List (Option Cell)) (now after : EngineView)
-    (leaving left sent sent_new : RoomView Departure) (note note_new : RoomView Transfer) : Type 0 where
-  pub done : SlotDone ms slot cells now after leaving left note note_new
-  pub put : HaveLeft slot done.record_of.of_slot.gone sent sent_new
-  pub went_on : HasGoneOn slot now after
-  pub running : after.stopped ≡ false
-  pub made : IsMadeAs now after
 
 -- what left in a slot
 pub left_here : {ms : List Machine} {slot : ℕ} {cells : List (Option Cell)} {now after : EngineView}
@@ -104,16 +95,6 @@ left_here done = record { items = done.departed; spare = done.departed_room }
 
 -- ## Before the first slot
 
-pub waiting-sum : (lists : List (List Queued)) → waiting lists ≡ sum (map length lists)
-unfolding waiting
-waiting-sum [] = refl
-waiting-sum (cells ∷ lists) = grind (arith, common_steps, sum_by-cons, waiting-sum lists)
-
--- as many cells wait in the ideal switch as the fabric holds
-pub all_wait : (slot : ℕ) (f : Fabric) (ideal : IdealState) → Agrees slot f ideal →
-    waiting ideal.lists ≡ sum (fabric_held f)
-all_wait slot f ideal agrees = cc (waiting-sum ideal.lists, hold_as_many slot f ideal agrees)
-
 pub crossing_first : (whole : Bool) (ms : List Machine) (came : List Arrival) (first : EngineView)
     (sent : RoomView Departure) (note : RoomView Transfer) (end n : ℕ) → IsReadyOn ms came first sent note →
     first.next + n ≡ end → end ≤ 2 ^ 63 + 2 ^ 36 → (whole ≡ true → end ≡ over_by came first.next) →
@@ -122,17 +103,12 @@ unfolding arriving_from departures_of transfers_of_run
 crossing_first whole ms came first sent note end n ready left early slots =
     let come = few_come first.next n came in
     let alike = agrees_of first.next first.fabric ready.sound in
-    let wait = all_wait first.next first.fabric (ideal_of first.fabric) alike in
     let ideal : Marked IdealState = record { state = ideal_of first.fabric; marks = first.marks } in
     let agrees : LimitedAgrees first.next (marked_fabric first) ideal = record { states = alike; marks = refl } in
     let went : WentOn ms came first first sent sent note note [] = search (arith, rules, append-nil, none_counted) in
-    search (arith, rules, slots, come.1, come.2, all_listed, ready.lists, ready.buffers, ready.refused)
+    search (arith, rules, slots, come.1, come.2, ready.lists, ready.buffers, ready.refused)
 
 -- ## A slot
-
-empty_beside : (slot : ℕ) (f : Marked Fabric) (ideal : Marked IdealState) → LimitedAgrees slot f ideal →
-    waiting ideal.state.lists ≡ 0 → IsEmptyFabric f.state
-empty_beside slot f ideal agrees none = search (arith, rules, empty_together slot f.state ideal.state, nothing_left)
 
 module _ {whole : Bool} {ms : List Machine} {came : List Arrival} {first : EngineView} {first_sent : RoomView Departure}
     {first_note : RoomView Transfer} {end slot n : ℕ} {now : EngineView} {sent : RoomView Departure}
@@ -158,17 +134,10 @@ module _ {whole : Bool} {ms : List Machine} {came : List Arrival} {first : Engin
       after.limits ≡ now.limits → after.stopped ≡ false →
       WentOn ms came first after first_sent sent_new first_note note_new (c.records ++ rs)
   went_on k rs {after} many run kept limits running =
-      let before = arriving_from came first.next (length c.records) in
-      let so_far = arriving_length came first.next (length c.records) in
-      let at : slot ≡ first.next + length before = omega arith in
-      let all = arriving_parts came first.next slot (length c.records) k (length (c.records ++ rs)) (sym c.long)
-      (search (arith, rules, length-append)) in
-      let on = (all_go_on (LimitedFabricSlot IsInputBest first.limits ms) (IsLimitedFault first.limits ms)).run
-      first.next before (arriving_from came slot k) (marked_fabric first) (marked_fabric now) (marked_fabric after)
-      c.records rs c.went.runs in
-      let runs = rw all at on in
+      let all = arriving_parts came first.next slot (length c.records) k in
+      let on = all_go_on (LimitedFabricSlot IsInputBest first.limits ms) (IsLimitedFault first.limits ms) in
       let both = kept_both (kept_with first first_sent first_note) first.next slot c.records rs c.long in
-      search (arith, rules)
+      search (arith, rules, arriving_length, length-append)
 
 -- Stretches of slots that the fabric skips. What is known before the first of them is known after the last: none sends
 -- a cell, moves or refuses one, or changes a figure, and the ideal switch beside it holds as many cells as before.
@@ -181,7 +150,7 @@ module _ {whole : Bool} (M : List ℕ → Machine) {came : List Arrival} {first 
   pub crossing_rest : (n : ℕ) → slot ≤ next → next + n ≡ end → NoneCome came slot next →
       (whole ≡ true → slot < next → next < end_of came) →
       Crossing whole (map M first.fixed) came first first_sent first_note end next n new sent note
-  unfolding fabric_held at_inputs
+  unfolding fabric_held fabric_listed
   crossing_rest n late left quiet more =
       let k = next - slot in
       let ms = map M first.fixed in
@@ -193,11 +162,8 @@ module _ {whole : Bool} (M : List ℕ → Machine) {came : List Arrival} {first 
       let fit = slots_fit (ports_of first) (class_count ms) came slot k c.ready.traffic in
       let alike = (best_act_alike first.limits ms).run slot (class_count ms) (arriving_from came slot k)
       (marked_fabric now) (marked_fabric new) c.ideal rs c.agrees (rw c.ports fit) run in
-      let wait = all_wait slot now.fabric c.ideal.state c.agrees.states in
-      let wait_there = all_wait _ new.fabric alike.after.state alike.agrees.states in
       let held : sum (fabric_held new.fabric) ≡ sum (fabric_held now.fabric) = simp (rested.inputs, rested.buffers) in
-      let listed : at_inputs new.fabric (ports_of first) ≡ at_inputs now.fabric (ports_of first) =
-      simp rested.inputs in
+      let listed : sum (fabric_listed new.fabric) ≡ sum (fabric_listed now.fabric) = simp rested.inputs in
       let long = arriving_length came slot k in
       let many = run_length (LimitedFabricSlot IsInputBest first.limits ms) slot _ _ _ rs run ∙ long in
       let less = fewer_come came slot k n next m (omega arith) (omega arith) in
@@ -207,13 +173,6 @@ module _ {whole : Bool} (M : List ℕ → Machine) {came : List Arrival} {first 
       let ahead = λ (m : ℕ). take-append-le m c.records rs in
       let cut = cases_lt slot next in
       search (arith, rules, length-append, c.lists, c.buffers, less.to, less.from, more, cut, c.going, ahead, c.counts)
-
--- all that an engine asks for a slot, where what leaves is put into this list
-pub record CanRun (M : List ℕ → Machine) (slot : ℕ) (cells : List (Option Cell)) (now : EngineView)
-    (leaving : RoomView Departure) (note : RoomView Transfer) : Type 0 where
-  pub early : slot < 2 ^ 64 - 1
-  pub arrivals : AreForPorts (length now.fixed) (class_count (map M now.fixed)) cells
-  pub ready : IsReadyFor cells now leaving note
 
 -- The run, which began there and is to its end or not, stands at this slot, which is to be run.
 pub record Stands (whole : Bool) (end : ℕ) (M : List ℕ → Machine) (came : List Arrival) (first : EngineView)
@@ -241,22 +200,22 @@ module _ {whole : Bool} {end : ℕ} {M : List ℕ → Machine} {came : List Arri
   list_room cells are i cell at =
       search (arith, rules, for_ports.inputs, from_here i came slot n, arrives_found came slot i, one_if)
 
-  buffer_room : (cells : List (Option Cell)) → cells ≡ arriving came slot → HaveBufferRoom cells now
-  buffer_room cells are j within = search (arith, rules, same_ports, c.buffers, for_here)
-
   -- the slot finds all that it asks for
   pub can_run_here : (cells : List (Option Cell)) → cells ≡ arriving came slot → (leaving : RoomView Departure) →
-      length first.fixed ≤ leaving.spare → CanRun M slot cells now leaving note
+      length first.fixed ≤ leaving.spare →
+      AreForPorts (length now.fixed) (class_count (map M now.fixed)) cells × IsReadyFor cells now leaving note
   can_run_here cells are leaving room =
-      search (arith, rules, list_room, buffer_room, for_ports, same_ports, c.counts)
+      search (arith, rules, list_room, c.buffers, for_here, for_ports, same_ports, c.counts)
 
   -- once it is run, the run stands at the next one
   pub next_here : {cells : List (Option Cell)} {after : EngineView} {leaving left sent_new : RoomView Departure}
       {note_new : RoomView Transfer} → cells ≡ arriving came slot →
-      Passed (map M now.fixed) slot cells now after leaving left sent sent_new note note_new →
+      (done : SlotDone (map M now.fixed) slot cells now after leaving left note note_new) →
+      HaveLeft slot done.record_of.of_slot.gone sent sent_new → HasGoneOn slot now after → IsMadeAs now after →
+      after.stopped ≡ false →
       Crossing whole (map M first.fixed) came first first_sent first_note end (slot + 1) n after sent_new note_new
   unfolding arriving_from figures_after
-  next_here {after = after} {sent_new = sent_new} {note_new = note_new} are passed =
+  next_here {after = after} {sent_new = sent_new} {note_new = note_new} are done put gone_on made running =
       let cells = arriving came slot in
       let ms = map M first.fixed in
       let classes = class_count ms in
@@ -264,34 +223,33 @@ module _ {whole : Bool} {end : ℕ} {M : List ℕ → Machine} {came : List Arri
       let f = marked_fabric now in
       let g = marked_fabric after in
       let same_machines : map M now.fixed ≡ ms = ap (map M) c.made.fixed in
-      let done = passed.done in
       let r = done.record_of in
       let admitted = r.admission.cells in
       let step : LimitedFabricSlot IsInputBest first.limits ms slot cells f r g =
       rw (are, same_machines, c.went.limits) at done.is_slot in
       let stable = stable_limited_slot ms first.limits slot cells f g r step in
       let come : AreForPorts (length now.fabric.inputs) classes cells = rw c.ports for_ports in
+      let admitted_come : AreForPorts (length now.fabric.inputs) classes admitted =
+      search (arith, rules, admission_for_ports) in
       let alike = same_limited_slot first.limits ms slot classes cells f g c.ideal r c.agrees come stable in
       let of_slot : LimitedSent = record { admission = r.admission; gone = r.of_slot.gone; after = alike.next } in
       let here_come = come_here came slot n in
       let o = of_admitted first.limits ms slot cells c.ideal of_slot alike.sent in
       let went = went_on c 1 (r ∷ []) {after = after} {sent_new = sent_new} {note_new = note_new} refl (g, step, refl)
-      (cc (departures_one slot r.of_slot, transfers_one r.of_slot, append-nil r.admission.refused)) passed.made.limits
-      passed.running in
+      (cc (departures_one slot r.of_slot, transfers_one r.of_slot, append-nil r.admission.refused)) made.limits
+      running in
       let ports = limited_ports_kept first.limits ms slot classes cells f g c.ideal r c.agrees come stable in
       let lists = limited_lists_kept first.limits ms slot cells f g r stable in
       let held = limited_outputs_kept first.limits ms slot cells f g r stable in
       let same = λ (m : ℕ). take-append-le m c.records (r ∷ []) in
       let goes = λ (is : whole ≡ true). not_before c is (here.more is) in
-      let waits = waiting alike.next.state.lists + come_count (arriving_from came (slot + 1) n) in
-      let proposed : after.figures.proposals + 8192 * waits ≤ first.figures.proposals + 8192 * length came =
-      let square_few-here = square_few (ports_of now) (omega (arith, same_ports)) in
-      let none_proposed-here = none_proposed ms slot admitted f.state g.state r.of_slot step.runs in
-      let empty_beside-here = empty_beside slot f in search (arith, rules, get_or_past, cases_lt) in
+      let wait = all_wait slot now.fabric c.ideal.state c.agrees.states in
+      let wait_there = all_wait (slot + 1) after.fabric alike.next.state alike.agrees.states in
+      let proposed = slot_proposed step.runs c.agrees.states admitted_come (omega (arith, same_ports)) in
       let lost = r.admission.refused in
       let to_count = p + come_count (arriving_from came (slot + 1) n) in
       let counts = counts_fit lost to_count (length lost) now.refused (search (arith, rules, c.counts)) (omega arith) in
-      search (arith, rules, numbers, c.lists, c.few, held, lists, arrives_found came, same, goes, at_inputs, cross_few)
+      search (arith, rules, numbers, c.lists, c.few, held, lists, arrives_found came, same, goes, cross_few)
 
   -- and a tag fault of the slot is one at which the run stops, whatever comes behind it
   pub fault_here : (cells : List (Option Cell)) (fault : TagFault) (count : ℕ) → slot < first.next + count →
@@ -301,14 +259,10 @@ module _ {whole : Bool} {end : ℕ} {M : List ℕ → Machine} {came : List Arri
   fault_here cells fault count long are answer =
       let j = first.next + count - (slot + 1) in
       let ms = map M first.fixed in
-      let before = arriving_from came first.next (length c.records) in
-      let so_far = arriving_length came first.next (length c.records) in
-      let at : slot ≡ first.next + length before = omega arith in
       let all = arriving_parts came first.next slot (length c.records) (suc j) count (sym c.long) (omega arith) in
-      let on = (all_go_on (LimitedFabricSlot IsInputBest first.limits ms) (IsLimitedFault first.limits ms)).stop
-      first.next before (arriving_from came slot (suc j)) (marked_fabric first) (marked_fabric now) c.records [] fault
-      c.went.runs in
-      let on_here = rw all at on in search (arith, rules, arriving_here, slot_err)
+      let on = all_go_on (LimitedFabricSlot IsInputBest first.limits ms) (IsLimitedFault first.limits ms) in
+      let long = arriving_length came first.next (length c.records) in
+      record { records = c.records ++ []; stops = search (arith, rules, on.stop, arriving_here, slot_err) }
 
 -- ## To the slot that is run next
 
@@ -320,7 +274,7 @@ module _ (M : List ℕ → Machine) {came : List Arrival} {end : ℕ} {first : E
       slot ≤ next → (slot < next → IsQuiet came slot next) → HasRested (map M now.fixed) slot next now new →
       Stands true end M came first first_sent first_note next (end - (next + 1)) new sent note
   run_stands runs {next} {new} more late quiet rested =
-      let empty = empty_beside slot (marked_fabric now) runs.ideal runs.agrees in
+      let empty = empty_beside slot now.fabric runs.ideal.state runs.agrees.states in
       let some : 0 < end - slot = search (arith, rules, empty, runs.few, cases_lt 0 (end - slot), more) in
       search (arith, rules, crossing_rest M runs rested (suc (end - (next + 1))), cases_lt slot next, quiet)
 
@@ -334,6 +288,4 @@ module _ (M : List ℕ → Machine) {came : List Arrival} {end : ℕ} {first : E
 
   pub part_stands : Crossing false (map M first.fixed) came first first_sent first_note end slot (end - slot) now sent
       note → slot < end → Stands false end M came first first_sent first_note slot (end - (slot + 1)) now sent note
-  part_stands parts some =
-      let one_more : end - slot ≡ suc (end - (slot + 1)) = omega arith in
-      let crossing = rw one_more at parts in search (arith, rules)
+  part_stands parts some = grind (arith, common_steps)

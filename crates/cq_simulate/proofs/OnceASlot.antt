@@ -2,7 +2,7 @@
 -- output has sent no more cells than the number of that slot, and no more than the slots so far: a slot in which it
 -- sends adds one cell, and then the slots are one more than the number of that slot. What was counted before goes on
 -- so, and before the first slot nothing was counted.
-use Rattle.cq_simulate.proofs.Terms.{common_steps, rules, ◌≡◌, ℕ, zero, suc, ◌+◌, ◌≤◌, false, cond, List, [], ◌∷◌, map, Option, None, refl, arith, All, All-from_recursion, max, fold, is_some, slice_index_or, AllByRecursion, enumerate_from, list_any, cond_both, Cell, Queued, Figures, Marked, Machine, IsInputBest, Fabric, SlotRecord, FabricRun, LimitedFabricRun, LimitedRecord, slots_in, recorded, sends, output_after, figures_after, figures_of, OutputFigures, figures_fold, no_figures, recursion_from_All, get_or-replicate}
+use Rattle.cq_simulate.proofs.Terms.{common_steps, rules, ◌≡◌, ℕ, zero, suc, ◌+◌, ◌≤◌, false, cond, List, [], ◌∷◌, map, Option, None, refl, arith, All, max, fold, is_some, slice_index_or, AllByRecursion, enumerate_from, list_any, cond_both, Cell, Queued, Figures, Marked, Machine, IsInputBest, Fabric, SlotRecord, FabricRun, LimitedFabricRun, LimitedRecord, slots_in, recorded, sends, output_after, figures_after, figures_of, OutputFigures, figures_fold, recursion_from_All, get_or-replicate}
 
 -- ## The records of a run
 
@@ -62,5 +62,4 @@ pub once_a_slot : (ms : List Machine) (traffic : List (List (Option Cell))) (f g
     (ports : ℕ) → FabricRun IsInputBest ms 0 traffic f rs g → All (λ x. x.cells ≤ (figures_of ports rs).slots)
     (figures_of ports rs).outputs
 once_a_slot ms traffic f g rs ports run =
-    let none = recursion_from_All (λ y. y.cells ≤ 0) (no_figures ports).outputs in
-    grind (arith, common_steps, counts_on, run_numbered, none, get_or-replicate, figures_fold, All-from_recursion)
+    grind (arith, common_steps, counts_on, run_numbered, recursion_from_All, get_or-replicate, figures_fold)

@@ -2,7 +2,7 @@
 -- state says was sent, and then what waits in it, are the arrivals that it names, in their order. What waits leaves
 -- first, as it does from the list of the ideal switch beside it, and then what is admitted of what comes. A packet
 -- that the state names is named with all its cells, and goes on as it began.
-use Rattle.cq_simulate.proofs.Terms.{common_steps, rules, map-append, ◌≡◌, ℕ, ◌<◌, Bool, true, false, List, [], ◌∷◌, ◌++◌, length, map, filter, Option, Some, refl, sym, ap, ◌∙◌, arith, ◌⊎◌, ◌+◌, ◌≤◌, not, cond, fold, ◌&&◌, ◌==◌, All, slice_index_or, nat_lt, if◌then◌else◌, AllByRecursion, AllPairs, and_from, and_parts, cases_lt, eq-eqb, eqb-true, lt-ltb, ltb-true, cases_eq, cond-false, cond-true, le-ltb, ne_eqb, Arrival, IsBefore, Departure, Queued, IsLater, IsTraffic, comes_in_flow, leaves_in_flow, left_in_flow, is_kind, shown, HasWaited, Stands, line_at, rest_of, Agrees, Fabric, ideal_of, list_of, departure_of, sent_told, firsts_at, is_refused, latest, IsSound, OfOneFlow, IsBelowFloor, AllNamed, AreWholePackets, NoneNamed, HasShape, Switch, HasLimit, arriving_cell, class_of, fabric_told, is_ahead, is_named, key_of, named_in, output_of, queued_in, queued_of, packet_before, EachPair, each_pair, buffer_is, comes, found_at, in_buffer, in_list, in_order, is_cell_of, its_output, its_slot, list_is, of_traffic, ports_are, queued_differ, queued_named, some_cell, Has, all_from_has, all_of_has, has_cases, has_image, has_kept, has_left, has_right, image_has, kept_has, pair_of_has, IsInRange, Sent, State, NoLater, all_weaker, Machine, machine_at, AreOfPackets, key_laws, HasFor, all_has, looked_up, pairs_kept, pairs_kept_with, pairs_looked_up, pairs_with, Named, any_has, has_any, any_alike, pairs_mapped, pairs_joined, has_looked_up, same_pairs, filter_none, filter_all, ⊎_elim, append_assoc, take_all, filter-append, get_or-map-range_with_len, Cell, traffic_is, arrivals, schedule_of, comes_at_input, AreOfClasses, present, flow_came, no_port, is_of_flow, of_flow, is_run_of, comes_from, Marked, arriving_from, IsRunnable, came_in_flow, departures_of, IdealState, LimitedRan, cells_at, agrees_of, empty_together, LimitedRunsAlike, LimitedFabricRun, LimitedRecord, admissions_in, slots_in, gone_in, Captured, IsInputBest, frozen_told, marks_told, taken_of, IsResumed, Kept, RunsOn, switch_of, Taken, GoesOn, goes_on, AreTables, ports_of, Tables, openings_of, LeaveInOrder, LeaveWhole, LeftInOrder, CanBeTakenUp, slots_fit, all_filter, all_in_range, class_in_slot, none_came, flow_on, whole_on, StandAt, stand_in, best_act_alike, most_ports, filter_both, filter_agree, of_images}
+use Rattle.cq_simulate.proofs.Terms.{common_steps, rules, map-append, ◌≡◌, ℕ, ◌<◌, Bool, true, false, List, [], ◌∷◌, ◌++◌, length, map, filter, Option, Some, refl, sym, ap, ◌∙◌, arith, ◌⊎◌, ◌+◌, ◌≤◌, not, cond, fold, ◌&&◌, ◌==◌, All, slice_index_or, nat_lt, if◌then◌else◌, AllByRecursion, AllPairs, and_from, and_parts, cases_lt, eq-eqb, eqb-true, lt-ltb, ltb-true, cases_eq, cond-false, cond-true, le-ltb, ne_eqb, Arrival, IsBefore, Departure, Queued, IsLater, IsTraffic, comes_in_flow, leaves_in_flow, left_in_flow, is_kind, shown, HasWaited, Stands, line_at, rest_of, Agrees, Fabric, ideal_of, list_of, departure_of, sent_told, firsts_at, is_refused, latest, IsSound, OfOneFlow, IsBelowFloor, AllNamed, AreWholePackets, NoneNamed, HasShape, Switch, HasLimit, arriving_cell, class_of, fabric_told, is_ahead, is_named, key_of, named_in, output_of, queued_in, queued_of, packet_before, EachPair, each_pair, buffer_is, comes, found_at, in_buffer, in_list, in_order, is_cell_of, its_output, its_slot, list_is, of_traffic, ports_are, queued_differ, queued_named, some_cell, Has, all_from_has, all_of_has, has_cases, has_image, has_kept, has_left, has_right, image_has, kept_has, pair_of_has, IsInRange, Sent, State, NoLater, all_weaker, Machine, machine_at, AreOfPackets, key_laws, all_has, looked_up, pairs_kept, pairs_kept_with, pairs_looked_up, pairs_with, Named, any_has, has_any, any_alike, pairs_mapped, pairs_joined, has_looked_up, same_pairs, filter_none, filter_all, append_assoc, take_all, filter-append, get_or-map-range_with_len, Cell, traffic_is, arrivals, schedule_of, comes_at_input, AreOfClasses, present, flow_came, no_port, is_of_flow, of_flow, is_run_of, comes_from, Marked, arriving_from, IsRunnable, came_in_flow, departures_of, IdealState, LimitedRan, cells_at, agrees_of, empty_together, LimitedRunsAlike, LimitedFabricRun, LimitedRecord, admissions_in, slots_in, gone_in, Captured, IsInputBest, frozen_told, marks_told, taken_of, IsResumed, Kept, RunsOn, switch_of, Taken, GoesOn, goes_on, AreTables, ports_of, Tables, openings_of, LeaveInOrder, LeaveWhole, LeftInOrder, CanBeTakenUp, slots_fit, all_filter, all_in_range, class_in_slot, none_came, flow_on, whole_on, StandAt, stand_in, best_act_alike, most_ports, filter_both, filter_agree, of_images}
 use Rattle.std.proofs.lemmas.Simd.{map-map}
 use Rattle.cq_ideal.proofs.RestAtInput.{cells_of}
 use Rattle.cq_simulate.proofs.OfPackets.{as_packets, line_packets, none_at, none_from}
@@ -64,14 +64,11 @@ pub record IsLatest (xs : List Arrival) (g : Arrival) : Type 0 where
   pub has : Has xs g
   pub after : (y : Arrival) → Has xs y → y.slot ≤ g.slot
 
-same_slot : {x y : Arrival} → x ≡ y → x.slot ≡ y.slot
-same_slot same = ap (λ (a : Arrival). a.slot) same
-
 latest_on : (x : Arrival) (xs : List Arrival) → IsLatest (x ∷ xs) (fold later_one x xs)
-latest_on x [] = grind (arith, common_steps, same_slot)
+latest_on x [] = grind (arith, common_steps)
 latest_on x (z ∷ zs) =
     let it = latest_on (later_one x z) zs in
-    grind (arith, common_steps, same_slot, lt-ltb, le-ltb, cases_lt, it.after (later_one x z))
+    grind (arith, common_steps, lt-ltb, le-ltb, cases_lt, it.after (later_one x z))
 
 pub latest_is : (xs : List Arrival) (y : Arrival) → Has xs y → (g : Arrival) × (latest xs ≡ Some g) × IsLatest xs g
 latest_is [] y has = absurd has
@@ -147,19 +144,10 @@ module _ (w : Switch) (s : State) (i : ℕ) where
       pub packets_behind : AreOfPackets begin_from (cells_of behind)
       packets_behind = packets_parted.1
 
-      -- what an arrival of the first part is
-      record OfLine (a : Arrival) : Type 0 where
-        pub came : Has w.came a
-        pub input : a.cell.id.input ≡ i
-        pub early : a.slot < s.head.next
-
-      of_line : (a : Arrival) → Has before a → OfLine a
-      of_line a has = grind (arith, common_steps, kept_has, eqb-true, ltb-true)
-
       -- a cell of the same packet that came before the slot is among those of which the state is asked
-      in_packet : (f a : Arrival) → OfLine f → OfLine a → packet f ≡ packet a →
+      in_packet : (f a : Arrival) → Has before f → Has before a → packet f ≡ packet a →
           Has (packet_before w.came s.head.next f) a
-      in_packet f a first of same = search (rules, has_kept, and_from, a.cell.id.input, packet, eq-eqb, lt-ltb)
+      in_packet f a first has same = grind (arith, common_steps, kept_has, has_kept, and_from, eqb-true, eq-eqb)
 
       -- and all of those are named, or none is
       abbrev OneAnswer : Arrival → Type 0
@@ -167,26 +155,22 @@ module _ (w : Switch) (s : State) (i : ℕ) where
 
       one_answer : (f : Arrival) → Has before f → f.cell.id.index ≡ 0 → OneAnswer f
       one_answer f has begins =
-          let first = of_line f has in
+          let at_line = kept_has (is_early s.head.next) line f has in
           let all = packet_before w.came s.head.next f in
           let said = all_has (λ (a : Arrival). a.cell.id.index ≡ 0 → a.slot < s.head.next
           → AllNamed s (packet_before w.came s.head.next a)
           ⊎ (NoneNamed s (packet_before w.came s.head.next a) × HasLimit w.limits a.cell.output)) w.came f whole
-          first.came
-          begins first.early in
+          (kept_has _ w.came f at_line.0).0 begins (ltb-true f.slot s.head.next at_line.1) in
           let is = λ (yes_ : Bool). all_has (λ (b : Arrival). is_told b ≡ yes_) all in
-          grind (arith, common_steps, is true, is false, in_packet f f first first)
+          grind (arith, common_steps, is true, is false, in_packet f f has has)
 
       pub alike : (a b : Arrival) → Has before a → Has before b → packet a ≡ packet b → is_told a ≡ is_told b
       alike a b first second same =
           let it = begun 0 before packets_parted.0 a first (λ none. omega arith) in
-          search (arith, rules, one_answer it.0, of_line, in_packet)
+          search (arith, rules, one_answer it.0, in_packet)
 
       rise : EachPair Rises before
       rise = both_rise 0 before (pairs_kept IsEarlier (is_early s.head.next) line rising) packets_parted.0
-
-      of_first : (a : Arrival) → Has (firsts_at w.came s i) a → Has before a × (a.cell.id.index ≡ 0)
-      of_first a has = grind (arith, common_steps, kept_has, and_parts, eqb-true, ltb-true, has_kept)
 
       -- the packet that goes on is named exactly where the mark is down
       pub mark_says : (a : Arrival) → Has before a → packet a + 1 ≡ begin_from →
@@ -194,14 +178,15 @@ module _ (w : Switch) (s : State) (i : ℕ) where
       mark_says a has last =
           let it = begun 0 before packets_parted.0 a has (λ none. omega arith) in
           let f = it.0 in
-          let head = of_line f it.1 in
-          let there : Has (firsts_at w.came s i) f = search (arith, rules, has_kept, and_from, eq-eqb, lt-ltb) in
+          let there : Has (firsts_at w.came s i) f =
+          search (arith, rules, kept_has, eqb-true, ltb-true, has_kept, and_from, eq-eqb, lt-ltb) in
           let found = latest_is (firsts_at w.came s i) f there in
           let g = found.0 in
-          let first = of_first g found.2.has in
+          let first : Has before g × (g.cell.id.index ≡ 0) =
+          search (arith, rules, kept_has, and_parts, eqb-true, ltb-true, has_kept) in
           let high = all_of_has _ before g (within 0 0 before (omega arith) packets_parted.0).1 first.0 in
           let low : packet f ≤ packet g = search (arith, rules, packet, pair_of_has, rise, found.2.after f there) in
-          search (arith, rules, any_alike is_told (is_told g), of_line, in_packet, one_answer g, alike g a)
+          search (arith, rules, any_alike is_told (is_told g), in_packet, one_answer g, alike g a)
 
       -- ## Together
 
@@ -404,9 +389,8 @@ module _ (w : Switch) (s : State) (in_range : IsInRange s) (shape : HasShape w s
     one_of_names : (n : Named) (q : Queued) → Has names n → InFlow n q → Has told (as_arrival q)
     one_of_names n q has of =
         let it = found_at w.came n.slot n.input q.cell (is_cell_of w.came n q of.is).arrives in
-        let slot = slot_is n q of in
         let all = comes w s in_range shape sound traffic n has in
-        search (arith, rules, all, and_from, and_parts, is_kind, eq-eqb, any_has, has_kept, lt-ltb)
+        search (arith, rules, slot_is, and_from, and_parts, is_kind, eq-eqb, any_has, has_kept, lt-ltb)
 
     from_told : (x : Arrival) → Has told x → IsOne x
     from_told x has = grind (arith, common_steps, kept_has, early_of, line_at, is_early, ltb-true)
@@ -414,11 +398,10 @@ module _ (w : Switch) (s : State) (in_range : IsInRange s) (shape : HasShape w s
     has_told : (x : Arrival) → Has (map as_arrival (gone ++ waiting)) x → Has told x
     has_told x has =
         let image = image_has as_arrival (gone ++ waiting) x has in
-        let q = image.0 in
-        let sent = λ (d : Sent) (has : Has s.sent d). one_of_names d.cell q (has_right (queued_in s) _ d.cell
-        (has_image (λ (d : Sent). d.cell) s.sent d has)) in
+        let sent = λ (q : Queued) (d : Sent) (has : Has s.sent d). one_of_names d.cell q
+        (has_right (queued_in s) _ d.cell (has_image (λ (d : Sent). d.cell) s.sent d has)) in
         let named = queued_named w s in_range shape sound traffic in
-        search (arith, rules, has_cases gone waiting q image.1, was_sent q, sent, waits q, one_of_names, named)
+        search (arith, rules, has_cases gone waiting image.0 image.1, was_sent, sent, waits, one_of_names, named)
 
     -- an arrival is the only one of its slot and input
     one_arrival : (a x : Arrival) → Has w.came a → Has w.came x → a.slot ≡ x.slot → a.cell.id.input ≡ x.cell.id.input →
@@ -430,24 +413,20 @@ module _ (w : Switch) (s : State) (in_range : IsInRange s) (shape : HasShape w s
     among_gone n q of has =
         let image = image_has (λ (d : Sent). d.cell) s.sent n has in
         let x : Departure = record { slot = image.0.slot; output = q.cell.output; queued = q } in
-        let own : leaves x ≡ true = search (arith, rules, and_from, eq-eqb) in
-        let there = has_looked_up (departure_of w.came) s.sent image.0 x image.1 (search (arith, rules)) in
-        has_image (λ (y : Departure). y.queued) (filter leaves (sent_told w.came s)) x (has_kept leaves _ x there own)
-
-    among_waiting : (n : Named) (q : Queued) → InFlow n q → HasFor f j q → Has waiting q
-    among_waiting n q of stands = let all = agrees in grind (arith, common_steps, has_kept, is_kind)
+        let there = has_looked_up (departure_of w.came) s.sent image.0 x image.1 in
+        search (arith, rules, has_image (λ (y : Departure). y.queued), has_kept leaves, and_from, eq-eqb)
 
     among_listed : (n : Named) (q : Queued) → InFlow n q → Has s.listed n → Has waiting q
     among_listed n q of has =
         let low = of_traffic w s in_range shape sound traffic n q of.is in
         let list = list_is w s in_range shape sound traffic n.input (omega arith) in
         let kept = has_kept (λ (m : Named). m.input == n.input) s.listed n has (eq-eqb n.input n.input refl) in
-        let there = has_looked_up t _ n q kept of.is in search (arith, rules, among_waiting)
+        let there = has_looked_up t _ n q kept of.is in search (arith, rules, has_kept, is_kind, agrees)
 
     among_buffered : (n : Named) (q : Queued) → InFlow n q → Has s.buffered n → Has waiting q
     among_buffered n q of has =
         let low = of_traffic w s in_range shape sound traffic n q of.is in
-        search (arith, rules, has_kept, has_looked_up, buffer_is, among_waiting)
+        search (arith, rules, has_kept, has_looked_up, buffer_is, is_kind, agrees)
 
     is_there : (x : Arrival) → Has told x → Has (map as_arrival (gone ++ waiting)) x
     is_there x has =
@@ -541,14 +520,10 @@ module _ (w : Switch) (s : State) (in_range : IsInRange s) (shape : HasShape w s
     -- ## At one input
 
     module _ (i : ℕ) where
-      no_line : ports ≤ i → line w s i ≡ []
-      no_line past = none_at (length w.machines) w.classes w.came traffic i (omega arith)
-
       -- those that come from the slot on are the late ones
       late_are : cells_at i slots ≡ cells_of (behind w s i)
       unfolding arriving_from
-      late_are = ⊎_elim (λ inside. comes_from i inside w.came next (length rs) runs.rise runs_on.all_came)
-          (λ past. search (arith, rules, no_line, none_from, traffic)) (cases_lt i most_ports)
+      late_are = search (arith, rules, comes_from i, none_at, none_from, traffic, cases_lt i most_ports, runs_on)
 
       rises : EachPair IsEarlier (line w s i)
       rises = line_rises w.came traffic.one_by_one i
@@ -564,9 +539,8 @@ module _ (w : Switch) (s : State) (in_range : IsInRange s) (shape : HasShape w s
       goes_as_marked : (p : ℕ) → p + 1 ≡ begin_from w s i →
           taken p ≡ not (is_refused w.came s (latest (firsts_at w.came s i)))
       unfolding next_after
-      goes_as_marked p last = ⊎_elim (λ (inside : i < ports).
-          search (arith, rules, whole_on, stand, over, late_packets, get_or-map-range_with_len))
-          (search (arith, rules, no_line)) (cases_lt i ports)
+      goes_as_marked p last =
+          search (arith, rules, whole_on, over, late_packets, get_or-map-range_with_len, none_at, cases_lt i ports)
 
       -- and of all packets
       abbrev takes : ℕ → Bool
@@ -616,12 +590,10 @@ module _ (w : Switch) (s : State) (in_range : IsInRange s) (shape : HasShape w s
             let together = agrees in
             let all = many_are in
             let ranks = ap (λ (l : List (List ℕ)). length l) agrees.ranks in
-            let parts = append_assoc (left_in_flow i c j (sent_told w.came s)) (shown i c (there i c j))
-            (filter taken_cell (flow_came i c j slots)) in
             let flow = flow_on w.limits w.machines next slots beside ran ideal_alike.ran stand over i (begin_from w s i)
             late_packets c j (runs.machines j inside) (omega arith) (omega arith)
             (stands_there i c j (omega arith) (classes j inside)) (of_classes j) in
-            cc (left_is, flow, parts, told_flow i c j, flow_late, takes_parts)
+            grind (arith, common_steps, left_is, flow, append_assoc, told_flow i c j, flow_late, takes_parts)
 
         elsewhere : ports ≤ j → left_in_flow i c j kept.sent ≡ filter takes_cell (came_in_flow i c j w.came)
         elsewhere past =
@@ -629,8 +601,8 @@ module _ (w : Switch) (s : State) (in_range : IsInRange s) (shape : HasShape w s
             let all = many_are in
             let none = none_came w.machines ports i c j w.came runs.for_switch past in
             let ideal_runs = is_run_of w.limits w.machines next slots beside ran ideal_alike.ran in
-            let none_left = no_port w.machines i c j _ next (ideal_of f) _ ideal_runs (omega arith) in
-            grind (arith, common_steps, left_is, takes_parts, told_flow i c j, no_first)
+            let none_left = no_port w.machines i c j _ next (ideal_of f) _ ideal_runs in
+            grind (arith, common_steps, left_is, takes_parts, told_flow i c j, no_first, none_left)
 
       pub leaves_in_order : LeftInOrder w.came i kept.sent
       leaves_in_order = record { is_taken = takes; left = λ c j. search (arith, rules, at_port, elsewhere, cases_lt) }

@@ -21,9 +21,7 @@ module _ (setup : Setup) (j : ℕ) (inside : j < length setup.kinds) where
   right_classes = search (arith, rules, machine_is)
 
 pub later_rise : (came : List Arrival) → AllPairs IsLater came → RiseByInput came
-later_rise came later s t a b at_s at_t less same =
-    let here : IsLater (get_or came s a) (get_or came t a) = later s t a less (slice_get_within came t b at_t) in
-    (rw (get_or_from_slice_get came s a a at_s, get_or_from_slice_get came t b a at_t) at here) same
+later_rise came later s t a b at_s at_t less same = search (rules, later s t, slice_get_within, get_or_from_slice_get)
 
 pub runnable : (setup : Setup) (came : List Arrival) → IsSetup setup →
     IsTraffic (ports_of setup) (classes_of setup) came →

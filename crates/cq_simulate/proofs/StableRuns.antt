@@ -2,7 +2,7 @@
 -- and refused what that sends and refuses. Its matchings are those of orders by first cells, and no slack is below 0
 -- after arrivals.
 use Rattle.cq_simulate.proofs.Terms.{common_steps, arith, ◌≡◌, List, length, ap, Ok, Arrival, IsTraffic, limited_found_end, Marked, departures_limited, whole_limited_run, LimitedRan, empty_limited, limited_ends, Fabric, IsEmptyFabric, first_slots, LimitedEndsAlike, LimitedFabricRun, LimitedRecord, LimitedWholeRun, admissions_in, empty_limited_fabric, slots_in, gone_in, IsStable, classes_of, ports_of, Tables, machines_of, openings_of, AlwaysHasSlack, AreStable, departures_in_run, refused_in_run, counts_limited, ideal_departures, ideal_refusals, ran_ideal, refused_counts, slots_ran, slots_fit, run_of_whole}
-use Rattle.cq_simulate.proofs.Chosen.{first_chosen, first_slack}
+use Rattle.cq_simulate.proofs.Chosen.{first_chosen}
 
 module _ (t : Tables) (came : List Arrival) (rs : List LimitedRecord) (end : Marked Fabric)
     (traffic : IsTraffic (ports_of t.setup) (classes_of t.setup) came)
@@ -41,4 +41,4 @@ module _ (t : Tables) (came : List Arrival) (rs : List LimitedRecord) (end : Mar
   all_stable = grind (arith, common_steps, first_chosen, runs)
 
   pub stable_slack : AlwaysHasSlack rs
-  stable_slack = grind (arith, common_steps, first_slack, runs)
+  stable_slack = (first_chosen IsStable (λ o m is. is) _ _ _ came _ _ _ rs end traffic runs).1

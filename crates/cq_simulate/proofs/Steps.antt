@@ -1,5 +1,5 @@
 -- What each step of the loop over the slots asks for, where so many slots are left as are not yet over.
-use Rattle.cq_simulate.proofs.Terms.{common_steps, rules, ◌≡◌, ◌↔◌, ℕ, suc, ◌+◌, ◌-◌, ◌<◌, ◌≤◌, ◌^◌, Bool, true, false, List, [], ◌++◌, length, map, replicate, Option, Result, Ok, Err, refl, sym, ap, arith, zero, None, ◌∷◌, IsTrue, All, slice_index_or, cases_lt, Cell, Departure, Queued, TagFault, no_arrivals, Arrival, arriving, end_of, enough, traffic_of, RoomView, Machine, Marked, nothing_refused, admission, admitted, refused, IdealSwitch, HasRoomFor, HaveLeft, marked_state, count_for, IdealState, ideal_slot, departures_limited, LimitedSent, limited_run, limited_slot, ideal_admission, with_admission, CanCount, IsReady, waiting, counted, arriving_from, none_waits, nothing_left, all_slots, arrivals_for, for_here, from_here, some_one, come_for, come_for-traffic_of, IsQuiet, come_count, arriving_parts, departures_of, quiet_slots, length-replicate, append-nil, length-append, get_or-replicate, number_of, is_to, counts_fit, zero_fits, present, come_count-traffic_of, none_after, run_fault, run_step, each_once, waiting-empty, CanHaveSlot, HasHadSlot, IsSameSwitch, arriving_length, first_slots, departures_append, first_more, LimitedRan, marked, come_from}
+use Rattle.cq_simulate.proofs.Terms.{common_steps, rules, ◌≡◌, ◌↔◌, ℕ, suc, ◌+◌, ◌-◌, ◌<◌, ◌≤◌, Bool, true, false, List, [], ◌++◌, length, map, replicate, Option, Result, Ok, Err, refl, sym, ap, arith, zero, None, ◌∷◌, IsTrue, All, slice_index_or, cases_lt, Cell, Departure, Queued, TagFault, no_arrivals, Arrival, arriving, end_of, enough, traffic_of, RoomView, Machine, Marked, nothing_refused, admission, admitted, refused, IdealSwitch, HaveLeft, marked_state, count_for, IdealState, ideal_slot, departures_limited, LimitedSent, limited_run, limited_slot, ideal_admission, with_admission, CanCount, IsReady, waiting, counted, arriving_from, none_waits, nothing_left, all_slots, arrivals_for, for_here, from_here, some_one, come_for, come_for-traffic_of, IsQuiet, come_count, arriving_parts, departures_of, quiet_slots, length-replicate, append-nil, length-append, get_or-replicate, number_of, is_to, counts_fit, zero_fits, present, come_count-traffic_of, none_after, run_fault, run_step, each_once, waiting-empty, CanHaveSlot, HasHadSlot, IsSameSwitch, arriving_length, first_slots, departures_append, first_more, LimitedRan, marked, come_from}
 use Rattle.cq_ideal.specs.Ideal.{answer_to, its_slot}
 use Rattle.cq_ideal.specs.IdealSlot.{Sent}
 use Rattle.cq_ideal.proofs.Waiting.{Counted}
@@ -185,9 +185,9 @@ module _ (M : List ℕ → Machine) {came : List Arrival} {first : IdealSwitch} 
 
 -- ## The test
 
-pub goes_on : (b : Bool) (end slot : ℕ) (Empty : Type 0) → b ≡ false → (IsTrue b ↔ ((end ≤ slot) × Empty)) →
+pub goes_on : {b : Bool} {end slot : ℕ} {Empty : Type 0} → b ≡ false → (IsTrue b ↔ ((end ≤ slot) × Empty)) →
     end ≤ slot → Empty → ⊥
-goes_on b end slot Empty going iff le none = let over : b ≡ true = iff.1 (le, none) in let P : ⊥ = cc in P
+goes_on {b} going iff le none = let over : b ≡ true = iff.1 (le, none) in let P : ⊥ = cc in P
 
 -- ## The steps
 
@@ -196,15 +196,6 @@ slot_ok fault e = grind (arith, common_steps)
 
 pub slot_err : {S : Type 0} (x : Result S TagFault) (fault : TagFault) → Err fault ≡ answer_to x → x ≡ Err fault
 slot_err x fault e = grind (arith, common_steps)
-
--- what the switch says of a slot that it has had
-pub record HasHad (ms : List Machine) (slot : ℕ) (cells : List (Option Cell)) (old new : IdealSwitch)
-    (sent sent_new : RoomView Departure) : Type 0 where
-  pub of_slot : LimitedSent
-  pub is : its_slot ms slot cells old ≡ Ok of_slot
-  pub done : HasHadSlot slot of_slot old new sent sent_new
-  pub running : new.stopped ≡ false
-  pub same : IsSameSwitch old new
 
 -- what is left is no more than the slots that are left after one of them, in which a cell leaves where one waits
 pub fewer_after : (before after here rest end slot n : ℕ) → after ≤ before + here - 1 →
@@ -220,32 +211,27 @@ pub ruleset numbers =
 -- the run stands at this slot, which is to be run
 module _ (M : List ℕ → Machine) {came : List Arrival} {first : IdealSwitch} {first_sent sent : RoomView Departure}
     {slot n : ℕ} {now : IdealSwitch} (r : Running (map M first.fixed) came first first_sent slot (suc n) now sent) where
-  room_left : (cells : List (Option Cell)) → cells ≡ arriving came slot → HasRoomFor cells now
-  room_left cells are j inside = grind (arith, common_steps, for_here j came slot n)
-
   -- the slot finds all that it asks for, with a free list for what is sent
   pub can_have : {cells : List (Option Cell)} {leaving : RoomView Departure} → cells ≡ arriving came slot →
       IsFree (length first.fixed) leaving → CanHaveSlot (map M now.fixed) slot cells now leaving
-  can_have {cells} are free =
-      let short : enough came ≤ 2 ^ 63 + 2 ^ 35 = r.ready.short in
-      search (arith, rules, room_left, arrivals_for, r.counts)
+  can_have {cells} are free = search (arith, rules, for_here, arrivals_for, r.counts, r.ready.short)
 
-  pub at_next : {cells : List (Option Cell)} {after : IdealSwitch} {leaving left sent_new : RoomView Departure} →
-      cells ≡ arriving came slot → IsFree (length first.fixed) leaving →
-      HasHad (map M now.fixed) slot cells now after leaving left → sent_new.items ≡ sent.items ++ left.items →
+  pub at_next : {cells : List (Option Cell)} {after : IdealSwitch} {leaving left sent_new : RoomView Departure}
+      {of_slot : LimitedSent} → cells ≡ arriving came slot → IsFree (length first.fixed) leaving →
+      its_slot (map M now.fixed) slot cells now ≡ Ok of_slot → HasHadSlot slot of_slot now after leaving left →
+      IsSameSwitch now after → after.stopped ≡ false → sent_new.items ≡ sent.items ++ left.items →
       sent_new.spare + length left.items ≡ sent.spare →
       Running (map M first.fixed) came first first_sent (slot + 1) n after sent_new
   unfolding limited_run departures_of
-  at_next {cells} {after} {leaving} {left} {sent_new} are free had items spare =
+  at_next {cells} {after} {leaving} {left} {sent_new} {of_slot} are free was had switch running items spare =
       let ms = map M first.fixed in
       let here = arriving came slot in
       let same : map M now.fixed ≡ ms = ap (map M) r.same.fixed in
-      let of_slot = had.of_slot in
       let is : limited_slot first.limits ms slot here (marked_state now) ≡ Ok of_slot =
-      rw (are, same, r.same.limits) at had.is in
-      let put = left_with_all free had.done.sent {sent = sent} {sent_new = sent_new} items spare in
+      rw (are, same, r.same.limits) at was in
+      let put = left_with_all free had.sent {sent = sent} {sent_new = sent_new} items spare in
       let o = of_admitted first.limits ms slot here (marked_state now) of_slot is in
-      let waits = ap (λ (m : Marked IdealState). waiting m.state.lists) had.done.state in
+      let waits = ap (λ (m : Marked IdealState). waiting m.state.lists) had.state in
       let come = come_here came slot n in
       let all = r.ran.admissions ++ of_slot.admission ∷ [] in
       let gone = r.ran.gone ++ of_slot.gone ∷ [] in

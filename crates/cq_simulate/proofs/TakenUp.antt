@@ -1,7 +1,7 @@
 -- A fabric can go on from where it stands, whether it is fresh or was taken up. What waits in it came before the slot
 -- that it stands at, and what is to come comes from that slot on, so both together are no more than what comes in all:
 -- at each input, for each output, and of all cells.
-use Rattle.cq_simulate.proofs.Terms.{length-filter_both, ◌≡◌, ℕ, ◌+◌, ◌-◌, ◌*◌, ◌≤◌, ◌<◌, ◌^◌, Bool, false, List, [], ◌∷◌, length, map, Option, refl, arith, rules, common_steps, ◌==◌, All, sum, range_with_len, slice_index, cases_lt, le-leb, le-ltb, lt-leb, lt-ltb, ne_eqb, length-map, length-replicate, get_or-map-range_with_len, Arrival, RoomView, Departure, Transfer, IsTraffic, is_from, is_to, number_of, Scheduled, Setup, CanGoOn, EngineView, fresh_engine, thawed_engine, zero_fits, input, fabric_held, held_for, empty_list, Machine, class_count, GoesOn, came_before, goes_on, switch_of, Taken, classes_of, ports_of, Tables, machine_from, machine_of, machines_of, GoesOnFrom, IsReadyOn, to_come, CanBeTakenUp, IsScheduleFor, All-from_recursion, IsSoundFabric, nothing_for, fabric_listed, zero, suc, filter, filter_both, filter_agree, not, cases_eq, sum_by-cons}
+use Rattle.cq_simulate.proofs.Terms.{length-filter_both, ◌≡◌, ℕ, ◌+◌, ◌-◌, ◌*◌, ◌≤◌, ◌<◌, ◌^◌, Bool, false, List, [], ◌∷◌, length, map, Option, refl, arith, rules, common_steps, ◌==◌, All, sum, range_with_len, slice_index, cases_lt, le-leb, le-ltb, lt-leb, lt-ltb, ne_eqb, length-map, length-replicate, get_or-map-range_with_len, Arrival, RoomView, Departure, Transfer, IsTraffic, is_from, is_to, number_of, Scheduled, Setup, CanGoOn, EngineView, fresh_engine, zero_fits, input, fabric_held, held_for, empty_list, Machine, class_count, GoesOn, came_before, goes_on, switch_of, Taken, classes_of, ports_of, Tables, machine_from, machine_of, machines_of, GoesOnFrom, IsReadyOn, to_come, CanBeTakenUp, IsScheduleFor, All-from_recursion, IsSoundFabric, nothing_for, fabric_listed, zero, suc, filter, filter_both, filter_agree, not, cases_eq, sum_by-cons}
 use Rattle.cq_simulate.specs.ScheduleFor.{by_port}
 
 -- ## What came and what is to come
@@ -60,13 +60,12 @@ pub goes_from : {t : Tables} {s : Scheduled} (e : EngineView) (sent : RoomView D
     IsReadyOn (map machine_from e.fixed) s.came e sent note
 unfolding fabric_held fabric_listed
 goes_from {t} {s} e sent note fit has machines classes from to running few sent_room note_room =
-    let many = machine_count machine_from e.fixed t.setup machines in
     let every = all_parts e.next s.came in
     let before = came_before e.next s.came in
     let ports = length e.fabric.inputs in
     let held = kinds_few (λ a. a.cell.output) (λ j. held_for j e.fabric) 0 ports before in
     let listed = kinds_few (λ a. a.cell.id.input) (λ i. length (input e.fabric i)) 0 ports before in
-    search (arith, rules, both_parts, room_at, has.lost, held, listed, has.buffers, has.lists)
+    search (arith, rules, machine_count, both_parts, room_at, has.lost, held, listed, has.buffers, has.lists)
 
 -- ## A fresh one
 
@@ -100,7 +99,5 @@ module _ {t : Tables} {s : Scheduled} {taken : Taken} (sound : CanBeTakenUp (swi
       IsReadyOn (map machine_from engine.fixed) s.came engine sent note
   runs_on engine is sent note counted all few sent_room note_room =
       let goes = goes_of t s taken sound fit.traffic in
-      let from = by_port is_from t s.came in
-      let stands = thawed_engine engine.fixed t.limits from (by_port is_to t s.came) taken.frozen in
-      let holds : HoldsSome s.came stands = search (arith, rules, machines_many, machine_count, All-from_recursion) in
-      search (arith, rules, goes_from stands sent note fit holds)
+      let holds : HoldsSome s.came engine = search (arith, rules, machines_many, machine_count, All-from_recursion) in
+      search (arith, rules, goes_from engine sent note fit holds)

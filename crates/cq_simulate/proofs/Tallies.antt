@@ -56,8 +56,7 @@ kinds_summed kind f a zero [] within each = refl
 kinds_summed kind f a zero (x ∷ xs) within each = absurd (omega (arith, within x (inl refl)))
 kinds_summed {X} kind f a (suc n) xs within each =
     let other : X → Bool = λ x. not (kind x == a) in
-    let beyond : (x : X) → Has (filter other xs) x → (a + 1 ≤ kind x) × (kind x < a + 1 + n) =
-    λ x has. (let kept = kept_has other xs x has in grind (arith, common_steps, within x, eq-eqb)) in
-    let others = kinds_summed kind f (a + 1) n (filter other xs) beyond (λ k from to.
+    let others = kinds_summed kind f (a + 1) n (filter other xs)
+    (search (arith, rules, kept_has, within, ne_eqb, eq-eqb)) (λ k from to.
     search (arith, rules, each k, filter_both, filter_agree, cases_eq, ne_eqb)) in
     grind (arith, common_steps, sum_by-cons, length-filter_both, each a)

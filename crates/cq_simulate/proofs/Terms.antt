@@ -1,5 +1,5 @@
 -- The words of this crate's proofs that stand elsewhere, each passed on from its place.
-pub use Rattle.cq_base.proofs.Library.{All, All-from_recursion, All-push, AllByRecursion, AllPairs, Bool, Err, IfErr-weaker, IfOk-weaker, IfSome, IsTrue, List, None, Ok, Option, Result, Some, [], and_from, and_left, and_parts, and_right, ap, append-nil, append_assoc, arith, cases_eq, cases_lt, common_steps, cond, cond-false, cond-true, cond_both, cons_option, div_ceil_times, drop, drop_all, drop_more, enumerate_from, eq-eqb, eqb-true, err_from_is_err_and, false, filter, filter-append, filter_agree, filter_map, flat_map, flat_map-append, fold, get_or, get_or-map, get_or-map-range_with_len, get_or-replicate, get_or-set_other, get_or-set_same, get_or_default, get_or_from_slice_get, get_or_past, if◌then◌else◌, inl, is_err, is_some, le-leb, le-ltb, leb-false, length, length-append, length-drop, length-filter, length-filter_both, length-insert, length-map, length-map-range_with_len, length-replicate, length-set, list_any, lt-leb, lt-ltb, ltb-true, map, map-append, max, min, mul-le-mul, nat_lt, ne_eqb, nil_from_length, not, range_with_len, recursion_from_All, refl, replicate, rules, set, slice_get_within, slice_index, slice_index_or, subst, suc, sum, sum-map, sum_by, sum_by-cons, sum_by-le, sym, take, take-add, take-append-le, take_all, take_min, true, unwrap_or, vec_len, zero, ℕ, ⊎_elim, ◌&&◌, ◌*◌, ◌++◌, ◌+◌, ◌-◌, ◌<◌, ◌==◌, ◌^◌, ◌↔◌, ◌∙◌, ◌∷◌, ◌≡◌, ◌≢◌, ◌≤◌, ◌⊎◌}
+pub use Rattle.cq_base.proofs.Library.{All, All-from_recursion, All-push, AllByRecursion, AllPairs, Bool, Err, IfErr-weaker, IfOk-weaker, IfSome, IsTrue, List, None, Ok, Option, Result, Some, [], and_from, and_left, and_parts, and_right, ap, append-nil, append_assoc, arith, cases_eq, cases_lt, common_steps, cond, cond-false, cond-true, cond_both, cons_option, div_ceil_times, drop, drop_all, drop_more, enumerate_from, eq-eqb, eqb-true, err_from_is_err_and, false, filter, filter-append, filter_agree, filter_map, flat_map, flat_map-append, fold, get_or, get_or-map, get_or-map-range_with_len, get_or-replicate, get_or-set_other, get_or-set_same, get_or_default, get_or_from_slice_get, get_or_past, if◌then◌else◌, inl, is_some, le-leb, le-ltb, leb-false, length, length-append, length-drop, length-filter, length-filter_both, length-insert, length-map, length-map-range_with_len, length-replicate, length-set, list_any, lt-leb, lt-ltb, ltb-true, map, map-append, max, min, mul-le-mul, nat_lt, ne_eqb, nil_from_length, not, range_with_len, recursion_from_All, refl, replicate, rules, set, slice_get_within, slice_index, slice_index_or, subst, suc, sum, sum-map, sum_by, sum_by-cons, sum_by-le, sym, take, take-add, take-append-le, take_all, take_min, true, unwrap_or, vec_len, zero, ℕ, ◌&&◌, ◌*◌, ◌++◌, ◌+◌, ◌-◌, ◌<◌, ◌==◌, ◌^◌, ◌↔◌, ◌∙◌, ◌∷◌, ◌≡◌, ◌≢◌, ◌≤◌, ◌⊎◌}
 pub use Rattle.cq_base.specs.Arrivals.{arrival_at, no_arrivals}
 pub use Rattle.cq_base.specs.Arriving.{Arrival, arriving_at, end_of}
 unfoldable pub use Rattle.cq_base.specs.Arriving.{arriving, enough, traffic_of}
@@ -37,14 +37,14 @@ pub use Rattle.cq_ideal.proofs.LimitedRuns.{is_run_of, judged, run_fault, run_st
 pub use Rattle.cq_ideal.proofs.Parted.{arriving_here, arriving_length, arriving_parts, departures_append}
 pub use Rattle.cq_ideal.proofs.Refusals.{counts_more, each_once}
 pub use Rattle.cq_ideal.proofs.RestAtInput.{comes_from, line_at, rest_of}
-pub use Rattle.cq_ideal.proofs.Waiting.{counted, total_none, total_same}
+pub use Rattle.cq_ideal.proofs.Waiting.{counted, total_same}
 unfoldable pub use Rattle.cq_ideal.proofs.Waiting.{total, waiting}
 pub use Rattle.cq_ideal.specs.Admission.{Admission, Marked, NoLimits, admitted, admitted_in, is_first, marked, nothing_refused, refused}
 unfoldable pub use Rattle.cq_ideal.specs.Admission.{admission}
 pub use Rattle.cq_ideal.specs.Ending.{first_slots, slots_of}
 unfoldable pub use Rattle.cq_ideal.specs.Ending.{arriving_from}
 pub use Rattle.cq_ideal.specs.Flows.{IsRunnable, RiseByInput, came_in_flow, comes_in_flow, leaves_in_flow, left_in_flow}
-pub use Rattle.cq_ideal.specs.Ideal.{HasRoomFor, HaveLeft, IdealSwitch, answer_to, count_for, marked_state}
+pub use Rattle.cq_ideal.specs.Ideal.{HaveLeft, IdealSwitch, answer_to, count_for, marked_state}
 pub use Rattle.cq_ideal.specs.{Limiter.CanCount}
 unfoldable pub use Rattle.cq_ideal.specs.IdealRun.{departures_of}
 pub use Rattle.cq_ideal.specs.IdealSlot.{IdealState, ideal_slot}
@@ -61,11 +61,11 @@ pub use Rattle.cq_state.specs.{State.IsInRange, declared.state.Sent.Sent, declar
 pub use Rattle.cq_prefs.specs.FirstCells.{list_of, orders_of, output_order}
 pub use Rattle.cq_prefs.specs.Pairing.{IsInputBest, IsMatching, IsStable, Partners, partner_of, proposals, spent}
 pub use Rattle.cq_laws.proofs.{IdealOf.agrees_of, Recorded.recorded}
-pub use Rattle.cq_laws.proofs.InputBest.{each_run, stable_limited_slot, stable_limited_too}
+pub use Rattle.cq_laws.proofs.InputBest.{stable_limited_slot, stable_limited_too, stable_slot}
 pub use Rattle.cq_laws.proofs.LimitedEnds.{limited_ends, one_limited_whole}
 pub use Rattle.cq_laws.proofs.LimitedSlots.{admission_for_ports, limited_ports_kept, same_limited_slot}
 pub use Rattle.cq_laws.proofs.OneRun.{only_limited_run, outputs_at}
-pub use Rattle.cq_laws.proofs.OneSlot.{after_sent, arrived}
+pub use Rattle.cq_laws.proofs.OneSlot.{after_sent, arrived, same_slot, slack_arrived}
 pub use Rattle.cq_laws.proofs.Sound.{orders_are}
 pub use Rattle.cq_laws.proofs.WholeRuns.{empty_list, empty_together}
 pub use Rattle.cq_laws.specs.{Agreement.Agrees, Frozen.ideal_of, Records.gone_in}
@@ -75,7 +75,7 @@ pub use Rattle.cq_laws.specs.Holding.{held_for}
 unfoldable pub use Rattle.cq_laws.specs.Holding.{fabric_held}
 pub use Rattle.cq_laws.specs.LimitedAgreement.{LimitedAgrees, LimitedEndsAlike, LimitedRunsAlike}
 pub use Rattle.cq_laws.specs.LimitedFabric.{IsLimitedFault, LimitedFabricRun, LimitedFabricSlot, LimitedRecord, LimitedWholeRun, admissions_in, empty_limited_fabric, slots_in}
-pub use Rattle.cq_laws.specs.Measures.{no_figures, sends}
+pub use Rattle.cq_laws.specs.Measures.{sends}
 unfoldable pub use Rattle.cq_laws.specs.Measures.{figures_after, figures_of, output_after, proposals_in}
 unfoldable pub use Rattle.cq_laws.specs.Records.{transfers_in, transfers_of_run}
 pub use Rattle.cq_resume.proofs.{Cut.filter_both, Joining.kept_both, Joining.kept_quiet}
@@ -88,7 +88,7 @@ pub use Rattle.cq_resume.specs.Switch.{HasLimit, HasShape, Switch, switch_of}
 pub use Rattle.cq_resume.specs.Told.{arriving_cell, class_of, is_ahead, is_named, key_of, named_in, output_of, packet_before, queued_in, queued_of}
 unfoldable pub use Rattle.cq_resume.specs.Told.{fabric_told}
 pub use Rattle.cq_resume.specs.declared.taken.Taken.{Taken}
-pub use Rattle.cq_engine.specs.Engine.{CanGoOn, EngineView, HaveBufferRoom, HaveListRoom, IsMadeAs, IsReadyFor, SlotDone, fresh_engine, frozen_of, thawed_engine, its_admission, marked_fabric}
+pub use Rattle.cq_engine.specs.Engine.{CanGoOn, EngineView, HaveListRoom, IsMadeAs, IsReadyFor, SlotDone, fresh_engine, frozen_of, its_admission, marked_fabric}
 pub use Rattle.cq_traffic.proofs.ForPorts.{arrivals_for, slots_fit}
 pub use Rattle.cq_traffic.proofs.FromInputs.{arrives_found, bit, first_more, from_here, no_more_from, one_if, some_one}
 unfoldable pub use Rattle.cq_traffic.proofs.FromInputs.{come_from}
@@ -120,7 +120,7 @@ pub use Rattle.cq_reasm.specs.{Open.Open}
 pub use Rattle.cq_state.specs.declared.state.Named.{Named}
 pub use Rattle.cq_prefs.specs.Orders.{Orders}
 pub use Rattle.cq_prefs.proofs.{InputOrder.OutputsInRange, InputOrder.are_offers, Places.outputs_at_most}
-pub use Rattle.cq_laws.specs.{Frozen.fabric_in, Frozen.marked_in, Frozen.IsSoundFabric, LimitedQuiet.quiet_limited_slots, Phases.Transfers, Phases.came_to, Phases.list_arrived, Places.HasFor, declared.frozen.Frozen.Frozen}
+pub use Rattle.cq_laws.specs.{Frozen.fabric_in, Frozen.marked_in, Frozen.IsSoundFabric, LimitedQuiet.quiet_limited_slots, Phases.Transfers, Phases.came_to, Phases.list_arrived, declared.frozen.Frozen.Frozen}
 pub use Rattle.cq_laws.proofs.{ActingAlike.best_act_alike_from_empty, ActingAlike.best_act_alike, AddingUp.figures_fold, Came.came_from, EndsTogether.slots_of_figures, Held.hold_as_many, Held.nothing_for, Joined.all_go_on, KeptParts.departures_one, KeptParts.transfers_one, Members.first_at, Parted.run_length, Parted.run_of_whole}
 pub use Rattle.cq_resume.specs.Parts.{IsParted}
 pub use Rattle.cq_engine.proofs.{Kept.limited_lists_kept, Kept.limited_outputs_kept}

@@ -63,11 +63,6 @@ module _ (t : Tables) (captures : List (List Captured)) where
   lines_short a zero some each = omega arith
   lines_short a (suc n) some each = search (rules, few_by, flat_map, length-append, lines_short (a + 1) n some)
 
-  all_short : AreTables t → length captures ≤ most_ports →
-      ((i : ℕ) → i < length captures → IsRecorded (packets_of captures i)) → length (arrivals t captures) ≤ 2 ^ 34
-  unfolding arrivals
-  all_short tables few each = grind (arith, common_steps, lines_short)
-
 -- ## T0
 
 pub least_of : (a : ℕ) (ns : List ℕ) → fold min a ns ≤ a
@@ -91,9 +86,10 @@ first_low captures each = search (arith, rules, flat_map, stamps_low, least_of)
 
 pub configured : (t : Tables) (s : Scheduled) (made : IsScheduleOf t s) → AreTables t → AreRecorded t s made →
     IsConfigured (switch_of t s) (openings_of t.setup)
+unfolding arrivals
 configured t s made tables recorded =
     let known = schedule_known t s tables made in
     let stamp : s.t0 < 2 ^ 63 = rw made.schedule (first_low made.captures recorded) in
     let low = machines_low t.setup.kinds t.setup.classes in
     let openings = openings_all t.setup.kinds t.setup.classes in
-    search (arith, rules, keeps_laws, right_classes, kind, machine_is, right_size, length-map, small_cells, all_short)
+    search (arith, rules, keeps_laws, right_classes, kind, machine_is, right_size, length-map, small_cells, lines_short)

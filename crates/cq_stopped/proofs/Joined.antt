@@ -1,6 +1,6 @@
 -- Lists that are joined, sifted and mapped: what they have, and what holds of each of their items and each that stands
 -- behind it.
-use Rattle.cq_stopped.proofs.Terms.{common_steps, rules, ◌≡◌, ℕ, zero, suc, ◌<◌, Bool, List, [], ◌∷◌, map, refl, ⊎_elim, arith, length, ◌+◌, Option, Some, ◌==◌, filter, slice_index_or, AllPairs, flat_map, filter_map, range_with_len, eq-eqb, cases_Bool, ne_eqb, append-nil, filter-append, EachPair, all_pairs, pairs_with, Has, all_from_has, has_left, has_right, has_cases, sym, fill_by_all, pairs_joined, pairs_mapped, all_give, filter_all, filter_none}
+use Rattle.cq_stopped.proofs.Terms.{common_steps, rules, ◌≡◌, ℕ, zero, suc, ◌<◌, Bool, List, [], ◌∷◌, map, refl, ⊎_elim, arith, length, ◌+◌, Option, Some, ◌==◌, filter, slice_index_or, AllPairs, flat_map, filter_map, range_with_len, eq-eqb, ne_eqb, append-nil, filter-append, EachPair, all_pairs, pairs_with, Has, all_from_has, has_left, has_right, has_cases, sym, fill_by_all, pairs_joined, pairs_mapped, all_give, filter_all, filter_none}
 
 module _ {X : Type 0} where
   -- ## Lists end on end
@@ -44,10 +44,6 @@ module _ {X Y : Type 0} (f : X → Y) where
   pub image_pairs : (R : Y → Y → Type 0) (xs : List X) → EachPair (λ x y. R (f x) (f y)) xs → AllPairs R (map f xs)
   image_pairs R xs pairs = all_pairs R (map f xs) (pairs_mapped f R xs pairs)
 
-  pub filter_images : (p : Y → Bool) (xs : List X) → filter p (map f xs) ≡ map f (filter (λ x. p (f x)) xs)
-  filter_images p [] = refl
-  filter_images p (x ∷ xs) = grind (arith, common_steps, cases_Bool, filter_images p xs)
-
   -- what is told of each and read again is what it was
   pub told_again : (g : Y → Option X) (xs : List X) → ((x : X) → Has xs x → g (f x) ≡ Some x) →
       filter_map g (map f xs) ≡ xs
@@ -67,15 +63,12 @@ module _ {X : Type 0} (number : X → ℕ) where
   later : (a : ℕ) (xs : List X) (xss : List (List X)) → AreNumbered a (xs ∷ xss) → AreNumbered (a + 1) xss
   later a xs xss own k x has = let e = own (suc k) x has in omega arith
 
-  none_past : (a i : ℕ) (xss : List (List X)) → i < a → AreNumbered a xss → filter (is_numbered i) (all_of xss) ≡ []
-  none_past a i xss lt own = grind (arith, common_steps, filter_none, all_from_has, is_at, ne_eqb)
-
   sifted : (a i : ℕ) (xss : List (List X)) → AreNumbered a xss → (k : ℕ) → a + k ≡ i →
       filter (is_numbered i) (all_of xss) ≡ list_at xss k
   sifted a i [] own k is = refl
   sifted a i (xs ∷ xss) own zero is =
       let here = filter_all (is_numbered i) xs (all_from_has _ xs (search (arith, rules, own zero, eq-eqb))) in
-      search (arith, rules, none_past (a + 1) i xss, later a xs xss own, filter-append, append-nil)
+      search (arith, rules, filter_none, all_from_has, is_at, ne_eqb, later a xs xss own, filter-append, append-nil)
   sifted a i (xs ∷ xss) own (suc k) is =
       let none = filter_none (is_numbered i) xs (all_from_has _ xs (search (arith, rules, own zero, ne_eqb))) in
       simp (filter-append, none) (sifted (a + 1) i xss (later a xs xss own) k (omega arith))

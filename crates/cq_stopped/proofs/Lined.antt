@@ -1,7 +1,7 @@
 -- The departures and the transfers of a run: what a slot adds to the departures, at each output the cell that it sent,
 -- if it sent one; that those of a slot stand in order, by output; what is asked of transfers; and the figures that are
 -- read off the departures.
-use Rattle.cq_stopped.proofs.Terms.{list_any, filter_none, ◌≡◌, ℕ, zero, suc, ◌+◌, ◌<◌, List, [], ◌∷◌, ◌++◌, Option, Some, None, refl, arith, rules, length, map, ◌-◌, Bool, false, eq-eqb, ne_eqb, and_parts, cases_lt, eqb-true, common_steps, map-append, get_or_past, length-map, filter-append, sum_by-cons, AllByRecursion, range_with_len, cons_option, enumerate_from, ◌==◌, filter, slice_index_or, count_by, filter_map, is_some, option_map, Departure, Queued, Transfer, listed, departures_of, departures_from, departures_in, SlotRecord, LimitedRecord, slots_in, output_figures, sent_by, wait_at, came_to, gone_in, EachPair, Differ, all_from_has, Has, has_image, has_kept, kept_has, AreApart, no_more, pairs_kept, input_told, output_told, seen_as, IsTransferBefore, Named, State, has_number, AreNumbered, IsMoved, range_rises, any_has, has_any, InputFigures, Seen, true}
+use Rattle.cq_stopped.proofs.Terms.{list_any, filter_none, ◌≡◌, ℕ, zero, suc, ◌+◌, ◌<◌, List, [], ◌∷◌, ◌++◌, Option, Some, None, refl, arith, rules, length, map, ◌-◌, Bool, eq-eqb, ne_eqb, and_parts, cases_lt, eqb-true, common_steps, map-append, get_or_past, length-map, filter-append, sum_by-cons, AllByRecursion, range_with_len, cons_option, enumerate_from, ◌==◌, filter, slice_index_or, count_by, filter_map, is_some, option_map, Departure, Queued, Transfer, listed, departures_of, departures_from, departures_in, SlotRecord, LimitedRecord, slots_in, output_figures, sent_by, wait_at, came_to, gone_in, EachPair, Differ, all_from_has, Has, has_image, has_kept, kept_has, AreApart, no_more, pairs_kept, input_told, output_told, seen_as, IsTransferBefore, Named, State, has_number, AreNumbered, IsMoved, range_rises, any_has, has_any, InputFigures, Seen, true}
 use Rattle.cq_stopped.proofs.Joined.{pairs_in}
 use Rattle.cq_stopped.proofs.Ran.{DepartsBefore, left_at, came_in, came_of, is_name_at}
 
@@ -23,8 +23,7 @@ module _ (j : ℕ) where
   is_its d = d.output == j
 
   none_its : (slot a : ℕ) (gone : List (Option Queued)) → j < a → filter is_its (departures_from slot a gone) ≡ []
-  none_its slot a gone past =
-      filter_none is_its _ (each_departs slot (λ d. is_its d ≡ false) gone a (search (arith, rules, ne_eqb)))
+  none_its slot a gone past = filter_none is_its _ (each_departs slot _ gone a (search (arith, rules, ne_eqb)))
 
   -- of a slot's departures the output's
   its_one : (slot a k : ℕ) (gone : List (Option Queued)) → a + k ≡ j → filter is_its (departures_from slot a gone)

@@ -3,16 +3,12 @@
 -- output. A cell that comes has another name than each that came before it, of its flow each came in an earlier slot,
 -- and each of its class that waits has the lesser key: its level and no greater rank. So of two in the order of keys
 -- the one ahead goes before the other, as what left the output goes before both.
-use Rattle.cq_stopped.proofs.Terms.{rules, ◌≡◌, ℕ, zero, suc, ◌+◌, ◌<◌, ◌≤◌, ◌^◌, Bool, true, cond, List, [], ◌∷◌, length, Option, Some, None, Result, Ok, Err, refl, arith, ◌++◌, cases_eq, ltb-true, cases_lt, eq-eqb, le-ltb, lt-ltb, common_steps, get_or-set_other, get_or-set_same, length-set, same_Some, AllByRecursion, is_some, slice_index_or, slice_set, arrival_at, Cell, Queued, came_from, only_ok, all_told, put_all, Ranking, ranking, came_to, KeepLaws, Machine, machine_at, EachPair, after_input_ok, TagFault, Key, given_floor, all_made, inl, inr, ⊎_elim, ◌⊎◌, CameFor, Has, IsBefore, IsRising, among_put_all, has_left, has_right, never_both, not_before_itself, pair_of_has, pairs_cross, pairs_joined, pairs_left, pairs_right, rising_put_all}
+use Rattle.cq_stopped.proofs.Terms.{rules, ◌≡◌, ℕ, zero, suc, ◌+◌, ◌<◌, ◌≤◌, ◌^◌, true, List, [], ◌∷◌, length, Option, Some, None, Ok, refl, arith, ◌++◌, cases_eq, ltb-true, cases_lt, eq-eqb, le-ltb, lt-ltb, common_steps, get_or-set_other, get_or-set_same, length-set, same_Some, AllByRecursion, is_some, slice_index_or, slice_set, arrival_at, Cell, Queued, came_from, only_ok, all_told, put_all, Ranking, ranking, came_to, KeepLaws, Machine, machine_at, EachPair, after_input_ok, Key, given_floor, all_made, inl, inr, ◌⊎◌, CameFor, Has, IsBefore, IsRising, among_put_all, has_left, has_right, never_both, not_before_itself, pair_of_has, pairs_cross, pairs_joined, pairs_left, pairs_right, rising_put_all}
 use Rattle.cq_base.specs.Key.{is_before}
 use Rattle.cq_ideal.specs.Ranking.{keyed}
 use Rattle.cq_stopped.proofs.Configured.{AreLow, KeepsLow}
 use Rattle.cq_stopped.proofs.Joined.{pairs_both, pairs_in}
 use Rattle.cq_stopped.proofs.Ran.{Follows}
-
-fits : (b : Bool) (x : Result Ranking TagFault) (fault : TagFault) (r : Ranking) → cond b x (Err fault) ≡ Ok r →
-    (b ≡ true) × (x ≡ Ok r)
-fits b x fault r h = grind (arith, common_steps)
 
 module _ (ms : List Machine) (slot : ℕ) where
   -- the rank states after a cell got its rank
@@ -49,7 +45,7 @@ module _ (ms : List Machine) (slot : ℕ) where
       ((one_at i ranks cell).key.rank < 2 ^ 128) × (s : Ranking)
       × (ranking ms slot (i + 1) cells (after ranks cell) ≡ Ok s)
       × (record { came = Some (one_at i ranks cell) ∷ s.came; ranks = s.ranks } ≡ r)
-  one_behind i cell cells ranks r h = grind (arith, common_steps, fits, ltb-true, after_input_ok)
+  one_behind i cell cells ranks r h = grind (arith, common_steps, ltb-true, after_input_ok)
 
   pub ranked_from : (i : ℕ) (cells : List (Option Cell)) (ranks : List (List ℕ)) (r : Ranking) → KeepLaws ms ranks →
       ((k : ℕ) (cell : Cell) → arrival_at cells k ≡ Some cell → IsKnown (length ranks) cell) →
@@ -97,7 +93,7 @@ module _ (ms : List Machine) (keeps : (j : ℕ) → KeepsLow (machine_at ms j)) 
   ranked_low slot i [] states r all h = grind (arith, common_steps, only_ok)
   ranked_low slot i (None ∷ cells) states r all h = search (rules, after_input_ok, ranked_low slot (i + 1) cells states)
   ranked_low slot i (Some cell ∷ cells) states r all h =
-      search (rules, fits, ltb-true, after_input_ok, low_set, low_at, ranked_low slot (i + 1) cells)
+      search (rules, ltb-true, after_input_ok, low_set, low_at, ranked_low slot (i + 1) cells)
 
   pub told_low : (gone : List (Option Queued)) (states : List (List ℕ)) → AllByRecursion AreLow states →
       ((j : ℕ) (q : Queued) → slice_index_or gone j None ≡ Some q → q.key.rank < 2 ^ 128) →
@@ -143,5 +139,5 @@ module _ (j slot : ℕ) (came : List (Option Queued)) (left waiting : List Queue
   pairs_next =
       let new = among_put_all j came waiting in
       pairs_joined Follows left _ (pairs_left Follows left waiting pairs)
-      (pairs_in IsBefore Follows _ (λ x q a b. goes_ahead x q (new x a) (new q b)) rises) (λ x q a b.
-      ⊎_elim (pairs_cross Follows left waiting x q pairs a) (old_first x q (has_left left waiting x a)) (new q b))
+      (pairs_in IsBefore Follows _ (search (rules, goes_ahead, new)) rises)
+      (search (rules, new, pairs_cross Follows, pairs, old_first, has_left))

@@ -3,8 +3,8 @@
 -- are one, and of all others the names differ. Each name in the state is of such a cell, and comes to it: each list to
 -- the list of its input, each buffer to that of its output, and each departure to itself. So the clauses hold that ask
 -- for a sound state, but for the fourth.
-use Rattle.cq_stopped.proofs.Terms.{rules, ◌≡◌, ℕ, ◌<◌, List, [], length, Option, refl, sym, ◌∙◌, inl, inr, arith, true, ◌++◌, map, Some, ap, ◌≤◌, false_from_ne_true, and_from, and_parts, eq-eqb, eqb-true, common_steps, map-append, list_any, filter_map, ◌==◌, is_some, slice_index_or, filter, option_map, IsSome, IsBefore, is_for, Departure, Queued, Transfer, HasWaited, IdealState, apart_from, not_before_itself, Fabric, buffer, input, fabric_in, HasFor, list_of, machine_at, EachPair, all_pairs, cell_with, Differ, Has, all_from_has, all_of_has, has_left, has_right, pair_of_has, has_cases, has_image, image_has, kept_has, pairs_cross, pairs_right, pairs_with, sent_told, named_as, sent_as, state_of, HaveSlack, AreArrivals, IsBufferedBefore, IsSentBefore, IsTransferBefore, StandInOrder, KeepArrivalOrder, OfOneFlow, AreBelowFloors, IsBelowFloor, Switch, HasShape, class_in, class_of, named_in, output_in, output_of, queued_in, buffer_told, fabric_told, list_told, queued_of, arriving_cell, is_ahead, Taken, Named, Sent, told_state, State, has_all, any_has, has_any, pairs_joined, pairs_mapped, get_or_past, cases_lt}
-use Rattle.cq_stopped.proofs.Joined.{pairs_in, all_of, pairs_of_all, has_at_place, is_at, pairs_both, filter_images, sift, told_again, by_places, image_pairs}
+use Rattle.cq_stopped.proofs.Terms.{rules, ◌≡◌, ℕ, ◌<◌, List, [], length, Option, refl, sym, ◌∙◌, inl, inr, arith, true, ◌++◌, map, Some, ap, ◌≤◌, false_from_ne_true, and_from, and_parts, eq-eqb, eqb-true, common_steps, map-append, list_any, is_some, slice_index_or, filter, option_map, IsSome, IsBefore, is_for, Departure, Queued, Transfer, HasWaited, IdealState, apart_from, not_before_itself, Fabric, buffer, input, fabric_in, HasFor, list_of, machine_at, EachPair, all_pairs, cell_with, Differ, Has, all_from_has, all_of_has, has_left, has_right, pair_of_has, has_cases, has_image, image_has, kept_has, pairs_cross, pairs_right, pairs_with, sent_told, named_as, sent_as, state_of, HaveSlack, AreArrivals, IsBufferedBefore, IsSentBefore, IsTransferBefore, StandInOrder, KeepArrivalOrder, OfOneFlow, AreBelowFloors, IsBelowFloor, Switch, HasShape, class_in, class_of, named_in, output_in, output_of, queued_in, buffer_told, fabric_told, list_told, queued_of, arriving_cell, is_ahead, Taken, Named, Sent, told_state, State, has_all, any_has, has_any, pairs_joined, pairs_mapped, get_or_past, cases_lt, filter_images}
+use Rattle.cq_stopped.proofs.Joined.{pairs_in, all_of, pairs_of_all, has_at_place, is_at, pairs_both, sift, told_again, by_places, image_pairs}
 use Rattle.cq_stopped.proofs.Lined.{AreMoved, left_has}
 use Rattle.cq_stopped.proofs.Ran.{DepartsBefore, Follows, IsOwn, IsSentRight, Known, left_at, pool_at, IsHeld, came_in, is_name_at}
 
@@ -69,14 +69,9 @@ module _ {w : Switch} (at : Taken) {ideal : IdealState} {cs : List (List (Option
 
   -- ## One name
 
-  -- cells of one name are one cell of the schedule
-  same_cell : (a b : Queued) → IsKept a → IsKept b → a.key.slot ≡ b.key.slot → a.key.input ≡ b.key.input →
-      a.cell ≡ b.cell
-  same_cell a b one two slot place = grind (arith, common_steps)
-
   -- two that wait under one name are one
   same_waiting : (a b : Queued) → Waits a → Waits b → a.key.slot ≡ b.key.slot → a.key.input ≡ b.key.input → a ≡ b
-  same_waiting a b one two slot place = search (rules, Has, pair_of_has, pairs_right, left_at, known.lanes, same_cell)
+  same_waiting a b one two slot place = search (rules, Has, pair_of_has, pairs_right, left_at, known.lanes)
 
   -- of what left an output, what waits for it follows
   follows_left : (d : Departure) (q : Queued) → Has at.sent d → Waits q → d.queued.cell.output ≡ q.cell.output →
@@ -164,9 +159,8 @@ module _ {w : Switch} (at : Taken) {ideal : IdealState} {cs : List (List (Option
 
   list_again : (i : ℕ) → list_told w.came st i ≡ input f i
   unfolding state_of
-  list_again i = ap (filter_map (queued_of w.came)) (filter_images named_as (λ (c : Named). c.input == i) listed
-      ∙ ap (map named_as) (sift (λ (q : Queued). q.key.input) at.frozen.lists known.placed i))
-      ∙ told_again named_as (queued_of w.came) (input f i) (λ q has. cell_again q (waits_at i q has).kept)
+  list_again i =
+      search (rules, filter_images, sift (λ (q : Queued). q.key.input), known.placed, told_again, cell_again, waits_at)
 
   buffer_again : (j : ℕ) → buffer_told w.came st j ≡ buffer f j
   unfolding state_of
@@ -209,7 +203,7 @@ module _ {w : Switch} (at : Taken) {ideal : IdealState} {cs : List (List (Option
   arrivals_are =
       let Comes : Named → Type 0 = λ c. (c.slot < at.frozen.next) × IsSome (arriving_cell w.came c) in
       let left = pairs_mapped (λ (d : Sent). d.cell) Differ _ (pairs_mapped sent_as _ at.sent (each_sent
-      (λ d e. Other d.queued e.queued) (search (arith, rules, same_cell, right_at, has_left_it)))) in
+      (λ d e. Other d.queued e.queued) (search (arith, rules, right_at, has_left_it)))) in
       record {
         arrive = search (arith, rules, has_all Comes (named_in st), is_of_one);
         once = all_pairs Differ (named_in st) (pairs_joined Differ (queued_in st) gone queued_pairs left

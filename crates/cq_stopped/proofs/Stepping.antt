@@ -5,11 +5,11 @@
 -- more than came. The ranks of what comes and of what leaves fit, so the numbers of the rank states do. A phase makes
 -- no more proposals than the number of ports squared, and none where no cell waits at an input; and in each slot in
 -- which a cell waits or comes one leaves, so there are no more such slots than cells that came.
-use Rattle.cq_stopped.proofs.Terms.{rules, ◌≡◌, ℕ, zero, suc, ◌+◌, ◌<◌, ◌≤◌, List, [], ◌∷◌, ◌++◌, length, Option, Some, None, Ok, ◌∙◌, ◌⊎◌, ⊎_elim, arith, length-append, cases_lt, common_steps, append_assoc, get_or-append-add, get_or-map, get_or_append_left, get_or_past, length-map, ◌↔◌, append-nil, get_or-replicate, length-replicate, AllByRecursion, slice_get, slice_index_or, arrival_at, arriving, arriving_at, Cell, Departure, Queued, admitted_arrives, Came, came_from, present, Served, listed, served, HasWaited, Marked, admission, arriving_from, departures_of, empty_ideal, IdealState, departures_from, departures_in, filled, ideal_slot, put_all, AreForPorts, ranking, CameFor, Keyed, limited_empty_agree, keyed, ports_kept, same_slot, SendsAlike, Fabric, input, empty_fabric, FabricSlot, LimitedFabricSlot, LimitedRecord, slots_in, came_to, gone_in, list_of, IsInputBest, IsStable, all_both, all_weaker, found_at, has_there, Has, all_from_has, all_of_has, has_cases, has_left, has_right, Runs, Switch, fewer, length-filled, rest_of, among_put_all, list_after, put_all_keeps, put_all_new, stable_slot, admission_for_ports, arrivals_for, place_of, came_or_was, was_waiting, marks_kept, IsBefore, EachPair, pairs_cross, pairs_joined, IsFabric, IsCount, get_or-map-range_with_len, length-map-range_with_len, ◌*◌, ◌-◌, fold, max, length-insert, sum_by-append, sum_by-cons, flat_map, sum, after_sent, arrived, Sound, buffer, SlotRecord, fabric_held, proposals_in, waiting-empty, all_wait, nothing_left, counted, empty_together, ap, empty_list}
+use Rattle.cq_stopped.proofs.Terms.{rules, ◌≡◌, ℕ, zero, suc, ◌+◌, ◌<◌, ◌≤◌, List, [], ◌∷◌, ◌++◌, length, Option, Some, None, Ok, ◌∙◌, ◌⊎◌, ⊎_elim, arith, length-append, cases_lt, common_steps, append_assoc, get_or-append-add, get_or-map, get_or_append_left, get_or_past, length-map, ◌↔◌, append-nil, get_or-replicate, length-replicate, AllByRecursion, slice_get, slice_index_or, arrival_at, arriving, arriving_at, Cell, Departure, Queued, admitted_arrives, Came, came_from, present, Served, listed, served, HasWaited, Marked, admission, arriving_from, departures_of, empty_ideal, IdealState, departures_from, departures_in, filled, ideal_slot, put_all, AreForPorts, ranking, CameFor, Keyed, limited_empty_agree, keyed, ports_kept, same_slot, SendsAlike, Fabric, input, empty_fabric, FabricSlot, LimitedFabricSlot, LimitedRecord, slots_in, came_to, gone_in, list_of, IsInputBest, IsStable, all_both, all_weaker, found_at, has_there, Has, all_from_has, all_of_has, has_cases, has_left, has_right, Runs, Switch, fewer, length-filled, rest_of, among_put_all, list_after, put_all_keeps, put_all_new, stable_slot, admission_for_ports, arrivals_for, place_of, came_or_was, was_waiting, marks_kept, IsBefore, EachPair, pairs_cross, pairs_joined, IsFabric, IsCount, get_or-map-range_with_len, length-map-range_with_len, ◌*◌, ◌-◌, fold, max, length-insert, sum_by-append, sum_by-cons, flat_map, sum, arrived, Sound, buffer, SlotRecord, fabric_held, proposals_in, waiting-empty, all_wait, ap, empty_list}
 use Rattle.cq_ideal.proofs.Waiting.{sent_by}
 use Rattle.std.proofs.lemmas.List.Sums.{get_or-le-sum_by}
 use Rattle.cq_ideal.proofs.FlowRun.{come_count}
-use Rattle.cq_simulate.proofs.FabricCounts.{none_proposed as simulate_none, proposals_few, shorter, square_few}
+use Rattle.cq_simulate.proofs.FabricCounts.{fewer_held, shorter, slot_proposed}
 use Rattle.cq_stopped.proofs.Configured.{IsConfigured}
 use Rattle.cq_stopped.proofs.Lined.{each_departs, left_has, left_more, slot_in_order}
 use Rattle.cq_stopped.proofs.Queueing.{is_less, ranked_low, told_low, pairs_next, IsKnown, IsRanked, ranked_from}
@@ -216,15 +216,8 @@ module _ (w : Switch) (ranks : List (List ℕ)) (configured : IsConfigured w ran
         Has (left q.cell.output ++ full q.cell.output) q → IsHeld next sent_next t i q
     held_at t i q slot input inside there = grind (arith, common_steps, made_is, length-map, lists_many, pool_is)
 
-    -- each input keeps its mark, and no more cells come in than arrive
-    marks_stay : length g.marks ≡ length f.marks
-    unfolding admission
-    marks_stay = search (arith, rules, marks_kept)
-
-    abbrev many_come : ℕ
-    many_come = length (present r.admission.cells)
-
-    few_come : many_come ≤ length (present (arriving w.came n))
+    -- no more cells come in than arrive
+    few_come : length (present r.admission.cells) ≤ length (present (arriving w.came n))
     unfolding admission
     few_come = search (arith, rules, present, fewer)
 
@@ -232,35 +225,6 @@ module _ (w : Switch) (ranks : List (List ℕ)) (configured : IsConfigured w ran
 
     arrived_is : Sound (n + 1) r.of_slot.arrived
     arrived_is = search (rules, arrived, come, stable)
-
-    sent_is : Sound (n + 1) r.of_slot.sent
-    sent_is = search (rules, after_sent, come, stable)
-
-    arrived_list : (i : ℕ) → length (input r.of_slot.arrived i) ≤ n + 1
-    arrived_list i = search (arith, rules, length-insert)
-
-    now_recorded : IsCount (n + 1) → IsCount (waits f.state) → IsRecordedWithin r.of_slot
-    now_recorded low all = search (arith, rules, arrived_list, buffer_few)
-
-    -- ## How many proposals a slot makes
-
-    fewer_wait : waits g.state ≤ waits f.state + many_come - 1
-    fewer_wait = omega (arith, counted w.machines n r.admission.cells ideal _ alike.sent, all_wait, alike.agrees)
-
-    -- a phase makes no more than the number of ports squared
-    proposed_few : sum (proposals_in r.of_slot) ≤ 8192
-    unfolding proposals_in
-    proposed_few =
-        search (arith, rules, proposals_few, arrived_is, sent_is, stable, known.ports, square_few, configured.few)
-
-    none_proposed : waits f.state ≡ 0 → many_come ≡ 0 → sum (proposals_in r.of_slot) ≡ 0
-    none_proposed none quiet =
-        let before = all_wait n f.state ideal known.agrees in
-        let empty = (empty_together n f.state ideal known.agrees).1 (nothing_left ideal.lists (before ∙ none)) in
-        search (arith, rules, simulate_none, empty.inputs, get_or_past, cases_lt)
-
-    slot_proposed : sum (proposals_in r.of_slot) + 8192 * waits g.state ≤ 8192 * (waits f.state + many_come)
-    slot_proposed = grind (arith, common_steps, fewer_wait, proposed_few, none_proposed, cases_lt)
 
     -- ## Together
 
@@ -277,7 +241,7 @@ module _ (w : Switch) (ranks : List (List ℕ)) (configured : IsConfigured w ran
       ordered = ordered_next;
       short =
           let first = shorter r.of_slot.first r.of_slot.arrived r.of_slot.filled step.runs.fill in
-          search (arith, rules, arrived_list, first, shorter r.of_slot.second r.of_slot.sent g.state);
+          search (arith, rules, length-insert, first, shorter r.of_slot.second r.of_slot.sent g.state);
       low = rw (step.runs.finish.ranks, step.runs.depart.ranks, step.runs.fill.ranks)
           (told_low w.machines configured.low r.of_slot.gone _ (ranked_low w.machines configured.low n 0
           r.admission.cells f.state.ranks _ known.low step.runs.arrive.ranked)
@@ -307,15 +271,15 @@ module _ (w : Switch) (ranks : List (List ℕ)) (configured : IsConfigured w ran
       IsCount (waits f.state + come_count (arriving_from w.came a m)) → end ≡ a + m →
       Runs w a (arriving_from w.came a m) f rs g →
       Ended a m end f rs g (cs ++ came_of rs) (sent ++ departures_of a (gone_in (slots_in rs)))
-  unfolding departures_of arriving_from come_count
+  unfolding departures_of arriving_from come_count admission
   run_known zero a end f g [] ideal cs sent known low all is run = grind (arith, common_steps, append-nil)
   run_known (suc m) a end f g (r ∷ rs) ideal cs sent known low all is run =
       let few = few_come known run.1 in
-      let less = fewer_wait known run.1 in
+      let less = fewer_held run.1.runs known.agrees (come known run.1) in
       let next = known_next known run.1 in
       let rest = run_known m (a + 1) end run.0 g rs _ _ _ next low (omega arith) (omega arith) run.2 in
-      let made = slot_proposed known run.1 in
-      search (arith, rules, append_assoc, rest, now_recorded known run.1, marks_stay known run.1, sum_by-append)
+      let made = slot_proposed run.1.runs known.agrees (come known run.1) (omega arith) in
+      search (arith, rules, append_assoc, rest, length-insert, buffer_few, marks_kept, sum_by-append)
   run_known _ a end f g _ ideal cs sent known low all is run = absurd run
 
   -- nothing is known of the empty fabric but that

@@ -1,5 +1,5 @@
 -- The words of this crate's proofs that stand elsewhere, each passed on from its place.
-pub use Rattle.cq_base.proofs.Library.{AllByRecursion, AllPairs, Bool, Err, IsSome, List, None, Ok, Option, Result, Some, [], and_from, and_parts, and_right, ap, append-nil, append_assoc, arith, cases_Bool, cases_eq, cases_lt, common_steps, cond, cons_option, count_by, enumerate_from, eq-eqb, eqb, eqb-true, false, false_from_ne_true, fill_by_all, filter, filter-append, filter_map, flat_map, fold, get_or-append-add, get_or-map, get_or-map-range_with_len, get_or-replicate, get_or-set_other, get_or-set_same, get_or_append_left, get_or_past, inl, inr, is_some, le-ltb, length, length-append, length-insert, length-map, length-map-range_with_len, length-replicate, length-set, list_any, lt-leb, lt-ltb, ltb-true, map, map-append, max, min, ne_eqb, not, option_map, range_with_len, refl, replicate, rules, same_Some, slice_get, slice_index_or, slice_set, suc, sum, sum_by, sum_by-append, sum_by-cons, sym, true, zero, ℕ, ⊎_elim, ◌&&◌, ◌*◌, ◌++◌, ◌+◌, ◌-◌, ◌<◌, ◌==◌, ◌^◌, ◌↔◌, ◌∙◌, ◌∷◌, ◌≡◌, ◌≢◌, ◌≤◌, ◌⊎◌}
+pub use Rattle.cq_base.proofs.Library.{AllByRecursion, AllPairs, Bool, IsSome, List, None, Ok, Option, Some, [], and_from, and_parts, and_right, ap, append-nil, append_assoc, arith, cases_Bool, cases_eq, cases_lt, common_steps, cons_option, count_by, enumerate_from, eq-eqb, eqb, eqb-true, false, false_from_ne_true, fill_by_all, filter, filter-append, filter_map, flat_map, fold, get_or-append-add, get_or-map, get_or-map-range_with_len, get_or-replicate, get_or-set_other, get_or-set_same, get_or_append_left, get_or_past, inl, inr, is_some, le-ltb, length, length-append, length-insert, length-map, length-map-range_with_len, length-replicate, length-set, list_any, lt-leb, lt-ltb, ltb-true, map, map-append, max, min, ne_eqb, not, option_map, range_with_len, refl, replicate, rules, same_Some, slice_get, slice_index_or, slice_set, suc, sum, sum_by, sum_by-append, sum_by-cons, sym, true, zero, ℕ, ⊎_elim, ◌&&◌, ◌*◌, ◌++◌, ◌+◌, ◌-◌, ◌<◌, ◌==◌, ◌^◌, ◌↔◌, ◌∙◌, ◌∷◌, ◌≡◌, ◌≢◌, ◌≤◌, ◌⊎◌}
 pub use Rattle.cq_base.specs.{Arrivals.arrival_at, declared.cell.Cell.Cell, declared.cell.Departure.Departure, declared.cell.Queued.Queued, declared.cell.Transfer.Transfer}
 pub use Rattle.cq_base.specs.Arriving.{Arrival, arriving_at}
 unfoldable pub use Rattle.cq_base.specs.Arriving.{arriving}
@@ -17,7 +17,7 @@ pub use Rattle.cq_ideal.proofs.Came.{Came, came_from}
 pub use Rattle.cq_ideal.proofs.{EnoughSlots.fewer, FlowStands.HasWaited}
 pub use Rattle.cq_ideal.proofs.FlowRank.{after_input_ok, only_ok, present}
 pub use Rattle.cq_ideal.proofs.FlowSlot.{Served, listed, served}
-pub use Rattle.cq_ideal.specs.Admission.{Marked, held_after, mark_after, mark_at, marks_after, unless}
+pub use Rattle.cq_ideal.specs.Admission.{Marked, held_after, mark_after, mark_at, marks_after}
 unfoldable pub use Rattle.cq_ideal.specs.Admission.{admission}
 pub use Rattle.cq_ideal.specs.{IdealRun.empty_ideal}
 unfoldable pub use Rattle.cq_ideal.specs.Ending.{arriving_from}
@@ -34,7 +34,7 @@ pub use Rattle.cq_prefs.specs.Pairing.{IsInputBest, IsStable}
 pub use Rattle.cq_laws.proofs.AfterArrivals.{CameFor, Keyed, came_or_was}
 pub use Rattle.cq_laws.proofs.LimitedWhole.{fabric_judged, limited_empty_agree}
 pub use Rattle.cq_laws.proofs.Members.{was_waiting}
-pub use Rattle.cq_laws.proofs.OneSlot.{after_sent, arrived, keyed, ports_kept, same_slot}
+pub use Rattle.cq_laws.proofs.OneSlot.{arrived, keyed, ports_kept, same_slot}
 pub use Rattle.cq_laws.proofs.Sound.{Sound, apart_from, never_both, not_before_itself}
 pub use Rattle.cq_laws.specs.Agreement.{Agrees, SendsAlike}
 pub use Rattle.cq_laws.specs.Fabric.{Fabric, IsAmong, IsFabric, buffer, cushion_of, empty_fabric, input}
@@ -63,24 +63,24 @@ pub use Rattle.cq_resume.specs.declared.taken.Taken.{Taken}
 pub use Rattle.cq_stopped.specs.Stopped.{AreRecorded, CanBeTakenUp, StoppedRunsAreSound, told_state}
 pub use Rattle.cq_audit.proofs.Noted.{FitsLine, range_rises, written_in_run}
 pub use Rattle.cq_base.proofs.Each.{all_both, all_weaker, few_kept, of_images, all_give, all_made, filter_all, filter_none}
-pub use Rattle.cq_base.specs.{declared.cell.TagFault.TagFault, declared.figures.InputFigures.InputFigures, declared.key.Key.Key, declared.setup.ClassRow.ClassRow, declared.setup.Kind.Kind, declared.setup.Kind.TheVariants.FirstCome, declared.setup.Kind.TheVariants.Fair}
+pub use Rattle.cq_base.specs.{declared.figures.InputFigures.InputFigures, declared.key.Key.Key, declared.setup.ClassRow.ClassRow, declared.setup.Kind.Kind, declared.setup.Kind.TheVariants.FirstCome, declared.setup.Kind.TheVariants.Fair}
 pub use Rattle.cq_pcap.specs.Captured.{Captured}
 pub use Rattle.cq_cells.proofs.{Packets.few_by}
 pub use Rattle.cq_cells.specs.NextArrival.{ArrivesIn}
 pub use Rattle.cq_rank.proofs.Floors.{given_floor}
 pub use Rattle.cq_laws.proofs.AddingUp.{figures_fold}
-pub use Rattle.cq_ideal.proofs.Waiting.{counted, length-filled}
+pub use Rattle.cq_ideal.proofs.Waiting.{length-filled}
 pub use Rattle.cq_base.proofs.Having.{all_from_has, all_of_has, any_has, has_all, has_any, has_cases, has_image, has_kept, has_left, has_right, has_there, image_has, kept_has, pair_of_has}
 pub use Rattle.cq_base.proofs.Pooled.{AreApart, all_pairs, each_pair, has_number, no_more, pairs_cross, pairs_joined, pairs_kept, pairs_left, pairs_mapped, pairs_right, pairs_with}
 pub use Rattle.cq_laws.proofs.{EndsTogether.slots_of_figures, Recorded.recorded}
 pub use Rattle.cq_ideal.proofs.EnoughSlots.{waiting-empty}
-pub use Rattle.cq_ideal.proofs.{Ends.nothing_left, FlowCount.come_count-first, FlowLaw.all_in_range, Packets.refused_here, Parted.arriving_length, Refusals.counts_more}
+pub use Rattle.cq_ideal.proofs.{FlowCount.come_count-first, FlowLaw.all_in_range, Packets.refused_here, Parted.arriving_length, Refusals.counts_more}
 pub use Rattle.cq_ideal.specs.{Limiter.where_up, declared.refused.Refused.Refused}
 pub use Rattle.cq_state.specs.declared.state.Seen.{Seen}
-pub use Rattle.cq_laws.proofs.{Falls.rest_of, IdealLists.among_put_all, IdealLists.list_after, IdealLists.put_all_keeps, IdealLists.put_all_new, IdealLists.rising_put_all, InputBest.stable_slot, InputBest.stable_limited_too, LimitedSlots.admission_for_ports, WholeRuns.empty_together, WholeRuns.empty_list}
+pub use Rattle.cq_laws.proofs.{Falls.rest_of, IdealLists.among_put_all, IdealLists.list_after, IdealLists.put_all_keeps, IdealLists.put_all_new, IdealLists.rising_put_all, InputBest.stable_slot, InputBest.stable_limited_too, LimitedSlots.admission_for_ports, WholeRuns.empty_list}
 pub use Rattle.cq_resume.proofs.{Coming.is_between, Coming.one_comes, Judging.packets_alike, Judging.tally_is, Scheduling.schedule_known, Tallied.whole, Upheld.all_stand, Upheld.tallies_up, Walking.cells_in}
 pub use Rattle.cq_resume.specs.declared.found.Name.{Name}
 pub use Rattle.cq_traffic.proofs.{ForPorts.arrivals_for, ForPorts.place_of}
-pub use Rattle.cq_simulate.proofs.{FabricSteps.all_wait, OnceASlot.AreNumbered}
-pub use Rattle.cq_simulate.proofs.{Departed.small_cells, EachPacket.all_arriving, EachPacket.all_judged, OnceASlot.limited_numbered, Runnable.keeps_laws, Runnable.kind, Runnable.machine_is, Runnable.right_classes, Runnable.right_size, Tallies.kinds_summed, Tallies.tests_turned}
+pub use Rattle.cq_simulate.proofs.{FabricCounts.all_wait, OnceASlot.AreNumbered}
+pub use Rattle.cq_simulate.proofs.{Departed.small_cells, EachPacket.all_arriving, EachPacket.all_judged, OnceASlot.limited_numbered, Runnable.keeps_laws, Runnable.kind, Runnable.machine_is, Runnable.right_classes, Runnable.right_size, Tallies.filter_images, Tallies.kinds_summed, Tallies.tests_turned}
 pub use Rattle.cq_simulate.specs.{FabricRuns.IsFabricRun}

@@ -72,8 +72,7 @@ module _ (w : Switch) (ranks : List (List ℕ)) (configured : IsConfigured w ran
       let few = configured.few_cells in let none = none_first ports ranks in
       let come = come_count-first w.came at.frozen.next in
       run_known w ranks configured at.frozen.next 0 at.frozen.next (opening w ranks) (marked_in at.frozen) rs _ [] []
-      (known_first w ranks configured) (omega (arith, early, parted.next)) (omega (arith, few, none, come))
-      (omega arith) runs
+      (known_first w ranks configured) (omega (arith, parted.next)) (omega arith) (omega arith) runs
 
   -- each input keeps its mark
   marks_many : length at.frozen.marks ≡ ports

@@ -3,7 +3,7 @@
 -- where its output has a limit, and the other cells of the packet are for the same output. So a walk over the arrivals
 -- that compares each with the mark before it ends, with the mark of the run: each packet is named whole or not at all,
 -- and the mark is that of the packet that began last. And what was refused slot by slot is what is not named.
-use Rattle.cq_stopped.proofs.Terms.{sum_by, sum_by-cons, rules, ◌≡◌, ℕ, zero, suc, ◌+◌, ◌<◌, eqb, Bool, true, false, List, [], ◌∷◌, length, Option, None, Some, refl, arith, length-append, map, and_parts, and_right, cases_Bool, cases_lt, eq-eqb, eqb-true, le-ltb, lt-leb, common_steps, map-append, filter-append, cons_option, filter, is_some, not, flat_map, arrival_at, Arrival, arriving, arriving_at, Cell, Queued, is_from, admitted_at, marks_kept, Marked, admission, held_after, mark_after, mark_at, marks_after, unless, arriving_from, cells_refused, packets_refused, with_refused, Fabric, fabric_held, LimitedRecord, admissions_in, all_from_has, found_at, ComeBehind, IsLine, coming, has_limit, mark_on, has_name, Runs, Switch, is_named, key_of, Named, ArrivesIn, refused_here, where_up, Refused, is_between, one_comes, whole, cells_in, Name, filter_none, most_ports}
+use Rattle.cq_stopped.proofs.Terms.{sum_by, sum_by-cons, rules, ◌≡◌, ℕ, zero, suc, ◌+◌, ◌<◌, eqb, Bool, true, false, List, [], ◌∷◌, length, Option, None, Some, refl, arith, length-append, map, and_parts, and_right, cases_Bool, cases_lt, eq-eqb, eqb-true, le-ltb, lt-leb, common_steps, map-append, filter-append, cons_option, filter, is_some, not, flat_map, arrival_at, Arrival, arriving, arriving_at, Cell, Queued, is_from, admitted_at, marks_kept, Marked, admission, held_after, mark_after, mark_at, marks_after, arriving_from, cells_refused, packets_refused, with_refused, Fabric, fabric_held, LimitedRecord, admissions_in, all_from_has, found_at, ComeBehind, IsLine, coming, has_limit, mark_on, has_name, Runs, Switch, is_named, key_of, Named, ArrivesIn, refused_here, where_up, Refused, is_between, one_comes, whole, cells_in, Name, filter_none, most_ports}
 use Rattle.cq_ideal.proofs.RestAtInput.{is_shown}
 use Rattle.cq_stopped.proofs.Ran.{came_in, came_of}
 use Rattle.cq_stopped.proofs.Queueing.{came_where}
@@ -70,10 +70,6 @@ module _ (w : Switch) (i : ℕ) (few : i < most_ports) (whole : IsLine (filter (
     unfolding admission
     mark_is = search (rules, mark_moves w.limits (fabric_held f.state) f.marks (arriving w.came slot) i many, is_shown)
 
-    taken_is : arrival_at r.admission.cells i ≡ unless (mark_at r.admission.marks i) (arriving_at w.came slot i)
-    unfolding admission
-    taken_is = grind (arith, common_steps, admitted_at, is_shown)
-
     -- one slot more, whose arrival is this or none
     slot_more : (o : Option Cell) → arriving_at w.came slot i ≡ o → slot < end → (lost : List Cell) (last : Bool) →
         Follow w.limits (mark_at f.marks i) (coming i slot end w.came) →
@@ -82,12 +78,13 @@ module _ (w : Switch) (i : ℕ) (few : i < most_ports) (whole : IsLine (filter (
         Walks w i named end (slot + 1) (mark_at g.marks i) last lost) →
         Walks w i named end slot (mark_at f.marks i) last
         (cons_option (where_up (mark_at r.admission.marks i) (arrival_at (arriving w.came slot) i)) lost)
+    unfolding admission
     slot_more None none lt lost last follow here rest =
         let same = none_comes_now i slot end w.came none in let moved = mark_is.1 in search (arith, rules, is_shown)
     slot_more (Some cell) some lt lost last follow here rest =
         let same = one_comes_now i slot end w.came cell lt whole some in
         let at = found_at w.came slot i cell some in
-        let moved = mark_is.1 in search (arith, rules, taken_is, is_shown, cases_Bool, eq-eqb)
+        let moved = mark_is.1 in search (arith, rules, admitted_at, is_shown, cases_Bool, eq-eqb)
 
   pub walked : (slot n : ℕ) (f g : Marked Fabric) (rs : List LimitedRecord) →
       Runs w slot (arriving_from w.came slot n) f rs g → slot + n ≡ end → i < length f.marks →

@@ -1,4 +1,4 @@
-use Rattle.cq_simulate.proofs.Terms.{ap, is_err, ◌+◌, ◌-◌, true, ◌∙◌, arith, rules, sym, err_from_is_err_and, end_of, IsEmptyFabric, quiet_of}
+use Rattle.cq_simulate.proofs.Terms.{◌+◌, ◌-◌, true, ◌∙◌, arith, rules, sym, err_from_is_err_and, quiet_of}
 use Rattle.cq_simulate.proofs.FabricSteps.{over_by, Stands, can_run_here, crossing_over, fault_here, left_here, next_here, run_stands}
 use Rattle.cq_simulate.proofs.Steps.{free_again, goes_on, left_with_all}
 use Rattle.cq_simulate.proofs.fabric_run.run_slots.Given as given
@@ -13,11 +13,9 @@ stands : (g : given.Over) (c : After-arrivals g) →
     c.args.engine.now c.args.sent.now c.args.note.now c.skip-slot.result
     (over_by c.args.schedule.now.came c.args.engine.now.next - (c.skip-slot.result + 1)) c.skip-slot.new.engine
     c.slots.sent c.slots.note
-stands g c = run_stands g.R.Rank.machine c.slots.invariant.runs (goes_on c.is_over.result
-    (end_of c.args.schedule.now.came) c.slots.slot (IsEmptyFabric c.slots.engine.fabric) c.slots-test.true
-    c.is_over.ensures) c.skip-slot.ensures.late (λ lt.
-    let told = (c.skip-slot.ensures.told (c.skip-slot.ensures.idle lt)).1 in search (rules, quiet_of))
-    c.skip-slot.ensures.rested
+stands g c = run_stands g.R.Rank.machine c.slots.invariant.runs (goes_on c.slots-test.true c.is_over.ensures)
+    c.skip-slot.ensures.late (λ lt. let told = (c.skip-slot.ensures.told (c.skip-slot.ensures.idle lt)).1 in
+    search (rules, quiet_of)) c.skip-slot.ensures.rested
 
 -- ## The loop
 
@@ -38,26 +36,16 @@ pub overflow_add-slot : goal.overflow_add-slot
 overflow_add-slot g c = let here = stands g (goal.at.overflow_add-slot g c).After-arrivals in omega arith
 
 pub slots-smaller : goal.slots-smaller
-slots-smaller g c =
-    let left = (stands g (goal.at.slots-smaller g c).After-arrivals).crossing.left in omega arith
+slots-smaller g c = let here = stands g (goal.at.slots-smaller g c).After-arrivals in omega arith
 
 pub slots-preserved : goal.slots-preserved
 slots-preserved g c =
     let done = c.in_ok-slot.ensures.slot in
-    record {
-      runs = next_here (stands g (goal.at.slots-preserved g c).After-arrivals) (c.arrivals.ensures
-          ∙ c.skip-slot.ensures.came) (record {
-            done = done;
-            put =
-                left_with_all c.slots.invariant.free (left_here done) c.take_all.ensures.items
-                c.take_all.ensures.spare;
-            went_on = c.in_ok-slot.ensures.went_on;
-            running = c.slot.ensures.stopped ∙ ap is_err c.in_ok-slot.was;
-            made = c.slot.ensures.made;
-          });
-      free = free_again c.slots.invariant.free (left_here done) c.take_all.ensures.none_left c.take_all.ensures.room;
-    }
+    let here = stands g (goal.at.slots-preserved g c).After-arrivals in
+    let free = c.slots.invariant.free in
+    let put = left_with_all free (left_here done) c.take_all.ensures.items c.take_all.ensures.spare in
+    let next = next_here here (c.arrivals.ensures ∙ c.skip-slot.ensures.came) done put in
+    search (arith, rules, next, free_again free (left_here done))
 
 pub returns-clause-run : goal.returns-clause-run
-returns-clause-run g c =
-    let over = c.is_over.ensures.0 c.slots-test.false in search (arith, rules, crossing_over)
+returns-clause-run g c = search (arith, rules, crossing_over, c.is_over.ensures)

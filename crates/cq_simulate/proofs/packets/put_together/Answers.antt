@@ -10,9 +10,8 @@ pub take-requires : goal.take-requires
 take-requires c =
     let sent = c.args.sent.now in
     let first = drop_more sent c.departures.departure-index _ c.departures-test.true in
-    let can = can_join first c.departures.invariant c.if-departure-output.true c.requires.of
-    (has_at sent c.departures.departure-index _ c.departures-test.true) in
-    search (arith, rules)
+    let can = can_join first c.departures.invariant c.if-departure-output.true c.requires.of in
+    search (arith, rules, can, has_at sent c.departures.departure-index)
 
 pub departures-preserved : goal.departures-preserved
 departures-preserved c =

@@ -1,4 +1,4 @@
-use Rattle.cq_simulate.proofs.Terms.{common_steps, rules, ap, arith, err_from_is_err_and, EngineView}
+use Rattle.cq_simulate.proofs.Terms.{rules, arith, err_from_is_err_and}
 use Rattle.cq_simulate.proofs.FabricOpening.{IsMade, can_begin, parted_of}
 use Rattle.cq_simulate.proofs.TakenUp.{machines_many}
 use Rattle.cq_simulate.proofs.parted_run.part_fresh.Given as given
@@ -12,8 +12,7 @@ made g c = search (arith, rules)
 
 pub run_before-requires-clause-ready : goal.run_before-requires-clause-ready
 run_before-requires-clause-ready g c =
-    let ready = can_begin (made g (goal.at.run_before-requires-clause-ready g c).In_ok-note) in
-    let next = ap (λ (e : EngineView). e.next) c.requires.fresh.fresh in search (arith, rules)
+    let ready = can_begin (made g (goal.at.run_before-requires-clause-ready g c).In_ok-note) in search (arith, rules)
 
 pub freeze-requires : goal.freeze-requires
 freeze-requires g c = c.in_ok-run_before.ensures.run.went.running
@@ -21,8 +20,7 @@ freeze-requires g c = c.in_ok-run_before.ensures.run.went.running
 pub returns-in_err-run_before-clause-refused : goal.returns-in_err-run_before-clause-refused
 returns-in_err-run_before-clause-refused g c =
     let begins = made g (goal.at.returns-in_err-run_before-clause-refused g c).In_ok-note in
-    let p = err_from_is_err_and c.from_residual-in_err-run_before.result c.from_residual-in_err-run_before.ensures.1 in
-    rw (p.1, p.2) (grind (arith, common_steps, machines_many))
+    search (arith, rules, machines_many, err_from_is_err_and)
 
 pub returns-clause-parted : goal.returns-clause-parted
 returns-clause-parted g c =

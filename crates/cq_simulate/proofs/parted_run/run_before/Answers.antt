@@ -1,4 +1,4 @@
-use Rattle.cq_simulate.proofs.Terms.{ap, is_err, ◌+◌, ◌-◌, ◌≤◌, false, ◌∙◌, arith, rules, sym, err_from_is_err_and}
+use Rattle.cq_simulate.proofs.Terms.{◌+◌, ◌-◌, ◌≤◌, false, ◌∙◌, arith, rules, sym, err_from_is_err_and}
 use Rattle.cq_simulate.proofs.FabricSteps.{Stands, can_run_here, fault_here, left_here, next_here, part_rests, part_stands}
 use Rattle.cq_simulate.proofs.parted_run.run_before.Given as given
 use Rattle.cq_simulate.proofs.parted_run.run_before.Goals as goal
@@ -24,34 +24,21 @@ slot-requires g c =
 pub returns-in_err-slot-clause-fault : goal.returns-in_err-slot-clause-fault
 returns-in_err-slot-clause-fault g c =
     let here = stands g (goal.at.returns-in_err-slot-clause-fault g c).After-arrivals-arrivals in
-    let p = err_from_is_err_and c.from_residual.result c.from_residual.ensures.1 in
-    let last = c.args.last in
-    rw (p.1, p.2) (fault_here here c.arrivals-arrivals.result.now c.in_err-slot.field-0.0
-    (last - c.args.engine.now.next) (omega arith)
-    (c.arrivals-arrivals.ensures ∙ c.skip-slot.ensures.came) (sym c.in_err-slot.was ∙ c.slot.ensures.answer))
+    search (arith, rules, fault_here here, err_from_is_err_and)
 
 pub slots-smaller : goal.slots-smaller
 slots-smaller g c = omega arith
 
 pub slots-preserved : goal.slots-preserved
 slots-preserved g c =
-    record {
-      crossing = next_here (stands g (goal.at.slots-preserved g c).After-arrivals-arrivals)
-          (c.arrivals-arrivals.ensures ∙ c.skip-slot.ensures.came) (record {
-            done = c.in_ok-slot.ensures.slot;
-            put = left_here c.in_ok-slot.ensures.slot;
-            went_on = c.in_ok-slot.ensures.went_on;
-            running = c.slot.ensures.stopped ∙ ap is_err c.in_ok-slot.was;
-            made = c.slot.ensures.made;
-          });
-      before = omega arith;
-    }
+    let done = c.in_ok-slot.ensures.slot in
+    let next = next_here (stands g (goal.at.slots-preserved g c).After-arrivals-arrivals) (c.arrivals-arrivals.ensures
+    ∙ c.skip-slot.ensures.came) done (left_here done) in
+    search (arith, rules, next)
 
 pub returns-then-slot-last-clause-run : goal.returns-then-slot-last-clause-run
 returns-then-slot-last-clause-run g c =
-    let rests =
-    part_rests g.R.Rank.machine c.slots.invariant.crossing c.slots.invariant.before
-    c.skip-slot.ensures.late
+    let rests = part_rests g.R.Rank.machine c.slots.invariant.crossing c.slots.invariant.before c.skip-slot.ensures.late
     (λ lt. let told = (c.skip-slot.ensures.told (c.skip-slot.ensures.idle lt)).1 in search rules)
     c.skip-slot.ensures.rested in
     let parts = rests.0 in
