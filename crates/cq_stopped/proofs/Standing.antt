@@ -50,8 +50,7 @@ module _ {w : Switch} (at : Taken) {ideal : IdealState} {cs : List (List (Option
       search (rules, inside, known.lanes j inside, all_of_has, has_right (left_at j at.sent), there)
 
   waits_for : (j : ℕ) (q : Queued) → q.cell.output ≡ j → HasFor f j q → Waits q
-  waits_for j q same has =
-      let own = own_at j q has in search (arith, rules, kept_at, has_right, left_at)
+  waits_for j q same has = search (arith, rules, kept_at, has_right, left_at, own_at j q has)
 
   pub waits_at : (i : ℕ) (q : Queued) → Has (input f i) q → Waits q
   waits_at i q has = waits_for q.cell.output q refl (inl (i, has, refl))

@@ -178,8 +178,7 @@ module _ (w : Switch) (ranks : List (List ℕ)) (configured : IsConfigured w ran
   tallied =
       let ends = λ (i : ℕ) (inside : i < ports). (walk i inside).ends in
       let walked = by_places (walk_mark w.limits next w.came names) (Some false) in
-      let counted = lost_counted in
-      search (arith, rules, marks_many, walked, ends, get_or-map, length-map, same_counts, left_before, counted)
+      search (arith, rules, marks_many, walked, ends, get_or-map, length-map, same_counts, left_before, lost_counted)
 
   packets_are : AreWholePackets w st
   unfolding state_of
