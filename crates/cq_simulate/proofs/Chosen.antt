@@ -24,8 +24,7 @@ module _ (MayChoose : Orders → Partners → Type 0)
       search (arith, rules, admission_for_ports) in
       let before = arrived ms slot class_count _ f.state next.state ideal.state _ s.agrees.states come step.runs in
       let after = after_sent ms slot class_count _ f.state next.state ideal.state _ s.agrees.states come step.runs in
-      let slack = slack_arrived ms slot class_count _ f.state next.state ideal.state _ s.agrees.states come step.runs in
-      search (arith, rules, orders_are, each_chosen (slot + 1) traffic next g one.next rs)
+      search (arith, rules, orders_are, each_chosen (slot + 1) traffic next g one.next rs, slack_arrived)
   each_chosen slot traffic f g ideal rs s run = absurd run
 
   -- ## From the empty fabric on

@@ -65,8 +65,7 @@ module _ (o : Orders) (m : Partners) (is : IsMatching o m) where
       search (arith, rules, length-map-range_with_len f 0 (ports o), sum_by-le, get_or-map-range_with_len f 0 (ports o))
 
 in_range : (f : Fabric) → IsFabric f → OutputsInRange f.inputs
-in_range f is i j c first =
-    let at = first_at (is_for j) (input f i) c first in search (arith, rules, is.outputs i c, has_there)
+in_range f is i j c first = search (arith, rules, is.outputs i c, has_there, first_at (is_for j) (input f i) c first)
 
 module _ (f : Fabric) (m : Partners) (is : IsMatching (orders_of f.inputs) m) where
   pub proposals_few : IsFabric f → proposals (orders_of f.inputs) m ≤ length f.inputs * length f.inputs
@@ -94,8 +93,7 @@ all_wait slot f ideal agrees = cc (waiting-sum ideal.lists, hold_as_many slot f 
 
 pub empty_beside : (slot : ℕ) (f : Fabric) (ideal : IdealState) → Agrees slot f ideal → sum (fabric_held f) ≡ 0 →
     IsEmptyFabric f
-empty_beside slot f ideal agrees none =
-    let wait = all_wait slot f ideal agrees in search (arith, rules, empty_together slot f ideal, nothing_left)
+empty_beside slot f ideal agrees none = search (arith, rules, empty_together slot f ideal, nothing_left, all_wait slot)
 
 -- ## A slot
 
@@ -135,9 +133,8 @@ module _ {ms : List Machine} {slot : ℕ} {cells : List (Option Cell)} {f g : Fa
     proposed_few : length f.inputs ≤ most_ports → sum (proposals_in r) ≤ 8192
     unfolding proposals_in
     proposed_few few =
-        let before = arrived ms slot classes cells f g ideal r agrees come stable in
         let after = after_sent ms slot classes cells f g ideal r agrees come stable in
-        search (arith, rules, proposals_few, before, after, stable, square_few)
+        search (arith, rules, proposals_few, after, stable, square_few, arrived ms slot classes cells f)
 
     -- where no cell waits and none arrives none is proposed
     none_proposed : sum (fabric_held f) ≡ 0 → length (present cells) ≡ 0 → sum (proposals_in r) ≡ 0

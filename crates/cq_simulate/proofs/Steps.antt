@@ -77,11 +77,10 @@ pub running_first : (ms : List Machine) (came : List Arrival) (first : IdealSwit
 unfolding limited_run arriving_from departures_of
 running_first ms came first sent n ready all_left =
     let all = come_count-traffic_of came in
-    let none = waiting-empty (length first.fixed) in
     let begun : limited_run first.limits ms 0 (first_slots came 0) (marked_state first)
     ≡ Ok (record { admissions = []; gone = []; after = marked_state first }) = refl in
     let counts = zero_fits (length first.fixed + come_count (arriving_from came 0 n)) first.limits in
-    search (arith, rules, all_slots, come_for-traffic_of, enough_are, length-replicate, get_or-replicate)
+    search (arith, rules, all_slots, come_for-traffic_of, enough_are, length-replicate, get_or-replicate, waiting-empty)
 
 pub come_here : (came : List Arrival) (slot n : ℕ) →
     come_count (arriving_from came slot (suc n)) ≡ length (present (arriving came slot)) + come_count
@@ -229,7 +228,6 @@ module _ (M : List ℕ → Machine) {came : List Arrival} {first : IdealSwitch} 
       let same : map M now.fixed ≡ ms = ap (map M) r.same.fixed in
       let is : limited_slot first.limits ms slot here (marked_state now) ≡ Ok of_slot =
       rw (are, same, r.same.limits) at was in
-      let put = left_with_all free had.sent {sent = sent} {sent_new = sent_new} items spare in
       let o = of_admitted first.limits ms slot here (marked_state now) of_slot is in
       let waits = ap (λ (m : Marked IdealState). waiting m.state.lists) had.state in
       let come = come_here came slot n in
@@ -243,7 +241,7 @@ module _ (M : List ℕ → Machine) {came : List Arrival} {first : IdealSwitch} 
       let lost = of_slot.admission.refused in
       let to_count = length first.fixed + come_count (arriving_from came (slot + 1) n) in
       let counts = counts_fit lost to_count (length lost) now.refused (search (arith, rules, r.counts)) (omega arith) in
-      search (arith, rules, numbers, append-nil, r.each, o.each, o.counts.each, r.few)
+      search (arith, rules, numbers, append-nil, r.each, o.each, o.counts.each, r.few, left_with_all)
 
   pub at_fault : (cells : List (Option Cell)) (fault : TagFault) → cells ≡ arriving came slot →
       Err fault ≡ answer_to (its_slot (map M now.fixed) slot cells now) →

@@ -60,12 +60,11 @@ pub goes_from : {t : Tables} {s : Scheduled} (e : EngineView) (sent : RoomView D
     IsReadyOn (map machine_from e.fixed) s.came e sent note
 unfolding fabric_held fabric_listed
 goes_from {t} {s} e sent note fit has machines classes from to running few sent_room note_room =
-    let every = all_parts e.next s.came in
     let before = came_before e.next s.came in
     let ports = length e.fabric.inputs in
     let held = kinds_few (λ a. a.cell.output) (λ j. held_for j e.fabric) 0 ports before in
     let listed = kinds_few (λ a. a.cell.id.input) (λ i. length (input e.fabric i)) 0 ports before in
-    search (arith, rules, machine_count, both_parts, room_at, has.lost, held, listed, has.buffers, has.lists)
+    search (arith, rules, machine_count, both_parts, room_at, has.lost, held, listed, has.buffers, has.lists, all_parts)
 
 -- ## A fresh one
 
