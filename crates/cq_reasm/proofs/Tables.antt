@@ -76,11 +76,13 @@ module _ (old new : Slab OpenPacket) (keys : List (Option ℕ)) (seen : List (Op
 
     pub closed_table : get new key ≡ None → IsTable new (set keys place None)
     closed_table gone =
-        search (arith, rules, inside, get_or-set_other, others, table.apart, table.placed, at, same_Some, get_or-set_same)
+        let apart = table.apart in
+        search (arith, rules, inside, get_or-set_other, others, apart, table.placed, at, same_Some, get_or-set_same)
 
     pub closed_seen : map (packet_under new) (set keys place None) ≡ set seen place None
     closed_seen =
-        search (arith, rules, seen_at_one (packet_under old) (packet_under new), view, seen_alike, others, table.apart, at)
+        let there = seen_at_one (packet_under old) (packet_under new) in
+        search (arith, rules, there, view, seen_alike, others, table.apart, at)
 
   -- a packet comes under a key that had none
   module _ (is : read ≡ None) (vacant : get old key ≡ None) (now : Open)
