@@ -10,7 +10,7 @@ pub use Rattle.cq_gen.specs.Draws.{draw_for}
 unfoldable pub use Rattle.cq_gen.specs.Draws.{first_draws, generator_of}
 pub use Rattle.cq_gen.specs.Packets.{output_address, to_write}
 unfoldable pub use Rattle.cq_gen.specs.Packets.{frame_of, packet_of, packets_to, soak_captures}
-pub use Rattle.cq_gen.specs.Tables.{soak_address, soak_class, soak_kind, soak_port, soak_rule, soak_setup}
+pub use Rattle.cq_gen.specs.Tables.{soak_address, soak_kind, soak_port, soak_rule, soak_setup}
 unfoldable pub use Rattle.cq_gen.specs.Tables.{soak_tables}
 unfoldable pub use Rattle.cq_route.specs.Plain.{plain_tables}
 pub use Rattle.cq_base.proofs.Each.{counted_more, all_made}
