@@ -58,7 +58,7 @@ cut_rose : (ws : List (List ℕ × List ℕ)) (name : List ℕ) (old new : Space
 cut_rose [] name old new h = absurd h
 cut_rose (w ∷ ws) name old new h = grind (arith, common_steps, cut_rose ws name)
 
--- no judgement of contents refuses words, nor does that of captures
+-- no judgement of captures refuses words
 never_captures : (r : Reader) (limit input : ℕ) (rows : List PortRow) (m : Contents) →
     captures_from r limit input rows m ≡ Err Words → ⊥
 unfolding captures_from
