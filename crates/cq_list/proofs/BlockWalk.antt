@@ -60,5 +60,5 @@ module _ {blocks : List (List ℕ)} (offset : ℕ) {sums : List SumView} (had : 
 -- what counts the places of blocks
 pub ruleset count_steps = (count_within, ahead_next, length_added, count_added, few_kept, length-take, take_all)
 
--- what looks from the first block on
+-- what looks for the run of a place from both ends
 pub ruleset find_from_ends_steps = (run_on, ahead_fits, take_all)

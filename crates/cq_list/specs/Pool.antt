@@ -110,7 +110,7 @@ pub record LeadsTo (p : Queued → Bool) (chained : List (ℕ × Queued)) (ahead
   pub count : ahead.count ≡ position_or_len p (cells chained)
   pub last : EndsAt (places chained) ahead.count ahead.last
 
--- so many of the nodes that stand ahead of it, of which the last is known
+-- so many of the nodes that stand ahead of the first cell that passes a test, of which the last is known
 pub record LeadsTowards (p : Queued → Bool) (chained : List (ℕ × Queued)) (ahead : Ahead) : Type 0 where
   pub count : ahead.count ≤ position_or_len p (cells chained)
   pub last : EndsAt (places chained) ahead.count ahead.last
