@@ -1,4 +1,4 @@
--- Words that are put one behind another, each with a blank or the line feed behind it, make a line, and lines a text.
+-- Words that are put one behind another, each with a blank or the line feed behind it, make a line.
 use Rattle.cq_report.proofs.Terms.{common_steps, arith, ◌≡◌, ℕ, List, [], ◌∷◌, ◌++◌, append_assoc}
 
 -- what is put behind a word is put behind all
