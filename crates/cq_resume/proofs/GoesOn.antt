@@ -79,6 +79,9 @@ unfolding cells_refused packets_refused
 counts_few [] cells j n le = tt
 counts_few (limit ∷ limits) cells j n le = grind (arith, common_steps, few_kept, counts_few limits cells (j + 1) n le)
 
+-- ## Cells that wait for an output
+
+-- those of all lists are those of the lists laid end on end
 waiting_all : (j : ℕ) (lists : List (List Queued)) →
     waiting_for j lists ≡ length (filter (is_for j) (flat_map (λ l. l) lists))
 waiting_all j [] = refl
