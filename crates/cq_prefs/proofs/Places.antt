@@ -62,8 +62,8 @@ pub no_offers_are : (n : ℕ) → AreOffers (no_offers n)
 unfolding IsDistinct
 no_offers_are n = search (arith, rules, get_or-replicate, get_or_past, length-replicate, cases_lt)
 
-pub ruleset nothing_offered = (length-replicate, no_offers_are)
+pub ruleset new_steps = (length-replicate, no_offers_are)
 
-pub ruleset asked_place = (place_of-at)
+pub ruleset asked_steps = (place_of-at)
 
-pub ruleset found_place = (chains, place_in_is)
+pub ruleset place_steps = (chains, place_in_is)

@@ -59,7 +59,7 @@ fn no_orders(alloc: Global, ports: u16) -> Result<Vec<Preference>, NoMemory>
 
 impl Offers {
     /// Nothing is offered, over so many inputs and as many outputs. The error is want of memory.
-    #[tactic(auto, using(crate::proofs::Places::nothing_offered))]
+    #[tactic(auto, using(crate::proofs::Places::new_steps))]
     pub fn new(alloc: Global, ports: u16) -> Result<Offers, NoMemory>
         requires { ports ≤ most_ports }
         ensures { IfOk result (λ offers. offers ≡ no_offers ports) }
@@ -200,7 +200,7 @@ impl Offers {
     }
 
     /// What an input asks by the proposal to the output at a place of its order.
-    #[tactic(auto, using(crate::proofs::Places::asked_place))]
+    #[tactic(auto, using(crate::proofs::Places::asked_steps))]
     pub fn asked(&self, input: Port, place: u16) -> Ask
         requires { place < length (outputs_of self.now input) }
         ensures input { input < ports self.now }

@@ -1,6 +1,6 @@
 -- Only proofs use this.
 -- The clauses of a sound state, over cells that were looked up: each cell stands with its output and its class.
-use Rattle.std.specs.Prelude.{◌≡◌, ◌⊎◌, ℕ, ◌+◌, ◌-◌, ◌<◌, ◌≤◌, ◌&&◌, ◌||◌, ◌==◌, nat_lt, nat_le, not, is_some, Bool, true, false, if◌then◌else◌, AllPairs, List, [], ◌∷◌, ◌++◌, map, filter, length, take, Option, Some, None, slice_get, slice_index, slice_index_or, IsPermutation, ⊤}
+use Rattle.std.specs.Prelude.{◌≡◌, ◌⊎◌, ℕ, ◌+◌, ◌-◌, ◌<◌, ◌≤◌, ◌&&◌, ◌||◌, ◌==◌, nat_lt, nat_le, not, is_some, Bool, true, false, if◌then◌else◌, AllPairs, List, [], ◌∷◌, ◌++◌, map, filter, length, Option, Some, None, slice_get, slice_index, slice_index_or, IsPermutation, ⊤}
 use Rattle.std.specs.List.{AllByRecursion, AllZip, flat_map, list_any, range_with_len}
 use Rattle.cq_base.specs.Arriving.{Arrival}
 use Rattle.cq_base.specs.Cells.{IsBefore}

@@ -186,7 +186,9 @@ module _ (M : List ℕ → Machine) {came : List Arrival} {first : IdealSwitch} 
 
 pub goes_on : {b : Bool} {end slot : ℕ} {Empty : Type 0} → b ≡ false → (IsTrue b ↔ ((end ≤ slot) × Empty)) →
     end ≤ slot → Empty → ⊥
-goes_on {b} going iff le none = let over : b ≡ true = iff.1 (le, none) in let P : ⊥ = cc in P
+goes_on {b} going iff le none =
+    let over : b ≡ true = iff.1 (le, none) in
+    let P : ⊥ = cc in P
 
 -- ## The steps
 

@@ -1,5 +1,5 @@
 use Rattle.cq_list.proofs.Terms.{rules, arith, ◌++◌, ◌+◌, drop, drop_all, drop_more}
-use Rattle.cq_list.proofs.Told.{some_left, can_next, told_next}
+use Rattle.cq_list.proofs.Told.{can_next, told_next}
 use Rattle.cq_list.proofs.input_list.tell.Goals as goal
 
 pub places-preserved : goal.places-preserved

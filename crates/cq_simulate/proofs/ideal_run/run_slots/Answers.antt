@@ -1,4 +1,4 @@
-use Rattle.cq_simulate.proofs.Terms.{slots_within, ◌+◌, ◌-◌, suc, [], rules, map, sym, ◌∙◌, arith, err_from_is_err_and, enough}
+use Rattle.cq_simulate.proofs.Terms.{slots_within, ◌+◌, ◌-◌, suc, rules, map, ◌∙◌, arith, err_from_is_err_and, enough}
 use Rattle.cq_simulate.proofs.Steps.{Running, at_end, at_fault, at_next, can_have, free_again, goes_on, slot_ok, stands as stands_at}
 use Rattle.cq_simulate.proofs.ideal_run.run_slots.Given as given
 use Rattle.cq_simulate.proofs.ideal_run.run_slots.Goals as goal

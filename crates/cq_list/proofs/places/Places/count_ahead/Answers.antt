@@ -1,5 +1,4 @@
-use Rattle.cq_list.proofs.Terms.{PlacesView, arith, rules, ap, take, length-take, count_of, few_kept}
-use Rattle.cq_list.proofs.First.{count_behind}
+use Rattle.cq_list.proofs.Terms.{arith, rules, length-take, few_kept}
 use Rattle.cq_list.proofs.places.Places.count_ahead.Goals as goal
 
 pub overflow_add-result : goal.overflow_add-result
