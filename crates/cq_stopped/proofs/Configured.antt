@@ -1,7 +1,7 @@
 -- What is known of a switch that tables configure, with what arrives at it: its ports and classes, its machines, that
 -- keep the laws of machines and begin in a state of their size, and its arrivals, of which there are not many. They
 -- come packet after packet at each input.
-use Rattle.cq_stopped.proofs.Terms.{common_steps, rules, ◌≡◌, ℕ, zero, suc, ◌+◌, ◌-◌, ◌*◌, ◌<◌, ◌≤◌, ◌^◌, min, List, [], ◌∷◌, length, map, flat_map, arith, length-append, fold, replicate, slice_index_or, AllByRecursion, range_with_len, length-map, Scheduled, IsRecorded, IsTraffic, KeepsLaws, Machine, machine_at, all_both, ArePackets, IsScheduleOf, Switch, switch_of, AreTables, Tables, machine_of, opening_of, openings_of, AreRecorded, of_images, FitsLine, ClassRow, Kind, FirstCome, Fair, few_by, Captured, schedule_known, small_cells, keeps_laws, kind, machine_is, right_classes, right_size, level_count, longest_file, most_classes, most_ports}
+use Rattle.cq_stopped.proofs.Terms.{All-replicate, recursion_from_All, common_steps, rules, ◌≡◌, ℕ, zero, suc, ◌+◌, ◌-◌, ◌*◌, ◌<◌, ◌≤◌, ◌^◌, min, List, [], ◌∷◌, length, map, flat_map, arith, length-append, fold, replicate, slice_index_or, AllByRecursion, range_with_len, length-map, Scheduled, IsRecorded, IsTraffic, KeepsLaws, Machine, machine_at, all_both, ArePackets, IsScheduleOf, Switch, switch_of, AreTables, Tables, machine_of, opening_of, openings_of, AreRecorded, of_images, FitsLine, ClassRow, Kind, FirstCome, Fair, few_by, Captured, schedule_known, small_cells, keeps_laws, kind, machine_is, right_classes, right_size, level_count, longest_file, most_classes, most_ports}
 use Rattle.cq_cells.specs.Schedule.{arrivals, arrivals_at, t0_of, packets_of}
 
 -- all numbers of a rank state fit 128 bits
@@ -36,18 +36,13 @@ pub record IsConfigured (w : Switch) (ranks : List (List ℕ)) : Type 0 where
 
 -- ## The machines of a setup
 
-zeros_low : (n : ℕ) → AreLow (replicate n 0)
-zeros_low zero = tt
-zeros_low (suc n) = (omega arith, zeros_low n)
-
 machine_low : (kind : Kind) (rows : List ClassRow) → KeepsLow (machine_of kind rows)
-machine_low Fair rows = grind (arith, common_steps, zeros_low)
-machine_low kind rows = search rules
+machine_low kind rows = grind (arith, common_steps, recursion_from_All, All-replicate)
 
 openings_all : (kinds : List Kind) (rows : List ClassRow) →
     AllByRecursion AreLow (map (λ (k : Kind). opening_of k rows) kinds)
 openings_all [] rows = tt
-openings_all (k ∷ kinds) rows = search (arith, rules, zeros_low, openings_all kinds rows)
+openings_all (k ∷ kinds) rows = grind (arith, common_steps, recursion_from_All, All-replicate, openings_all kinds)
 
 machines_low : (kinds : List Kind) (rows : List ClassRow) (j : ℕ) →
     KeepsLow (machine_at (map (λ (k : Kind). machine_of k rows) kinds) j)

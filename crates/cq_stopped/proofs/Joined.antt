@@ -60,18 +60,15 @@ module _ {X : Type 0} (number : X → ℕ) where
   abbrev AreNumbered : ℕ → List (List X) → Type 0
   AreNumbered a xss = (k : ℕ) (x : X) → Has (list_at xss k) x → number x ≡ a + k
 
-  later : (a : ℕ) (xs : List X) (xss : List (List X)) → AreNumbered a (xs ∷ xss) → AreNumbered (a + 1) xss
-  later a xs xss own k x has = let e = own (suc k) x has in omega arith
-
   sifted : (a i : ℕ) (xss : List (List X)) → AreNumbered a xss → (k : ℕ) → a + k ≡ i →
       filter (is_numbered i) (all_of xss) ≡ list_at xss k
   sifted a i [] own k is = refl
   sifted a i (xs ∷ xss) own zero is =
       let here = filter_all (is_numbered i) xs (all_from_has _ xs (search (arith, rules, own zero, eq-eqb))) in
-      search (arith, rules, filter_none, all_from_has, is_at, ne_eqb, later a xs xss own, filter-append, append-nil)
+      search (arith, rules, filter_none, all_from_has, is_at, ne_eqb, λ (k : ℕ). own (suc k), filter-append, append-nil)
   sifted a i (xs ∷ xss) own (suc k) is =
       let none = filter_none (is_numbered i) xs (all_from_has _ xs (search (arith, rules, own zero, ne_eqb))) in
-      simp (filter-append, none) (sifted (a + 1) i xss (later a xs xss own) k (omega arith))
+      simp (filter-append, none) (sifted (a + 1) i xss (λ k x has. omega (arith, own (suc k) x has)) k (omega arith))
 
   pub sift : (xss : List (List X)) → ((k : ℕ) (x : X) → Has (list_at xss k) x → number x ≡ k) → (i : ℕ) →
       filter (is_numbered i) (all_of xss) ≡ list_at xss i

@@ -41,8 +41,7 @@ module _ (j : ℕ) where
 -- and what is sent is among it
 pub left_has : (sent : List Departure) (d : Departure) (j : ℕ) → d.output ≡ j → Has sent d →
     Has (left_at j sent) d.queued
-left_has sent d j own has =
-    has_image (λ (e : Departure). e.queued) _ d (has_kept (λ e. e.output == j) sent d has (eq-eqb d.output j own))
+left_has sent d j own has = search (rules, has_image (λ (e : Departure). e.queued), has_kept, eq-eqb)
 
 -- ## Departures in order
 
@@ -117,7 +116,6 @@ module _ (names : List Named) (rs : List LimitedRecord) (differ : EachPair Diffe
       ≡ count_by (λ (r : SlotRecord). is_some (came_to r.came i)) (slots_in rs)
   names_counted =
       let mine = filter own names in
-      let numbers = range_with_len 0 (length rs) in
       -- none comes past the last record
       let low : (t : ℕ) → comes t ≡ true → t < length rs = search (arith, rules, length-map, get_or_past, cases_lt) in
       let few = no_more (λ (c : Named) (t : ℕ). c.slot ≡ t) mine slots

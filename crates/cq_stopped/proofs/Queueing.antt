@@ -3,7 +3,7 @@
 -- output. A cell that comes has another name than each that came before it, of its flow each came in an earlier slot,
 -- and each of its class that waits has the lesser key: its level and no greater rank. So of two in the order of keys
 -- the one ahead goes before the other, as what left the output goes before both.
-use Rattle.cq_stopped.proofs.Terms.{rules, ◌≡◌, ℕ, zero, suc, ◌+◌, ◌<◌, ◌≤◌, ◌^◌, true, List, [], ◌∷◌, length, Option, Some, None, Ok, refl, arith, ◌++◌, cases_eq, ltb-true, cases_lt, eq-eqb, le-ltb, lt-ltb, common_steps, get_or-set_other, get_or-set_same, length-set, same_Some, AllByRecursion, is_some, slice_index_or, slice_set, arrival_at, Cell, Queued, came_from, only_ok, all_told, put_all, Ranking, ranking, came_to, KeepLaws, Machine, machine_at, EachPair, after_input_ok, Key, given_floor, all_made, inl, inr, ◌⊎◌, CameFor, Has, IsBefore, IsRising, among_put_all, has_left, has_right, never_both, not_before_itself, pair_of_has, pairs_cross, pairs_joined, pairs_left, pairs_right, rising_put_all}
+use Rattle.cq_stopped.proofs.Terms.{All-set, All-from_recursion, recursion_from_All, get_or_past, rules, ◌≡◌, ℕ, zero, suc, ◌+◌, ◌<◌, ◌≤◌, ◌^◌, true, List, [], ◌∷◌, length, Option, Some, None, Ok, refl, arith, ◌++◌, cases_eq, ltb-true, cases_lt, eq-eqb, le-ltb, lt-ltb, common_steps, get_or-set_other, get_or-set_same, length-set, same_Some, AllByRecursion, is_some, slice_index_or, slice_set, arrival_at, Cell, Queued, came_from, only_ok, all_told, put_all, Ranking, ranking, came_to, KeepLaws, Machine, machine_at, EachPair, after_input_ok, Key, given_floor, all_made, inl, inr, ◌⊎◌, CameFor, Has, IsBefore, IsRising, among_put_all, has_left, has_right, never_both, not_before_itself, pair_of_has, pairs_cross, pairs_joined, pairs_left, pairs_right, rising_put_all}
 use Rattle.cq_base.specs.Key.{is_before}
 use Rattle.cq_ideal.specs.Ranking.{keyed}
 use Rattle.cq_stopped.proofs.Configured.{AreLow, KeepsLow}
@@ -67,39 +67,22 @@ module _ (ms : List Machine) (slot : ℕ) where
       let c = came_from ms slot (i + 1) cells (after ranks cell) b.1 b.2 k q at' in
       search (arith, rules, get_or-set_same, given_floor, keep.sized, get_or-set_other, cases_eq, known (suc k) q.cell)
 
-  -- a cell came just where one arrives
-  pub came_where : (i : ℕ) (cells : List (Option Cell)) (ranks : List (List ℕ)) (r : Ranking) →
-      ranking ms slot i cells ranks ≡ Ok r → (k : ℕ) → is_some (came_to r.came k) ≡ is_some (arrival_at cells k)
-  came_where i [] ranks r h k = grind (arith, common_steps, only_ok)
-  came_where i (None ∷ cells) ranks r h k = search (rules, after_input_ok, came_where (i + 1) cells ranks)
-  came_where i (Some cell ∷ cells) ranks r h k =
-      search (arith, rules, one_behind i cell cells ranks r h, came_where (i + 1) cells (after ranks cell))
-
 -- ## The numbers of the rank states fit 128 bits, since the run would stop at the first rank that does not
-
-low_at : (states : List (List ℕ)) (j : ℕ) → AllByRecursion AreLow states → AreLow (slice_index_or states j [])
-low_at [] j all = tt
-low_at (s ∷ states) j all = grind (arith, common_steps, low_at states)
-
-low_set : (states : List (List ℕ)) (j : ℕ) (s : List ℕ) → AllByRecursion AreLow states → AreLow s →
-    AllByRecursion AreLow (slice_set states j s)
-low_set [] j s all low = tt
-low_set (t ∷ states) j s all low = grind (arith, common_steps, low_set states)
 
 module _ (ms : List Machine) (keeps : (j : ℕ) → KeepsLow (machine_at ms j)) where
   -- the rank states stay low
   pub ranked_low : (slot i : ℕ) (cells : List (Option Cell)) (states : List (List ℕ)) (r : Ranking) →
       AllByRecursion AreLow states → ranking ms slot i cells states ≡ Ok r → AllByRecursion AreLow r.ranks
   ranked_low slot i [] states r all h = grind (arith, common_steps, only_ok)
-  ranked_low slot i (None ∷ cells) states r all h = search (rules, after_input_ok, ranked_low slot (i + 1) cells states)
-  ranked_low slot i (Some cell ∷ cells) states r all h =
-      search (rules, ltb-true, after_input_ok, low_set, low_at, ranked_low slot (i + 1) cells)
+  ranked_low slot i (cell ∷ cells) states r all h =
+      let put = recursion_from_All AreLow in
+      search (rules, ltb-true, after_input_ok, put, All-set, All-from_recursion, ranked_low slot (i + 1) cells)
 
   pub told_low : (gone : List (Option Queued)) (states : List (List ℕ)) → AllByRecursion AreLow states →
       ((j : ℕ) (q : Queued) → slice_index_or gone j None ≡ Some q → q.key.rank < 2 ^ 128) →
       AllByRecursion AreLow (all_told ms gone states)
   unfolding all_told
-  told_low gone states all sent = all_made AreLow _ 0 (length states) (search (arith, rules, low_at, sent))
+  told_low gone states all sent = all_made AreLow _ 0 (length states) (search (arith, rules, All-from_recursion, sent))
 
 -- ## A lesser key
 
@@ -127,8 +110,7 @@ module _ (j slot : ℕ) (came : List (Option Queued)) (left waiting : List Queue
   goes_ahead x q (inl a) (inr new) ahead = old_first x q (has_right left waiting x a) new
   goes_ahead x q (inr new) (inl b) ahead =
       grind (arith, common_steps, before q, has_right left waiting q b, come new.0 x, less q x b new, never_both)
-  goes_ahead x q (inr a) (inr b) ahead =
-      grind (arith, common_steps, come a.0 x a.1, come b.0 q b.1, not_before_itself)
+  goes_ahead x q (inr a) (inr b) ahead = grind (arith, common_steps, come a.0, come b.0, not_before_itself)
 
   rises : IsRising (put_all j came waiting)
   rises = rising_put_all j came waiting rising

@@ -205,9 +205,8 @@ module _ (w : Switch) (ranks : List (List ℕ)) (configured : IsConfigured w ran
     ordered_next = pairs_joined DepartsBefore sent (departures_from n 0 r.of_slot.gone) known.ordered
         (slot_in_order n 0 r.of_slot.gone) (λ d e first second.
         let now = all_of_has LeavesNow _ e leave_now second in
-        let before = all_of_has (IsSentRight w n) sent d known.departed first in
         let cross = pairs_cross Follows (left e.output) (full e.output) d.queued e.queued in
-        search (arith, rules, cross, next_pairs, left_has))
+        search (arith, rules, cross, next_pairs, left_has, all_of_has, known.departed))
 
     -- ## What came
 
@@ -285,6 +284,5 @@ module _ (w : Switch) (ranks : List (List ℕ)) (configured : IsConfigured w ran
   -- nothing is known of the empty fabric but that
   pub known_first : Known w 0 (empty_fabric (length w.machines) ranks) (empty_ideal (length w.machines) ranks) [] []
   known_first =
-      let none = λ (i : ℕ). ap (λ (l : List Queued). length l) (empty_list (length w.machines) i) in
       let agree = limited_empty_agree in
-      search (arith, rules, none, configured, agree, length-replicate, Lane, get_or-replicate, get_or_past, cases_lt)
+      search (arith, rules, configured, agree, length-replicate, Lane, get_or-replicate, get_or_past, cases_lt)

@@ -28,8 +28,7 @@ most_few a (n ∷ ns) le all = most_few (max a n) ns (omega arith) all.1
 
 cushions_few : (f : Fabric) → ((j : ℕ) → IsCount (length (list_of f.buffers j))) → (a : ℕ) (cells : List Queued) →
     AllByRecursion IsCount (map (λ (at : ℕ × Queued). cushion_of f at.1 - at.0) (enumerate_from a cells))
-cushions_few f few a [] = tt
-cushions_few f few a (c ∷ cells) = grind (arith, common_steps, few_kept, cushions_few f few (a + 1) cells)
+cushions_few f few a cells = search (arith, rules, of_images, all_from_has, few_kept)
 
 slacks_few : (i : ℕ) (rs : List SlotRecord) → AllByRecursion IsRecordedWithin rs →
     AllByRecursion IsCount (flat_map (λ (r : SlotRecord). slacks r.arrived i) rs)
@@ -141,13 +140,12 @@ module _ (w : Switch) (ranks : List (List ℕ)) (configured : IsConfigured w ran
   walk : (i : ℕ) → i < ports → Walks w i (λ a. has_name names a) next 0 false (mark_at at.frozen.marks i)
       (refused_here w.limits i (arriving_from w.came 0 next) (admissions_in rs))
   walk i inside =
-      let many = length-replicate ports false in
       let down : mark_at (opening w ranks).marks i ≡ false = get_or-replicate ports i false false inside in
       let start : Follow w.limits false (coming i 0 next w.came) = search (arith, rules, whole) in
       rw down at (walked w i (omega (arith, configured.few)) (configured.packets.lines i inside)
       (λ a. has_name names a) (came_of rs) next
       (λ a. sym (has_as_name (named_in st) a) ∙ named_at at known a.slot a.cell.id.input) 0 next (opening w ranks)
-      (marked_in at.frozen) rs runs (omega arith) (omega arith)
+      (marked_in at.frozen) rs runs (omega arith) (simp length-replicate (omega arith))
       (λ t k e. rw e (search (arith, rules, came_in, came_of))) (rw down start))
 
   -- what was refused, by input
@@ -166,9 +164,8 @@ module _ (w : Switch) (ranks : List (List ℕ)) (configured : IsConfigured w ran
       (search (rules, all_in_range, all_arriving, configured.packets.inputs)) in
       let here : ℕ → ℕ = λ i. length (filter p (cells_in (unnamed names (coming i 0 next w.came)))) in
       let parts = kinds_summed (λ (c : Cell). c.id.input) here 0 ports (filter p lost)
-      (search (arith, rules, kept_has, all_of_has)) (λ i _ below. ap length
-      (filter_both (λ c. c.id.input == i) p lost ∙ tests_turned p (λ c. c.id.input == i) lost)
-      ∙ ap (λ (l : List Cell). length (filter p l)) (lost_here i (omega arith))) in
+      (search (arith, rules, kept_has, all_of_has)) (λ i _ below. let input = λ (c : Cell). c.id.input == i in
+      rw (filter_both input p lost, tests_turned p input lost, lost_here i (omega arith)) refl) in
       omega (arith, counted_flat p (λ i. unnamed names (coming i 0 next w.came)) (range_with_len 0 ports))
 
   abbrev counts : List Refused
@@ -198,9 +195,8 @@ module _ (w : Switch) (ranks : List (List ℕ)) (configured : IsConfigured w ran
       let once = each_pair Differ (named_in st) (arrivals_are at known).once in
       let run = recorded IsInputBest w.limits w.machines 0 _ _ _ rs runs in
       let in_slots = slots_of_figures IsInputBest w.machines ports _ _ _ (slots_in rs) run in
-      let numbered = limited_numbered w.limits w.machines 0 _ _ _ rs runs in
       let counted = names_counted (named_in st) rs once (named_at at known) in
-      search (arith, rules, sent_same at known, known, inputs_same, counted, output_same, figures_are_of)
+      search (rules, sent_same at known, known, inputs_same, counted, output_same, figures_are_of, limited_numbered)
 
   taken_same : at ≡ taken_of w st
   unfolding frozen_told state_of

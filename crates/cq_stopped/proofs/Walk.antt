@@ -3,10 +3,17 @@
 -- where its output has a limit, and the other cells of the packet are for the same output. So a walk over the arrivals
 -- that compares each with the mark before it ends, with the mark of the run: each packet is named whole or not at all,
 -- and the mark is that of the packet that began last. And what was refused slot by slot is what is not named.
-use Rattle.cq_stopped.proofs.Terms.{sum_by, sum_by-cons, rules, ◌≡◌, ℕ, zero, suc, ◌+◌, ◌<◌, eqb, Bool, true, false, List, [], ◌∷◌, length, Option, None, Some, refl, arith, length-append, map, and_parts, and_right, cases_Bool, cases_lt, eq-eqb, eqb-true, le-ltb, lt-leb, common_steps, map-append, filter-append, cons_option, filter, is_some, not, flat_map, arrival_at, Arrival, arriving, arriving_at, Cell, Queued, is_from, admitted_at, marks_kept, Marked, admission, held_after, mark_after, mark_at, marks_after, arriving_from, cells_refused, packets_refused, with_refused, Fabric, fabric_held, LimitedRecord, admissions_in, all_from_has, found_at, ComeBehind, IsLine, coming, has_limit, mark_on, has_name, Runs, Switch, is_named, key_of, Named, ArrivesIn, refused_here, where_up, Refused, is_between, one_comes, whole, cells_in, Name, filter_none, most_ports}
+use Rattle.cq_stopped.proofs.Terms.{fits_ok, after_input_ok, only_ok, came_to, Ok, ranking, Ranking, Machine, sum_by, sum_by-cons, rules, ◌≡◌, ℕ, zero, suc, ◌+◌, ◌<◌, eqb, Bool, true, false, List, [], ◌∷◌, length, Option, None, Some, refl, arith, length-append, map, and_parts, and_right, cases_Bool, cases_lt, eq-eqb, eqb-true, le-ltb, lt-leb, common_steps, map-append, filter-append, cons_option, filter, is_some, not, flat_map, arrival_at, Arrival, arriving, arriving_at, Cell, Queued, is_from, admitted_at, marks_kept, Marked, admission, held_after, mark_after, mark_at, marks_after, arriving_from, cells_refused, packets_refused, with_refused, Fabric, fabric_held, LimitedRecord, admissions_in, all_from_has, found_at, ComeBehind, IsLine, coming, has_limit, mark_on, has_name, Runs, Switch, is_named, key_of, Named, ArrivesIn, refused_here, where_up, Refused, is_between, one_comes, whole, cells_in, Name, filter_none, most_ports}
 use Rattle.cq_ideal.proofs.RestAtInput.{is_shown}
 use Rattle.cq_stopped.proofs.Ran.{came_in, came_of}
-use Rattle.cq_stopped.proofs.Queueing.{came_where}
+
+-- ## A cell came just where one arrives
+
+came_where : (ms : List Machine) (slot i : ℕ) (cells : List (Option Cell)) (ranks : List (List ℕ)) (r : Ranking) →
+    ranking ms slot i cells ranks ≡ Ok r → (k : ℕ) → is_some (came_to r.came k) ≡ is_some (arrival_at cells k)
+came_where ms slot i [] ranks r h k = grind (arith, common_steps, only_ok)
+came_where ms slot i (cell ∷ cells) ranks r h k =
+    search (arith, rules, after_input_ok, fits_ok, came_where ms slot (i + 1) cells)
 
 -- ## The mark of an input over one slot
 
@@ -79,8 +86,7 @@ module _ (w : Switch) (i : ℕ) (few : i < most_ports) (whole : IsLine (filter (
         Walks w i named end slot (mark_at f.marks i) last
         (cons_option (where_up (mark_at r.admission.marks i) (arrival_at (arriving w.came slot) i)) lost)
     unfolding admission
-    slot_more None none lt lost last follow here rest =
-        let same = none_comes_now i slot end w.came none in let moved = mark_is.1 in search (arith, rules, is_shown)
+    slot_more None none lt lost last follow here rest = search (arith, rules, is_shown, none_comes_now, mark_is)
     slot_more (Some cell) some lt lost last follow here rest =
         let same = one_comes_now i slot end w.came cell lt whole some in
         let at = found_at w.came slot i cell some in
@@ -97,11 +103,10 @@ module _ (w : Switch) (i : ℕ) (few : i < most_ports) (whole : IsLine (filter (
       search (rules, filter_none, is_between, all_from_has, lt-leb, and_right, le-ltb, cases_lt)
   walked slot (suc n) f g (r ∷ rs) run all many known follow =
       let step = run.1 in
-      let long : length run.0.marks ≡ length f.marks = grind (arith, common_steps, marks_kept) in
       let here = came_where w.machines slot 0 r.admission.cells f.state.ranks _ step.runs.arrive.ranked i in
       slot_more slot f run.0 r many step.admits step.marks (arriving_at w.came slot i) refl (omega arith) _ _ follow
-      (rw (known slot zero (omega arith)) here) (walked (slot + 1) n run.0 g rs run.2 (omega arith) (omega arith)
-      (λ t k e. known t (suc k) (omega arith)))
+      (rw (known slot zero (omega arith)) here) (walked (slot + 1) n run.0 g rs run.2 (omega arith)
+      (grind (arith, common_steps, marks_kept)) (λ t k e. known t (suc k) (omega arith)))
   walked slot _ f g _ run all many known follow = absurd run
 
 -- ## Cells, counted by input
