@@ -1,7 +1,7 @@
 -- Packets that are put together at all outputs in one pass. While some departures are left, each output stands where a
 -- walk over its own departures would stand (`SoFar`), with the packets of that walk in its bytes (`Walked`). One
 -- departure more goes on with the walk at its output, and passes by those at all others.
-use Rattle.cq_simulate.proofs.Terms.{cons_option, Has, append_assoc, all_from_has, rules, ◌≡◌, ◌≢◌, ℕ, ◌+◌, ◌<◌, ◌≤◌, All, List, [], ◌∷◌, ◌++◌, length, map, drop, get_or, set, Option, Some, None, refl, arith, suc, true, take, zero, cond, common_steps, IfSome, cases_eq, cond-true, cond-false, eq-eqb, ne_eqb, and_from, and_left, and_right, append-nil, get_or-set_other, get_or-set_same, length-set, unpacked, Departure, Captured, longest_body, rows_from, ports_of, Tables, ArePacked, HaveLeftOf, packets_out, CanBeJoined, IsEmptied, Took, left_with, records_of, Fits, piece_at, All-push, leaves_in_flow, left_in_flow, JoinerView, open_after, open_at, packet_at, PackedDeparture, written_with, OutPacket, PacketRow, ◌-◌, ◌*◌, flat_map, min, ◌==◌, range_with_len, Cell, cells, cell_of, arrivals, came_in_flow, AreTables, of_packet, Open, filter_none, JoinsOn, cells_above, AllFit, AllByRecursion, take-add, take_min, length-drop, div_ceil_times, take_all, length-rows_from, get_or_default}
+use Rattle.cq_simulate.proofs.Terms.{if◌then◌else◌, cons_option, Has, append_assoc, all_from_has, rules, ◌≡◌, ◌≢◌, ℕ, ◌+◌, ◌<◌, ◌≤◌, All, List, [], ◌∷◌, ◌++◌, length, map, drop, get_or, set, Option, Some, None, refl, arith, suc, true, take, zero, cond, common_steps, IfSome, cases_eq, cond-true, cond-false, eq-eqb, ne_eqb, and_from, and_left, and_right, append-nil, get_or-set_other, get_or-set_same, length-set, unpacked, Departure, Captured, longest_body, rows_from, ports_of, Tables, ArePacked, HaveLeftOf, packets_out, CanBeJoined, IsEmptied, Took, left_with, records_of, Fits, piece_at, All-push, leaves_in_flow, left_in_flow, JoinerView, open_after, open_at, packet_at, PackedDeparture, written_with, OutPacket, PacketRow, ◌-◌, ◌*◌, flat_map, min, ◌==◌, range_with_len, Cell, cells, cell_of, arrivals, came_in_flow, AreTables, of_packet, Open, filter_none, JoinsOn, cells_above, AllFit, AllByRecursion, take-add, take_min, length-drop, div_ceil_times, take_all, length-rows_from, get_or_default}
 unfoldable use Rattle.cq_base.specs.Pieces.{cells_of}
 use Rattle.cq_pcap.specs.Written.{written}
 use Rattle.cq_simulate.specs.declared.packing.Packing.{Packing}
@@ -28,35 +28,26 @@ module _ (t : Tables) (captures : List (List Captured)) (input : ℕ) (some : 0 
       (min t.cell_bytes (length (frame k) - m * t.cell_bytes)) (drop (m * t.cell_bytes) (frame k))
   pieces_more k m = grind (arith, common_steps, length-drop, take_min, take-add)
 
-  all_pieces : (k : ℕ) → pieces k (cells t captures input k) ≡ frame k
-  unfolding cells cells_of
-  all_pieces k = search (arith, rules, div_ceil_times (length (frame k)) t.cell_bytes some, take_all)
-
   -- what is open after the first cells of a packet, where some are left
   abbrev open_at_cell : ℕ → ℕ → Option Open
-  open_at_cell k zero = None
-  open_at_cell k (suc m) = Some (record { packet = k; taken = suc m; body = pieces k (suc m) })
+  open_at_cell k m = if m == 0 then None else Some (record { packet = k; taken = m; body = pieces k m })
 
   fits : (k m : ℕ) → Fits captures (open_at_cell k m) (cell_of t captures input k m)
-  unfolding cell_of
-  fits k zero = search (arith, rules, pieces_more k zero, all_pieces k)
-  fits k (suc m) = search (arith, rules, pieces_more k (suc m), all_pieces k)
+  unfolding cell_of cells cells_of
+  fits k m = search (arith, rules, pieces_more k m, div_ceil_times (length (frame k)) t.cell_bytes some, take_all)
 
   after_cell : (k m : ℕ) →
       open_after (open_at_cell k m) (cell_of t captures input k m) (piece_at captures (cell_of t captures input k m))
       ≡ cond (m + 1 == cells t captures input k) None (open_at_cell k (m + 1))
   unfolding cell_of
-  after_cell k zero = let none : 0 * t.cell_bytes ≡ 0 = omega arith in search (arith, rules, pieces_more k zero)
-  after_cell k (suc m) = search (arith, rules, pieces_more k (suc m))
+  after_cell k m = search (arith, rules, pieces_more k m)
 
   -- its cells from one on, and then others
   walk : (k : ℕ) (later : List Cell) → AllFit captures None later → (n m : ℕ) → 0 < n →
       m + n ≡ cells t captures input k →
       AllFit captures (open_at_cell k m) (map (cell_of t captures input k) (range_with_len m n) ++ later)
   walk k later go zero m some e = absurd (omega arith)
-  walk k later go (suc zero) m some e = search (arith, rules, fits k m, after_cell, eq-eqb, cond-true)
-  walk k later go (suc (suc n)) m some e =
-      search (arith, rules, fits k m, after_cell, ne_eqb, cond-false, walk k later go (suc n) (m + 1))
+  walk k later go (suc n) m some e = search (arith, rules, fits k m, after_cell, walk k later go n (m + 1))
 
   -- some packets, one after another
   all_fit : (ks : List ℕ) → AllFit captures None (flat_map (packet_cells t captures input) ks)
@@ -77,9 +68,8 @@ module _ (t : Tables) (captures : List (List Captured)) (input : ℕ) (some : 0 
 
 pub original_at : (place : ℕ) (ps : List Captured) (k : ℕ) (d : PacketRow) (e : Captured) → k < length ps →
     (get_or (rows_from place ps) k d).original ≡ (get_or ps k e).original
-original_at place [] k d e inside = absurd (omega arith)
-original_at place (p ∷ ps) zero d e inside = refl
 original_at place (p ∷ ps) (suc k) d e inside = original_at (place + 16 + length p.body) ps k d e (omega arith)
+original_at place ps k d e inside = grind (arith, common_steps)
 
 -- ## One after another
 

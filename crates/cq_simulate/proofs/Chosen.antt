@@ -9,16 +9,12 @@ use Rattle.cq_simulate.proofs.TakenUp.{goes_of, machines_many}
 module _ (MayChoose : Orders → Partners → Type 0)
     (is_stable : (o : Orders) (m : Partners) → MayChoose o m → IsStable o m)
     (limits : List (Option ℕ)) (ms : List Machine) (class_count : ℕ) where
-  stable_step : (slot : ℕ) (cells : List (Option Cell)) (f g : Marked Fabric) (r : LimitedRecord) →
-      LimitedFabricSlot MayChoose limits ms slot cells f r g → LimitedFabricSlot IsStable limits ms slot cells f r g
-  stable_step slot cells f g r step = search (arith, rules, is_stable)
-
   pub each_chosen : (slot : ℕ) (traffic : List (List (Option Cell))) (f g : Marked Fabric) (ideal : Marked IdealState)
       (rs : List LimitedRecord) → Stands limits ms class_count slot traffic f ideal →
       LimitedFabricRun MayChoose limits ms slot traffic f rs g → AreChosen MayChoose rs × AlwaysHasSlack rs
   each_chosen slot [] f g ideal [] s run = (tt, tt)
   each_chosen slot (cells ∷ traffic) f g ideal (r ∷ rs) s (next, is, rest) =
-      let step = stable_step slot cells f next r is in
+      let step : LimitedFabricSlot IsStable limits ms slot cells f r next = search (arith, rules, is_stable) in
       let one = same_limited_slot limits ms slot class_count cells f next ideal r s.agrees s.come.0 step in
       let come : AreForPorts (length f.state.inputs) class_count r.admission.cells =
       search (arith, rules, admission_for_ports) in
@@ -32,12 +28,9 @@ module _ (MayChoose : Orders → Partners → Type 0)
   module _ (came : List Arrival) (ports : ℕ) (ranks : List (List ℕ)) (slots : ℕ) (rs : List LimitedRecord)
       (end : Marked Fabric) (traffic : IsTraffic ports class_count came) (run : LimitedFabricRun MayChoose limits ms 0
       (first_slots came slots) (empty_limited_fabric ports ranks) rs end) where
-    stands : Stands limits ms class_count 0 (first_slots came slots) (empty_limited_fabric ports ranks)
-        (empty_limited ports ranks)
-    stands = begin limits ms class_count ports ranks _ (slots_fit ports class_count came 0 slots traffic)
-
     pub first_chosen : AreChosen MayChoose rs × AlwaysHasSlack rs
-    first_chosen = each_chosen 0 _ _ end (empty_limited ports ranks) rs stands run
+    first_chosen = each_chosen 0 _ _ end (empty_limited ports ranks) rs
+        (begin limits ms class_count ports ranks _ (slots_fit ports class_count came 0 slots traffic)) run
 
 -- ## A run in parts
 
@@ -55,33 +48,23 @@ module _ (t : Tables) (captures : List (List Captured)) (are : AreTables t)
     parted_best = grind (arith, common_steps, first_chosen, traffic_there)
 
     pub parted_slack : AlwaysHasSlack parted.records
-    parted_slack =
-        (first_chosen IsInputBest (λ o m h. h.stable) _ _ _ w.came _ _ _ _ _ traffic_there parted.runs).1
+    parted_slack = (first_chosen IsInputBest (λ o m h. h.stable) _ _ _ _ _ _ _ _ _ traffic_there parted.runs).1
 
   -- and those from a state that was taken up
   module _ (from : Taken) (kept : Kept) (up : CanBeTakenUp w from) (resumed : IsResumed w from kept) where
-    abbrev rs : List LimitedRecord
-    rs = resumed.records
+    resumed_both : AreInputBest resumed.records × AlwaysHasSlack resumed.records
+    resumed_both =
+        let on = goes_of t (schedule_of t captures) from up (traffic_is t captures are many) in
+        let rs = resumed.records in
+        let beside : Marked IdealState =
+        record { state = ideal_of (fabric_in from.frozen); marks = from.frozen.marks } in
+        each_chosen IsInputBest (λ o m h. h.stable) _ _ (classes_of t.setup) from.frozen.next
+        (arriving_from w.came from.frozen.next (length rs)) (marked_in from.frozen) resumed.end beside rs
+        (search (arith, rules, agrees_of, slots_fit, traffic_there, on.ports.lists, on.sound))
+        (rw (take_all (length rs) rs (omega arith)) at resumed.runs.after)
 
-    abbrev to_run : List (List (Option Cell))
-    to_run = arriving_from w.came from.frozen.next (length rs)
+    pub resumed_best : AreInputBest resumed.records
+    resumed_best = resumed_both.0
 
-    goes : GoesOn w from.frozen
-    goes = goes_of t (schedule_of t captures) from up (traffic_is t captures are many)
-
-    abbrev beside : Marked IdealState
-    beside = record { state = ideal_of (fabric_in from.frozen); marks = from.frozen.marks }
-
-    stands_on : Stands w.limits w.machines (classes_of t.setup) from.frozen.next to_run (marked_in from.frozen) beside
-    stands_on =
-        search (arith, rules, agrees_of, slots_fit, traffic_there, goes.ports.lists, goes.sound)
-
-    run_there : LimitedFabricRun IsInputBest w.limits w.machines from.frozen.next to_run (marked_in from.frozen) rs
-        resumed.end
-    run_there = rw (take_all (length rs) rs (omega arith)) at resumed.runs.after
-
-    pub resumed_best : AreInputBest rs
-    resumed_best = (each_chosen IsInputBest (λ o m h. h.stable) _ _ _ _ _ _ _ _ _ stands_on run_there).0
-
-    pub resumed_slack : AlwaysHasSlack rs
-    resumed_slack = (each_chosen IsInputBest (λ o m h. h.stable) _ _ _ _ _ _ _ _ _ stands_on run_there).1
+    pub resumed_slack : AlwaysHasSlack resumed.records
+    resumed_slack = resumed_both.1

@@ -83,8 +83,7 @@ module _ {t : Tables} {captures : List (List Captured)} {sent : List Departure} 
   pub departed_captured : IsCaptured captures d.queued.cell
   unfolding cell_of cells
   departed_captured =
-      let all = all_cells t captures (λ a. IsCaptured captures a.cell) (search (arith, rules, piece_begins)) in
-      subst (IsCaptured captures) it.own (all_of_has (λ a. IsCaptured captures a.cell) came it.arrival all it.has)
+      search (arith, rules, it, all_cells t captures (λ a. IsCaptured captures a.cell), piece_begins, all_of_has)
 
   pub departed_class : d.queued.cell.class < length t.setup.classes
   departed_class = rw it.own at is_in_range.class

@@ -153,17 +153,15 @@ module _ (P : Cell → Type 0) where
   all_refused : (marks : List Bool) (cells : List (Option Cell)) → AllByRecursion P (present cells) →
       AllByRecursion P (refused marks cells)
   all_refused [] cells all = tt
-  all_refused (mark ∷ marks) [] all = tt
-  all_refused (mark ∷ marks) (cell ∷ cells) all = grind (arith, common_steps, all_refused marks cells)
+  all_refused (mark ∷ marks) cells all = grind (arith, common_steps, all_refused marks)
 
   pub all_judged : (limits : List (Option ℕ)) (marks : List Bool) (traffic : List (List (Option Cell)))
       (admissions : List Admission) → AreJudged limits marks traffic admissions →
       AllByRecursion (λ cells. AllByRecursion P (present cells)) traffic → AllByRecursion P (refused_in admissions)
   unfolding admission
-  all_judged limits marks [] admissions judged all = grind (arith, common_steps)
-  all_judged limits marks (cells ∷ traffic) [] judged all = absurd judged
   all_judged limits marks (cells ∷ traffic) (a ∷ admissions) judged all =
       grind (arith, common_steps, all_refused, all_judged limits a.marks traffic admissions judged.1 all.1)
+  all_judged limits marks traffic admissions judged all = grind (arith, common_steps)
 
   pub all_arriving : (came : List Arrival) → AllByRecursion (λ a. P a.cell) came → (t : ℕ) →
       AllByRecursion P (present (arriving came t))
@@ -176,8 +174,7 @@ module _ (P : Cell → Type 0) where
   unfolding whole_limited_run arriving_from
   refused_came limits ms came old ran is all =
       let n = slots_of_limited_run limits ms came old in
-      all_judged limits old.marks (map (arriving came) (range_with_len 0 n)) ran.admissions
-      (judged limits ms 0 (map (arriving came) (range_with_len 0 n)) old ran is)
+      all_judged limits old.marks _ ran.admissions (judged limits ms 0 _ old ran is)
       (all_in_range (λ cells. AllByRecursion P (present cells)) came 0 n (all_arriving came all))
 
 module _ (t : Tables) (captures : List (List Captured)) (tables : AreTables t)
@@ -210,11 +207,8 @@ module _ (t : Tables) (captures : List (List Captured)) (tables : AreTables t)
         let runs = runnable t.setup came tables.setup (traffic_is t captures tables many) in
         let packets : (input : ℕ) → input < most_ports → AreOfPackets 0 (came_at input came) =
         search (arith, rules, come_in_order, packets_come t captures) in
-        let parted = λ (input : ℕ) (inside : input < length captures).
-        let few : input < most_ports = omega arith in
-        each_leaves_or_is_refused t.limits (machines_of t.setup) ports (openings_of t.setup) came ran runs is input few
-        (packets input few) in
-        search (arith, rules, each_once, left, lost, all_once, refuses_none_elsewhere, keep_output)
+        let parted = each_leaves_or_is_refused t.limits (machines_of t.setup) ports _ came ran runs is in
+        search (arith, rules, each_once, left, lost, all_once, refuses_none_elsewhere, keep_output, parted, packets)
 
 pub each_packet_once : (t : Tables) (captures : List (List Captured)) (rs : List LimitedRecord) → AreTables t →
     length captures ≡ ports_of t.setup → IsFabricRun t (arrivals t captures) rs →

@@ -35,9 +35,8 @@ length-cons_option o ts = grind (arith, common_steps)
 module _ (slot phase : ℕ) where
   one_taken : (i : ℕ) (p : Option ℕ) (xs : List Queued) → length
       (cons_option (noted slot phase i xs p) []) + length (list_taken p xs) ≤ length xs
-  one_taken i None xs = omega arith
-  one_taken i (Some j) [] = omega arith
-  one_taken i (Some j) (x ∷ xs) = search (arith, rules, one_taken i (Some j) xs)
+  one_taken i p [] = grind (arith, common_steps)
+  one_taken i p (x ∷ xs) = search (arith, rules, one_taken i p xs)
 
   module _ (m : Partners) (f g : Fabric) (step : Transfers m f g) where
     some_cross : (a n : ℕ) → length (filter_map (λ i. noted slot phase i (input f i) (partner_of m i))

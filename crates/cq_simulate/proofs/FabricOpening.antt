@@ -76,8 +76,7 @@ module _ {t : Tables} {s : Scheduled} {first : EngineView} {sent : RoomView Depa
       IsParted (switch_of t s) (openings_of t.setup) slots
       (record { frozen = frozen; sent = sent_new.items; note = note_new.items })
   parted_of has is =
-      let all = rw made.fresh.fresh at has in
-      rw is (search (arith, rules, made.fresh.machines, machines_many))
+      let all = rw made.fresh.fresh at has in search (arith, rules, made.fresh.machines, machines_many)
 
 -- What a run says that goes on from where a run was taken up: what it kept, or the tag fault at which it stops.
 
@@ -92,5 +91,4 @@ module _ (t : Tables) (s : Scheduled) (first : EngineView) (taken : Taken)
 
   pub resumed_fault : (why : RunRefusal) → IsRefusalOn (map machine_from first.fixed) s.came first why →
       IsResumeFault (switch_of t s) taken why
-  resumed_fault (refusal.Tag fault) stop = grind (arith, common_steps)
-  resumed_fault refusal.NoMemory stop = tt
+  resumed_fault why stop = search (arith, rules)

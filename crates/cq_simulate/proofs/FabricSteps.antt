@@ -25,8 +25,7 @@ slots_kept : (s t : ℕ) → s ≤ t → (came : List Arrival) (n : ℕ) →
     arriving_from (to_come s came) t n ≡ arriving_from came t n
 unfolding arriving_from
 slots_kept s t le came zero = refl
-slots_kept s t le came (suc n) =
-    cc (arriving_kept s t le came most_ports refl, slots_kept s (t + 1) (omega arith) came n)
+slots_kept s t le came (suc n) = search (arith, rules, arriving_kept s, slots_kept s (t + 1) (omega arith) came n)
 
 -- ## How many
 
@@ -134,10 +133,9 @@ module _ {whole : Bool} {ms : List Machine} {came : List Arrival} {first : Engin
       after.limits ≡ now.limits → after.stopped ≡ false →
       WentOn ms came first after first_sent sent_new first_note note_new (c.records ++ rs)
   went_on k rs {after} many run kept limits running =
-      let all = arriving_parts came first.next slot (length c.records) k in
       let on = all_go_on (LimitedFabricSlot IsInputBest first.limits ms) (IsLimitedFault first.limits ms) in
       let both = kept_both (kept_with first first_sent first_note) first.next slot c.records rs c.long in
-      search (arith, rules, arriving_length, length-append)
+      search (arith, rules, arriving_length, length-append, arriving_parts came first.next slot (length c.records) k)
 
 -- Stretches of slots that the fabric skips. What is known before the first of them is known after the last: none sends
 -- a cell, moves or refuses one, or changes a figure, and the ideal switch beside it holds as many cells as before.
@@ -170,9 +168,7 @@ module _ {whole : Bool} (M : List ℕ → Machine) {came : List Arrival} {first 
       let nothing = kept_quiet ms (ports_of now) now.marks (kept_with now sent note) k slot now.fabric.ranks in
       let went = went_on c k rs {after = new} {sent_new = sent} {note_new = note} many run (cc) rested.limits
       rested.running in
-      let ahead = λ (m : ℕ). take-append-le m c.records rs in
-      let cut = cases_lt slot next in
-      search (arith, rules, length-append, c.lists, c.buffers, less.to, less.from, more, cut, c.going, ahead, c.counts)
+      search (arith, rules, length-append, c.lists, c.buffers, less.to, less.from, more, c.going, c.counts)
 
 -- The run, which began there and is to its end or not, stands at this slot, which is to be run.
 pub record Stands (whole : Bool) (end : ℕ) (M : List ℕ → Machine) (came : List Arrival) (first : EngineView)
@@ -219,17 +215,15 @@ module _ {whole : Bool} {end : ℕ} {M : List ℕ → Machine} {came : List Arri
       let cells = arriving came slot in
       let ms = map M first.fixed in
       let classes = class_count ms in
-      let p = ports_of first in
       let f = marked_fabric now in
       let g = marked_fabric after in
       let same_machines : map M now.fixed ≡ ms = ap (map M) c.made.fixed in
       let r = done.record_of in
-      let admitted = r.admission.cells in
       let step : LimitedFabricSlot IsInputBest first.limits ms slot cells f r g =
       rw (are, same_machines, c.went.limits) at done.is_slot in
       let stable = stable_limited_slot ms first.limits slot cells f g r step in
       let come : AreForPorts (length now.fabric.inputs) classes cells = rw c.ports for_ports in
-      let admitted_come : AreForPorts (length now.fabric.inputs) classes admitted =
+      let admitted_come : AreForPorts (length now.fabric.inputs) classes r.admission.cells =
       search (arith, rules, admission_for_ports) in
       let alike = same_limited_slot first.limits ms slot classes cells f g c.ideal r c.agrees come stable in
       let of_slot : LimitedSent = record { admission = r.admission; gone = r.of_slot.gone; after = alike.next } in
@@ -238,7 +232,6 @@ module _ {whole : Bool} {end : ℕ} {M : List ℕ → Machine} {came : List Arri
       let went = went_on c 1 (r ∷ []) {after = after} {sent_new = sent_new} {note_new = note_new} refl (g, step, refl)
       (cc (departures_one slot r.of_slot, transfers_one r.of_slot, append-nil r.admission.refused)) made.limits
       running in
-      let ports = limited_ports_kept first.limits ms slot classes cells f g c.ideal r c.agrees come stable in
       let lists = limited_lists_kept first.limits ms slot cells f g r stable in
       let held = limited_outputs_kept first.limits ms slot cells f g r stable in
       let same = λ (m : ℕ). take-append-le m c.records (r ∷ []) in
@@ -247,7 +240,7 @@ module _ {whole : Bool} {end : ℕ} {M : List ℕ → Machine} {came : List Arri
       let wait_there = all_wait (slot + 1) after.fabric alike.next.state alike.agrees.states in
       let proposed = slot_proposed step.runs c.agrees.states admitted_come (omega (arith, same_ports)) in
       let lost = r.admission.refused in
-      let to_count = p + come_count (arriving_from came (slot + 1) n) in
+      let to_count = ports_of first + come_count (arriving_from came (slot + 1) n) in
       let counts = counts_fit lost to_count (length lost) now.refused (search (arith, rules, c.counts)) (omega arith) in
       search (arith, rules, numbers, c.lists, c.few, held, lists, arrives_found came, same, goes, cross_few)
 
@@ -261,8 +254,7 @@ module _ {whole : Bool} {end : ℕ} {M : List ℕ → Machine} {came : List Arri
       let ms = map M first.fixed in
       let all = arriving_parts came first.next slot (length c.records) (suc j) count (sym c.long) (omega arith) in
       let on = all_go_on (LimitedFabricSlot IsInputBest first.limits ms) (IsLimitedFault first.limits ms) in
-      let long = arriving_length came first.next (length c.records) in
-      record { records = c.records ++ []; stops = search (arith, rules, on.stop, arriving_here, slot_err) }
+      record { records = c.records ++ []; stops = search (rules, on.stop, arriving_here, slot_err, arriving_length) }
 
 -- ## To the slot that is run next
 
@@ -275,7 +267,6 @@ module _ (M : List ℕ → Machine) {came : List Arrival} {end : ℕ} {first : E
       Stands true end M came first first_sent first_note next (end - (next + 1)) new sent note
   run_stands runs {next} {new} more late quiet rested =
       let empty = empty_beside slot now.fabric runs.ideal.state runs.agrees.states in
-      let some : 0 < end - slot = search (arith, rules, empty, runs.few, cases_lt 0 (end - slot), more) in
       search (arith, rules, crossing_rest M runs rested (suc (end - (next + 1))), cases_lt slot next, quiet)
 
   -- in a run up to a slot those in which nothing comes are skipped, if any are

@@ -4,7 +4,7 @@
 use Rattle.cq_simulate.proofs.Terms.{get_or_past, common_steps, rules, cond, filter, filter-append, Bool, ◌≡◌, ℕ, zero, suc, ◌+◌, ◌<◌, ◌≤◌, List, [], ◌∷◌, ◌++◌, length, map, refl, arith, flat_map, range_with_len, cases_lt, ne_eqb, Arrival, arriving, traffic_of, Cell, cells_above, at_input, traffic_is, arrivals, arrivals_at, arrivals_of, cell_of, cells, IsTraffic, come_in_order, AreOfPackets, cells_at, Captured, AreTables, ports_of, Tables, arrivals_for, map-append, true, flat_map-append, ◌&&◌, ◌==◌, Departure, came_in_flow, is_from, packet_at, packets_of, route, LeftInOrder, LeftInPackets, of_packet, filter_none, all_weaker, filter_both, filter_agree, cases_eq, min}
 use Rattle.std.proofs.lemmas.Simd.{map-map}
 use Rattle.cq_simulate.proofs.Runnable.{later_rise}
-use Rattle.cq_simulate.proofs.Tallies.{one_is}
+use Rattle.cq_simulate.proofs.Tallies.{filter_images, one_is}
 use Rattle.cq_cells.specs.Traffic.{IsInRange}
 
 -- where all pass a test or none does
@@ -108,8 +108,7 @@ module _ (t : Tables) (captures : List (List Captured)) (input : ℕ) where
 
   pub flow_in_line : (c j : ℕ) (came : List Arrival) → came_in_flow input c j came
       ≡ filter (in_flow c j) (map (λ (a : Arrival). a.cell) (filter (is_from input) came))
-  flow_in_line c j [] = refl
-  flow_in_line c j (a ∷ came) = grind (arith, common_steps, flow_in_line c j came)
+  flow_in_line c j came = search (rules, filter_images, filter_both, filter_agree)
 
   -- what comes to the input, and nothing to what is none
   module _ (are : AreTables t) (many : length captures ≡ ports_of t.setup) where
@@ -134,6 +133,5 @@ module _ (t : Tables) (captures : List (List Captured)) (input : ℕ) where
       left = λ c j.
           let n = length (packets_of captures input) in
           let kept = by_packet t captures input (λ cell. some.is_taken cell.id.packet) some.is_taken (λ k m. refl) in
-          let each = each_alone (goes_in c j) some.is_taken 0 n 0 n (omega arith) (omega arith) in
-          search (arith, rules, some.left c j, flow_is c j, parts_of, kept, each);
+          search (arith, rules, some.left, flow_is, parts_of, kept, each_alone (goes_in c j) some.is_taken 0 n 0 n);
     }

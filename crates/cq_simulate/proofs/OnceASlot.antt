@@ -14,15 +14,13 @@ AreNumbered n (r ∷ rs) = (r.slot ≡ n) × AreNumbered (n + 1) rs
 none_sent : (gone : List (Option Queued)) (j : ℕ) → list_any is_some gone ≡ false →
     is_some (slice_index_or gone j None) ≡ false
 none_sent [] j none = refl
-none_sent (o ∷ gone) zero none = grind (arith, common_steps)
-none_sent (o ∷ gone) (suc j) none = grind (arith, common_steps, none_sent gone j)
+none_sent (o ∷ gone) j none = grind (arith, common_steps, none_sent gone)
 
 run_numbered : (ms : List Machine) (slot : ℕ) (traffic : List (List (Option Cell))) (f g : Fabric)
     (rs : List SlotRecord) → FabricRun IsInputBest ms slot traffic f rs g → AreNumbered slot rs
-run_numbered ms slot [] f g rs run = grind (arith, common_steps)
-run_numbered ms slot (cells ∷ traffic) f g [] run = absurd run
 run_numbered ms slot (cells ∷ traffic) f g (r ∷ rs) run =
     (run.1.numbered, run_numbered ms (slot + 1) traffic run.0 g rs run.2)
+run_numbered ms slot traffic f g rs run = grind (arith, common_steps)
 
 pub limited_numbered : (limits : List (Option ℕ)) (ms : List Machine) (slot : ℕ) (traffic : List (List (Option Cell)))
     (f g : Marked Fabric) (rs : List LimitedRecord) → LimitedFabricRun IsInputBest limits ms slot traffic f rs g →

@@ -57,22 +57,20 @@ begun n (x ∷ xs) are a has other = search (arith, rules, eqb-true, cases_eq, b
 
 -- ## The last by slot
 
-abbrev later_one : Arrival → Arrival → Arrival
-later_one a b = if nat_lt a.slot b.slot then b else a
-
 pub record IsLatest (xs : List Arrival) (g : Arrival) : Type 0 where
   pub has : Has xs g
   pub after : (y : Arrival) → Has xs y → y.slot ≤ g.slot
 
-latest_on : (x : Arrival) (xs : List Arrival) → IsLatest (x ∷ xs) (fold later_one x xs)
-latest_on x [] = grind (arith, common_steps)
+latest_on : (x : Arrival) (xs : List Arrival) → (g : Arrival) × (latest (x ∷ xs) ≡ Some g) × IsLatest (x ∷ xs) g
+latest_on x [] = (x, refl, search (arith, rules))
 latest_on x (z ∷ zs) =
-    let it = latest_on (later_one x z) zs in
-    grind (arith, common_steps, lt-ltb, le-ltb, cases_lt, it.after (later_one x z))
+    let later = if nat_lt x.slot z.slot then z else x in
+    let it = latest_on later zs in
+    (it.0, it.1, grind (arith, common_steps, lt-ltb, le-ltb, cases_lt, it.2.after later))
 
 pub latest_is : (xs : List Arrival) (y : Arrival) → Has xs y → (g : Arrival) × (latest xs ≡ Some g) × IsLatest xs g
 latest_is [] y has = absurd has
-latest_is (x ∷ xs) y has = (fold later_one x xs, refl, latest_on x xs)
+latest_is (x ∷ xs) y has = latest_on x xs
 
 -- ## Before a slot, and from it on
 
@@ -155,22 +153,15 @@ module _ (w : Switch) (s : State) (i : ℕ) where
 
       one_answer : (f : Arrival) → Has before f → f.cell.id.index ≡ 0 → OneAnswer f
       one_answer f has begins =
-          let at_line = kept_has (is_early s.head.next) line f has in
           let all = packet_before w.came s.head.next f in
           let said = all_has (λ (a : Arrival). a.cell.id.index ≡ 0 → a.slot < s.head.next
           → AllNamed s (packet_before w.came s.head.next a)
-          ⊎ (NoneNamed s (packet_before w.came s.head.next a) × HasLimit w.limits a.cell.output)) w.came f whole
-          (kept_has _ w.came f at_line.0).0 begins (ltb-true f.slot s.head.next at_line.1) in
+          ⊎ (NoneNamed s (packet_before w.came s.head.next a) × HasLimit w.limits a.cell.output)) w.came f whole in
           let is = λ (yes_ : Bool). all_has (λ (b : Arrival). is_told b ≡ yes_) all in
-          grind (arith, common_steps, is true, is false, in_packet f f has has)
+          grind (arith, common_steps, said, kept_has, ltb-true, is true, is false, in_packet f f has has)
 
       pub alike : (a b : Arrival) → Has before a → Has before b → packet a ≡ packet b → is_told a ≡ is_told b
-      alike a b first second same =
-          let it = begun 0 before packets_parted.0 a first (λ none. omega arith) in
-          search (arith, rules, one_answer it.0, in_packet)
-
-      rise : EachPair Rises before
-      rise = both_rise 0 before (pairs_kept IsEarlier (is_early s.head.next) line rising) packets_parted.0
+      alike a b first second same = search (arith, rules, one_answer, in_packet, begun 0 before packets_parted.0 a)
 
       -- the packet that goes on is named exactly where the mark is down
       pub mark_says : (a : Arrival) → Has before a → packet a + 1 ≡ begin_from →
@@ -185,7 +176,8 @@ module _ (w : Switch) (s : State) (i : ℕ) where
           let first : Has before g × (g.cell.id.index ≡ 0) =
           search (arith, rules, kept_has, and_parts, eqb-true, ltb-true, has_kept) in
           let high = all_of_has _ before g (within 0 0 before (omega arith) packets_parted.0).1 first.0 in
-          let low : packet f ≤ packet g = search (arith, rules, packet, pair_of_has, rise, found.2.after f there) in
+          let low : packet f ≤ packet g =
+          search (arith, rules, packet, pair_of_has, both_rise 0 before, pairs_kept, found.2.after f there) in
           search (arith, rules, any_alike is_told (is_told g), in_packet, one_answer g, alike g a)
 
       -- ## Together
@@ -205,9 +197,6 @@ module _ (w : Switch) (s : State) (i : ℕ) where
             search (arith, rules, within begin_from, packets_behind, all_from_has, all_of_has, as_taken, mark_says)
 
 -- ## Arrivals that rise by slot
-
-arrival_is : (a b : Arrival) → a.slot ≡ b.slot → a.cell ≡ b.cell → a ≡ b
-arrival_is a b e g = λ k. record { slot = e k; cell = g k }
 
 -- the arrivals at an input rise
 pub line_rises : (came : List Arrival) → AllPairs IsLater came → (i : ℕ) → EachPair IsEarlier (line_at i came)
@@ -233,10 +222,6 @@ no_first (x ∷ xs) ys none = absurd (let P : ⊥ = cc in P)
 -- the arrival of a queued cell
 abbrev pub as_arrival : Queued → Arrival
 as_arrival q = record { slot = q.key.slot; cell = q.cell }
-
-none_later : (xs : List Queued) → EachPair IsBefore xs → EachPair NoLater xs
-none_later [] rising = tt
-none_later (x ∷ xs) rising = grind (arith, common_steps, all_weaker, key_laws.one_way, none_later xs rising.1)
 
 module _ (w : Switch) (s : State) (in_range : IsInRange s) (shape : HasShape w s) (sound : IsSound w s)
     (traffic : IsTraffic (length w.machines) w.classes w.came) where
@@ -345,12 +330,11 @@ module _ (w : Switch) (s : State) (in_range : IsInRange s) (shape : HasShape w s
     waits_earlier q r first second before =
         let a = waits q first in
         let b = waits r second in
-        let low = slot_is a.0 q a.2 in
-        let high = slot_is b.0 r b.2 in
-        let back : r.key.slot < q.key.slot → IsBefore r q = λ less. search (arith, rules, in_order, ahead, one_flow) in
+        let back : r.key.slot < q.key.slot → IsBefore r q = λ less.
+        search (arith, rules, in_order, ahead, one_flow, slot_is) in
         let same : q.key.slot ≡ r.key.slot → q ≡ r = λ slots.
         let inputs = (name_in_flow a.0 q a.2).0 ∙ sym (name_in_flow b.0 r b.2).0 in
-        let names = one_name a.0 b.0 a.1 b.1 (omega arith) inputs in cc in
+        let names = one_name a.0 b.0 a.1 b.1 (omega (arith, slot_is a.0 q a.2, slot_is b.0 r b.2)) inputs in cc in
         grind (arith, common_steps, back, same, cases_lt, key_laws.one_way, key_laws.never_itself)
 
     waiting_rise : EachPair Earlier waiting
@@ -389,19 +373,17 @@ module _ (w : Switch) (s : State) (in_range : IsInRange s) (shape : HasShape w s
     one_of_names : (n : Named) (q : Queued) → Has names n → InFlow n q → Has told (as_arrival q)
     one_of_names n q has of =
         let it = found_at w.came n.slot n.input q.cell (is_cell_of w.came n q of.is).arrives in
-        let all = comes w s in_range shape sound traffic n has in
-        search (arith, rules, slot_is, and_from, and_parts, is_kind, eq-eqb, any_has, has_kept, lt-ltb)
+        search (arith, rules, slot_is, and_from, and_parts, is_kind, eq-eqb, any_has, has_kept, lt-ltb, comes w)
 
     from_told : (x : Arrival) → Has told x → IsOne x
     from_told x has = grind (arith, common_steps, kept_has, early_of, line_at, is_early, ltb-true)
 
     has_told : (x : Arrival) → Has (map as_arrival (gone ++ waiting)) x → Has told x
     has_told x has =
-        let image = image_has as_arrival (gone ++ waiting) x has in
         let sent = λ (q : Queued) (d : Sent) (has : Has s.sent d). one_of_names d.cell q
         (has_right (queued_in s) _ d.cell (has_image (λ (d : Sent). d.cell) s.sent d has)) in
         let named = queued_named w s in_range shape sound traffic in
-        search (arith, rules, has_cases gone waiting image.0 image.1, was_sent, sent, waits, one_of_names, named)
+        search (arith, rules, image_has, has_cases, was_sent, sent, waits, one_of_names, named)
 
     -- an arrival is the only one of its slot and input
     one_arrival : (a x : Arrival) → Has w.came a → Has w.came x → a.slot ≡ x.slot → a.cell.id.input ≡ x.cell.id.input →
@@ -437,7 +419,7 @@ module _ (w : Switch) (s : State) (in_range : IsInRange s) (shape : HasShape w s
         let q : Queued = record { cell = x.cell; key = key_of n } in
         let of : InFlow n q = search (arith, rules, and_parts, eqb-true, is_kind, same) in
         let is = has_image as_arrival (gone ++ waiting) q in
-        search (arith, rules, is, arrival_is, has_right, among_listed, among_buffered, has_cases, has_left, among_gone)
+        search (arith, rules, is, has_right, among_listed, among_buffered, has_cases, has_left, among_gone)
 
     told_rises : EachPair IsEarlier told
     told_rises = grind (arith, common_steps, pairs_kept, IsEarlier, early_of, line_at, is_early, line_rises)
@@ -466,7 +448,8 @@ module _ (w : Switch) (s : State) (in_range : IsInRange s) (shape : HasShape w s
       pub stands_there : Stands m (slice_index_or (ideal_of f).ranks j []) s.head.next 0 there
       unfolding fabric_told
       stands_there =
-          let all = agrees in search (rules, ports_are, Stands, none_later, all_from_has, HasWaited, has_waited)
+          let rising = pairs_with IsBefore NoLater (Has there) in
+          search (rules, agrees, ports_are, Stands, rising, key_laws.one_way, all_from_has, has_waited)
 
   -- ## A run that goes on
 
@@ -587,22 +570,19 @@ module _ (w : Switch) (s : State) (in_range : IsInRange s) (shape : HasShape w s
 
         at_port : j < ports → left_in_flow i c j kept.sent ≡ filter takes_cell (came_in_flow i c j w.came)
         at_port inside =
-            let together = agrees in
-            let all = many_are in
             let ranks = ap (λ (l : List (List ℕ)). length l) agrees.ranks in
+            let all = many_are in
             let flow = flow_on w.limits w.machines next slots beside ran ideal_alike.ran stand over i (begin_from w s i)
-            late_packets c j (runs.machines j inside) (omega arith) (omega arith)
+            late_packets c j (runs.machines j inside) (omega (arith, agrees.ports)) (omega arith)
             (stands_there i c j (omega arith) (classes j inside)) (of_classes j) in
             grind (arith, common_steps, left_is, flow, append_assoc, told_flow i c j, flow_late, takes_parts)
 
         elsewhere : ports ≤ j → left_in_flow i c j kept.sent ≡ filter takes_cell (came_in_flow i c j w.came)
         elsewhere past =
-            let lists = agrees.ports in
-            let all = many_are in
             let none = none_came w.machines ports i c j w.came runs.for_switch past in
             let ideal_runs = is_run_of w.limits w.machines next slots beside ran ideal_alike.ran in
             let none_left = no_port w.machines i c j _ next (ideal_of f) _ ideal_runs in
-            grind (arith, common_steps, left_is, takes_parts, told_flow i c j, no_first, none_left)
+            grind (arith, common_steps, left_is, takes_parts, told_flow i c j, no_first, none_left, agrees, many_are)
 
       pub leaves_in_order : LeftInOrder w.came i kept.sent
       leaves_in_order = record { is_taken = takes; left = λ c j. search (arith, rules, at_port, elsewhere, cases_lt) }

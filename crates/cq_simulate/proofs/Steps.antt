@@ -18,8 +18,7 @@ use Rattle.cq_ideal.proofs.LimitedParts.{behind, limited_parts, limited_stays_em
 all_once : (marks : List Bool) (cells : List (Option Cell)) →
     length (present (admitted marks cells)) + length (refused marks cells) ≡ length (present cells)
 all_once [] cells = omega arith
-all_once (mark ∷ marks) [] = refl
-all_once (mark ∷ marks) (cell ∷ cells) = let rest = all_once marks cells in grind (arith, common_steps)
+all_once (mark ∷ marks) cells = grind (arith, common_steps, all_once marks)
 
 -- each cell is admitted or refused, and a slot is one without limits of what is admitted
 pub record OfAdmitted (slot : ℕ) (cells : List (Option Cell)) (old : Marked IdealState) (of_slot : LimitedSent) : Type
@@ -77,8 +76,7 @@ pub running_first : (ms : List Machine) (came : List Arrival) (first : IdealSwit
 unfolding limited_run arriving_from departures_of
 running_first ms came first sent n ready all_left =
     let all = come_count-traffic_of came in
-    let begun : limited_run first.limits ms 0 (first_slots came 0) (marked_state first)
-    ≡ Ok (record { admissions = []; gone = []; after = marked_state first }) = refl in
+    let begun : limited_run first.limits ms 0 (first_slots came 0) (marked_state first) ≡ Ok _ = refl in
     let counts = zero_fits (length first.fixed + come_count (arriving_from came 0 n)) first.limits in
     search (arith, rules, all_slots, come_for-traffic_of, enough_are, length-replicate, get_or-replicate, waiting-empty)
 
@@ -107,8 +105,7 @@ module _ {ms : List Machine} {came : List Arrival} {first : IdealSwitch} {first_
       departures_limited (limited_run first.limits ms 0 (traffic_of came) (marked_state first)) ≡ Ok sent.items
   unfolding traffic_of arriving_from
   at_end over =
-      let none = none_waits now.state.lists over.1 in
-      let rest = limited_stays_empty first.limits ms came n slot (marked_state now) over.0 none in
+      let rest = limited_stays_empty first.limits ms came n slot (marked_state now) over.0 (none_waits _ over.1) in
       let all = arriving_parts came 0 slot slot n (enough came) (omega arith) (sym r.left) in
       let sent_all = departures_append 0 slot r.ran.gone rest.ran.gone (omega arith) in
       cc (run_behind _ (traffic_of came) all, append-nil sent.items)
@@ -149,9 +146,7 @@ fewer_come came slot zero n next m e f = grind (arith, common_steps)
 fewer_come came slot (suc k) n next m e f =
     let rest = fewer_come came (slot + 1) k n next (k + n) (omega arith) refl in
     let one_more : m ≡ suc (k + n) = omega arith in
-    let come = come_here came slot (k + n) in
-    let to = λ (j : ℕ). for_here j came slot (k + n) in
-    let from = λ (i : ℕ). from_here i came slot (k + n) in rw one_more (search (arith, rules, rest.to, rest.from))
+    rw one_more (search (arith, rules, rest.to, rest.from, come_here, for_here, from_here))
 
 module _ (M : List ℕ → Machine) {came : List Arrival} {first : IdealSwitch} {first_sent sent : RoomView Departure}
     {slot m next : ℕ} {now new : IdealSwitch} (r : Running (map M first.fixed) came first first_sent slot m now sent)
@@ -160,7 +155,6 @@ module _ (M : List ℕ → Machine) {came : List Arrival} {first : IdealSwitch} 
   running_rest n left =
       let k = next - slot in
       let gone = replicate k (replicate (length now.fixed) None) in
-      let waits = ap waiting rested.lists in
       let fewer = fewer_come came slot k n next m (omega arith) (omega arith) in
       let none = quiet_slots came slot k (λ t from to. quiet.none t from (omega arith)) in
       let all = rw none at (arriving_parts came 0 slot slot k next (omega arith) (omega arith)) in
@@ -170,16 +164,14 @@ module _ (M : List ℕ → Machine) {came : List Arrival} {first : IdealSwitch} 
       search (arith, rules, run_behind r (replicate k no_arrivals) (first_slots came next)) in
       let sent_all = departures_append 0 slot r.ran.gone gone (omega arith) in
       let nothing = none_departs (length now.fixed) k slot in
-      let cut = cases_lt slot next in
-      search (arith, rules, append-nil, r.each, fewer.to, quiet.more, cut, r.counts, length-append, length-replicate)
+      search (arith, rules, append-nil, r.each, fewer.to, quiet.more, r.counts, length-append, length-replicate)
 
   -- where a cell is to come or waits, the run stands at a slot that is to be run
   pub stands : (end_of came ≤ slot → All (λ cells. cells ≡ []) now.state.lists → ⊥) →
       Running (map M first.fixed) came first first_sent next (suc (enough came - (next + 1))) new sent
   stands more =
-      let before = cases_lt slot (enough came) in
       let some : next < enough came =
-      search (arith, rules, more, quiet.more, enough_are, before, cases_lt slot next, nothing_left) in
+      search (arith, rules, more, quiet.more, enough_are, cases_lt slot, nothing_left) in
       running_rest (suc (enough came - (next + 1))) (omega arith)
 
 -- ## The test
@@ -231,14 +223,11 @@ module _ (M : List ℕ → Machine) {came : List Arrival} {first : IdealSwitch} 
       let is : limited_slot first.limits ms slot here (marked_state now) ≡ Ok of_slot =
       rw (are, same, r.same.limits) at was in
       let o = of_admitted first.limits ms slot here (marked_state now) of_slot is in
-      let waits = ap (λ (m : Marked IdealState). waiting m.state.lists) had.state in
       let come = come_here came slot n in
       let all = r.ran.admissions ++ of_slot.admission ∷ [] in
       let gone = r.ran.gone ++ of_slot.gone ∷ [] in
       let ran : LimitedRan = record { admissions = all; gone = gone; after = of_slot.after } in
       let run = run_behind r (here ∷ []) (first_slots came (slot + 1)) (sym (first_more came slot)) in
-      let step = run_step first.limits ms slot here [] (marked_state now) of_slot is in
-      let ran_on : limited_run first.limits ms 0 (first_slots came (slot + 1)) (marked_state first) ≡ Ok ran = cc in
       let gone_on = departures_append 0 slot r.ran.gone (of_slot.gone ∷ []) (omega arith) in
       let lost = of_slot.admission.refused in
       let to_count = length first.fixed + come_count (arriving_from came (slot + 1) n) in

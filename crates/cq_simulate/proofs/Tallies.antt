@@ -55,8 +55,7 @@ pub kinds_summed : {X : Type 0} (kind : X → ℕ) (f : ℕ → ℕ) (a n : ℕ)
 kinds_summed kind f a zero [] within each = refl
 kinds_summed kind f a zero (x ∷ xs) within each = absurd (omega (arith, within x (inl refl)))
 kinds_summed {X} kind f a (suc n) xs within each =
-    let other : X → Bool = λ x. not (kind x == a) in
-    let others = kinds_summed kind f (a + 1) n (filter other xs)
-    (search (arith, rules, kept_has, within, ne_eqb, eq-eqb)) (λ k from to.
-    search (arith, rules, each k, filter_both, filter_agree, cases_eq, ne_eqb)) in
+    let others = kinds_summed kind f (a + 1) n (filter (λ x. not (kind x == a)) xs)
+    (search (arith, rules, kept_has, within, ne_eqb, eq-eqb))
+    (search (arith, rules, each, filter_both, filter_agree, cases_eq, ne_eqb)) in
     grind (arith, common_steps, sum_by-cons, length-filter_both, each a)
