@@ -4,14 +4,12 @@ pub mod FabricCounts
 pub mod Chosen
 pub mod StableRuns
 pub mod FabricLaws
-pub mod FabricOpening
 pub mod FabricSteps
 pub mod OnceASlot
 pub mod ResumedCounts
 pub mod ResumedWhole
 pub mod Steps
 pub mod OfPackets
-pub mod Runnable
 pub mod Tallies
 pub mod EachPacket
 pub mod AllPacked

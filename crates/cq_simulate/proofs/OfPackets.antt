@@ -1,11 +1,40 @@
--- What arrives at an input are its packets, one after another, each from its first cell to its last. Cell 0 of a
--- packet is its first cell and no other is, and the next packet has the next number. At what is no input nothing
--- arrives.
-use Rattle.cq_simulate.proofs.Terms.{get_or_past, common_steps, rules, cond, filter, filter-append, Bool, ◌≡◌, ℕ, zero, suc, ◌+◌, ◌<◌, ◌≤◌, List, [], ◌∷◌, ◌++◌, length, map, refl, arith, flat_map, range_with_len, cases_lt, ne_eqb, Arrival, arriving, traffic_of, Cell, cells_above, at_input, traffic_is, arrivals, arrivals_at, arrivals_of, cell_of, cells, IsTraffic, come_in_order, AreOfPackets, cells_at, Captured, AreTables, ports_of, Tables, arrivals_for, map-append, true, flat_map-append, ◌&&◌, ◌==◌, Departure, came_in_flow, is_from, packet_at, packets_of, route, LeftInOrder, LeftInPackets, of_packet, filter_none, all_weaker, filter_both, filter_agree, cases_eq, min}
+-- A setup's switch can run over what arrives: the machine of each discipline keeps the laws of machines and begins in a
+-- state of its size, and the arrivals rise by input. What arrives at an input are its packets, one after another, each
+-- from its first cell to its last. Cell 0 of a packet is its first cell and no other is, and the next packet has the
+-- next number. At what is no input nothing arrives.
+use Rattle.cq_simulate.proofs.Terms.{get_or_past, common_steps, rules, cond, filter, filter-append, Bool, ◌≡◌, ℕ, zero, suc, ◌+◌, ◌<◌, ◌≤◌, List, [], ◌∷◌, ◌++◌, length, map, refl, arith, flat_map, range_with_len, cases_lt, ne_eqb, Arrival, arriving, traffic_of, Cell, cells_above, at_input, traffic_is, arrivals, arrivals_at, arrivals_of, cell_of, cells, IsTraffic, come_in_order, AreOfPackets, cells_at, Captured, AreTables, ports_of, Tables, arrivals_for, map-append, true, flat_map-append, ◌&&◌, ◌==◌, Departure, came_in_flow, is_from, packet_at, packets_of, route, LeftInOrder, LeftInPackets, of_packet, filter_none, all_weaker, filter_both, filter_agree, cases_eq, min, get_or, slice_get_within, slice_index_or, AllPairs, get_or-map, length-map, length-replicate, get_or_from_slice_get, Setup, IsLater, IsRunnable, RiseByInput, KeepsLaws, machine_at, first_come, IsSetup, classes_of, machine_of, machines_of, openings_of, Kind, FirstCome}
 use Rattle.std.proofs.lemmas.Simd.{map-map}
-use Rattle.cq_simulate.proofs.Runnable.{later_rise}
 use Rattle.cq_simulate.proofs.Tallies.{filter_images, one_is}
 use Rattle.cq_cells.specs.Traffic.{IsInRange}
+
+-- ## The machines of a setup
+
+module _ (setup : Setup) (j : ℕ) (inside : j < length setup.kinds) where
+  abbrev pub kind : Kind
+  kind = get_or setup.kinds j FirstCome
+
+  pub machine_is : machine_at (machines_of setup) j ≡ machine_of kind setup.classes
+  machine_is = get_or-map (λ (k : Kind). machine_of k setup.classes) setup.kinds j FirstCome (first_come []) inside
+
+  pub keeps_laws : KeepsLaws (machine_at (machines_of setup) j)
+  keeps_laws = grind (arith, common_steps, machine_is)
+
+  pub right_size : length (slice_index_or (openings_of setup) j []) ≡ (machine_at (machines_of setup) j).size
+  right_size = search (arith, rules, machine_is, length-replicate, get_or-map)
+
+  pub right_classes : (machine_at (machines_of setup) j).classes ≡ length setup.classes
+  right_classes = search (arith, rules, machine_is)
+
+pub later_rise : (came : List Arrival) → AllPairs IsLater came → RiseByInput came
+later_rise came later s t a b at_s at_t less same = search (rules, later s t, slice_get_within, get_or_from_slice_get)
+
+pub runnable : (setup : Setup) (came : List Arrival) → IsSetup setup →
+    IsTraffic (ports_of setup) (classes_of setup) came →
+    IsRunnable (machines_of setup) (ports_of setup) (openings_of setup) came
+runnable setup came is traffic =
+    grind (arith, common_steps, keeps_laws, length-map, right_size, all_weaker, right_classes, later_rise)
+
+-- ## The packets of an input
 
 -- where all pass a test or none does
 all_or_none : {X : Type 0} (p : X → Bool) (f : ℕ → X) (b : Bool) → ((m : ℕ) → p (f m) ≡ b) → (a n : ℕ) →

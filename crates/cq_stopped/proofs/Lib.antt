@@ -1,5 +1,4 @@
 mod Terms
-pub mod Configured
 pub mod Ran
 pub mod Queueing
 pub mod Stepping

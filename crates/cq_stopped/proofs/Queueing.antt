@@ -6,9 +6,8 @@
 use Rattle.cq_stopped.proofs.Terms.{All-set, All-from_recursion, recursion_from_All, get_or_past, rules, ◌≡◌, ℕ, zero, suc, ◌+◌, ◌<◌, ◌≤◌, ◌^◌, true, List, [], ◌∷◌, length, Option, Some, None, Ok, refl, arith, ◌++◌, cases_eq, ltb-true, cases_lt, eq-eqb, le-ltb, lt-ltb, common_steps, get_or-set_other, get_or-set_same, length-set, same_Some, AllByRecursion, is_some, slice_index_or, slice_set, arrival_at, Cell, Queued, came_from, only_ok, all_told, put_all, Ranking, ranking, came_to, KeepLaws, Machine, machine_at, EachPair, after_input_ok, Key, given_floor, all_made, inl, inr, ◌⊎◌, CameFor, Has, IsBefore, IsRising, among_put_all, has_left, has_right, never_both, not_before_itself, pair_of_has, pairs_cross, pairs_joined, pairs_left, pairs_right, rising_put_all}
 use Rattle.cq_base.specs.Key.{is_before}
 use Rattle.cq_ideal.specs.Ranking.{keyed}
-use Rattle.cq_stopped.proofs.Configured.{AreLow, KeepsLow}
+use Rattle.cq_stopped.proofs.Ran.{AreLow, KeepsLow, Follows}
 use Rattle.cq_stopped.proofs.Joined.{pairs_both, pairs_in}
-use Rattle.cq_stopped.proofs.Ran.{Follows}
 
 module _ (ms : List Machine) (slot : ℕ) where
   -- the rank states after a cell got its rank

@@ -82,5 +82,5 @@ pub use Rattle.cq_resume.proofs.{Coming.is_between, Coming.one_comes, Judging.pa
 pub use Rattle.cq_resume.specs.declared.found.Name.{Name}
 pub use Rattle.cq_traffic.proofs.{ForPorts.arrivals_for, ForPorts.place_of}
 pub use Rattle.cq_simulate.proofs.{FabricCounts.all_wait, OnceASlot.AreNumbered}
-pub use Rattle.cq_simulate.proofs.{Departed.small_cells, EachPacket.all_arriving, EachPacket.all_judged, OnceASlot.limited_numbered, Runnable.keeps_laws, Runnable.kind, Runnable.machine_is, Runnable.right_classes, Runnable.right_size, Tallies.filter_images, Tallies.kinds_summed, Tallies.tests_turned}
+pub use Rattle.cq_simulate.proofs.{Departed.small_cells, EachPacket.all_arriving, EachPacket.all_judged, OnceASlot.limited_numbered, OfPackets.keeps_laws, OfPackets.kind, OfPackets.machine_is, OfPackets.right_classes, OfPackets.right_size, Tallies.filter_images, Tallies.kinds_summed, Tallies.tests_turned}
 pub use Rattle.cq_simulate.specs.{FabricRuns.IsFabricRun}

@@ -9,9 +9,8 @@ use Rattle.cq_audit.proofs.Following.{run_within as of_its_slots}
 use Rattle.cq_resume.proofs.Cut.{filter_both}
 use Rattle.cq_resume.proofs.Joining.{parts_join as join}
 use Rattle.cq_resume.proofs.OneAnswer.{read_exact}
-use Rattle.cq_stopped.proofs.Configured.{least_of, AreLow, IsConfigured, configured}
+use Rattle.cq_stopped.proofs.Ran.{least_of, AreLow, IsConfigured, configured, Known, came_in, came_of}
 use Rattle.cq_stopped.proofs.Lined.{AreMoved, inputs_same, names_counted, output_same}
-use Rattle.cq_stopped.proofs.Ran.{Known, came_in, came_of}
 use Rattle.cq_stopped.proofs.Standing.{is_of_one, state_sized, states_many, fabric_same, sent_same, arrivals_are, named_at, below_floors, keep_order, stand_in_order, has_shape, slack_kept}
 use Rattle.cq_stopped.proofs.Stepping.{none_first, most_of_all, IsRecordedWithin, Ended, known_first, run_known}
 use Rattle.cq_stopped.proofs.Walk.{Follow, Walks, as_name, counted_flat, has_as_name, same_counts, walked}

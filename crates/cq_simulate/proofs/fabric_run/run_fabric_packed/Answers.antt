@@ -1,7 +1,6 @@
 use Rattle.cq_simulate.proofs.Terms.{arith, rules, IfErr-weaker, IfOk-weaker, Ok, ap, sym, ◌∙◌}
 use Rattle.cq_simulate.proofs.FabricLaws.{kept_refuses, sends_as_ideal}
-use Rattle.cq_simulate.proofs.FabricOpening.{IsMade, can_begin, no_run, run_is_kept}
-use Rattle.cq_simulate.proofs.TakenUp.{machine_count}
+use Rattle.cq_simulate.proofs.TakenUp.{IsMade, can_begin, no_run, run_is_kept, machine_count}
 use Rattle.cq_simulate.proofs.fabric_run.run_fabric_packed.Given as given
 use Rattle.cq_simulate.proofs.fabric_run.run_fabric_packed.Goals as goal
 use Rattle.cq_simulate.proofs.fabric_run.run_fabric_packed.Goals.{In_ok-engine}

@@ -1,6 +1,5 @@
 use Rattle.cq_simulate.proofs.Terms.{rules, arith, err_from_is_err_and}
-use Rattle.cq_simulate.proofs.FabricOpening.{IsMade, can_begin, parted_of}
-use Rattle.cq_simulate.proofs.TakenUp.{machines_many}
+use Rattle.cq_simulate.proofs.TakenUp.{IsMade, can_begin, parted_of, machines_many}
 use Rattle.cq_simulate.proofs.parted_run.part_fresh.Given as given
 use Rattle.cq_simulate.proofs.parted_run.part_fresh.Goals as goal
 use Rattle.cq_simulate.proofs.parted_run.part_fresh.Goals.{In_ok-note}

@@ -1,6 +1,5 @@
 use Rattle.cq_simulate.proofs.Terms.{arith, rules, ◌∙◌, IfErr-weaker, IfOk-weaker}
-use Rattle.cq_simulate.proofs.FabricOpening.{resumed_fault, resumed_of}
-use Rattle.cq_simulate.proofs.TakenUp.{machine_count, runs_on}
+use Rattle.cq_simulate.proofs.TakenUp.{resumed_fault, resumed_of, machine_count, runs_on}
 use Rattle.cq_simulate.proofs.parted_run.resume_fabric.Goals as goal
 
 pub run_on-requires-clause-ready : goal.run_on-requires-clause-ready
