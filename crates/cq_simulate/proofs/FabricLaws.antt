@@ -1,14 +1,55 @@
 -- What the laws of the fabric say of the run of a fabric that is made for tables: the cells that arrive are for its
 -- ports and classes in every slot, and the run begins where nothing waits and no mark is up, where the fabric and the
--- ideal switch agree. Its matchings are the input-best ones, so it is a run with stable matchings too, and sends and
--- refuses what the ideal switch does.
-use Rattle.cq_simulate.proofs.Terms.{stable_limited_too, common_steps, rules, ◌≡◌, ◌≤◌, List, Ok, refl, arith, All, length, Arrival, IsTraffic, Machine, Marked, NoLimits, admitted_in, first_slots, slots_of, one_limited_whole, recorded, Fabric, empty_fabric, FabricRun, LimitedFabricRun, LimitedRecord, LimitedWholeRun, admissions_in, empty_limited_fabric, slots_in, figures_of, IsInputBest, IsStable, classes_of, ports_of, IsSetup, Tables, machines_of, openings_of, AlwaysHasSlack, AreInputBest, IsFabricRun, IsKeptOf, SendsSlotBySlot, departures_in_run, ideal_departures, ideal_refusals, ran_ideal, slots_ran, slots_of_figures, run_of_whole}
+-- ideal switch agree. With any stable matchings the fabric ends where the ideal switch ends, and has sent and refused
+-- what that sends and refuses; its matchings are those of orders by first cells, and no slack is below 0 after
+-- arrivals. The matchings of the run of tables are the input-best ones, so it is a run with stable matchings too.
+use Rattle.cq_simulate.proofs.Terms.{stable_limited_too, common_steps, rules, ◌≡◌, ◌≤◌, List, Ok, refl, arith, All, length, Arrival, IsTraffic, Machine, Marked, NoLimits, admitted_in, first_slots, slots_of, one_limited_whole, recorded, Fabric, empty_fabric, FabricRun, LimitedFabricRun, LimitedRecord, LimitedWholeRun, admissions_in, empty_limited_fabric, slots_in, figures_of, IsInputBest, IsStable, classes_of, ports_of, IsSetup, Tables, machines_of, openings_of, AlwaysHasSlack, AreInputBest, IsFabricRun, IsKeptOf, SendsSlotBySlot, departures_in_run, ideal_departures, ideal_refusals, ran_ideal, slots_ran, slots_of_figures, run_of_whole, ap, limited_found_end, departures_limited, whole_limited_run, LimitedRan, empty_limited, limited_ends, IsEmptyFabric, LimitedEndsAlike, gone_in, AreStable, refused_in_run, counts_limited, refused_counts, slots_fit}
 use Rattle.cq_simulate.proofs.Chosen.{first_chosen}
 use Rattle.cq_simulate.proofs.Departed.{last_departs_without_limits, slots_are}
 use Rattle.cq_simulate.proofs.OnceASlot.{once_a_slot}
-use Rattle.cq_simulate.proofs.StableRuns.{stable_refuses, stable_sends, stable_slack, stable_slots, whole_ran}
 use Rattle.cq_simulate.specs.Emulation.{EmulatesIdeal}
 use Rattle.cq_simulate.specs.declared.fabric_run.FabricRun as kept
+
+-- ## With any stable matchings
+
+module _ (t : Tables) (came : List Arrival) (rs : List LimitedRecord) (end : Marked Fabric)
+    (traffic : IsTraffic (ports_of t.setup) (classes_of t.setup) came)
+    (whole : LimitedWholeRun IsStable t.limits (machines_of t.setup) came (empty_limited_fabric (ports_of t.setup)
+    (openings_of t.setup)) rs end) where
+  -- the run of the ideal switch ends with that of the fabric
+  pub alike : LimitedEndsAlike t.limits (machines_of t.setup) came (empty_limited (ports_of t.setup)
+      (openings_of t.setup)) rs end
+  alike = limited_ends t.limits _ _ _ _ came rs end (slots_fit _ _ came 0 (length rs) traffic) whole
+
+  pub stable_slots : slots_ran t came ≡ length rs
+  stable_slots = limited_found_end t.limits _ _ _ came (length rs) alike.after alike.ends
+
+  -- what it did
+  abbrev pub told : LimitedRan
+  told = record { admissions = admissions_in rs; gone = gone_in (slots_in rs); after = alike.after }
+
+  pub whole_ran : whole_limited_run t.limits (machines_of t.setup) came (empty_limited (ports_of t.setup)
+      (openings_of t.setup)) ≡ Ok told
+  unfolding whole_limited_run
+  whole_ran = grind (arith, common_steps, stable_slots)
+
+  pub stable_sends : ideal_departures t came ≡ Ok (departures_in_run rs)
+  unfolding ideal_departures ran_ideal
+  stable_sends = ap departures_limited whole_ran
+
+  pub stable_refuses : ideal_refusals t came ≡ Ok (refused_counts t.limits (refused_in_run rs))
+  unfolding ideal_refusals ran_ideal
+  stable_refuses = ap (counts_limited t.limits) whole_ran
+
+  stable_run : LimitedFabricRun IsStable t.limits (machines_of t.setup) 0 (first_slots came (length rs))
+      (empty_limited_fabric (ports_of t.setup) (openings_of t.setup)) rs end
+  stable_run = run_of_whole _ came _ rs (λ f. IsEmptyFabric f.state) end whole
+
+  pub all_stable : AreStable rs
+  all_stable = grind (arith, common_steps, first_chosen, stable_run)
+
+  pub stable_slack : AlwaysHasSlack rs
+  stable_slack = (first_chosen IsStable (λ o m is. is) _ _ _ came _ _ _ rs end traffic stable_run).1
 
 -- ## The run of tables
 

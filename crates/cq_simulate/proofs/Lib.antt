@@ -2,11 +2,9 @@ mod Terms
 pub mod Departed
 pub mod FabricCounts
 pub mod Chosen
-pub mod StableRuns
 pub mod FabricLaws
 pub mod FabricSteps
 pub mod OnceASlot
-pub mod ResumedCounts
 pub mod ResumedWhole
 pub mod Steps
 pub mod OfPackets

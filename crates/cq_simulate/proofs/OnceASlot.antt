@@ -1,8 +1,11 @@
 -- An output sends one cell a slot at most, and the records of a run are numbered slot by slot. So before each slot an
 -- output has sent no more cells than the number of that slot, and no more than the slots so far: a slot in which it
 -- sends adds one cell, and then the slots are one more than the number of that slot. What was counted before goes on
--- so, and before the first slot nothing was counted.
-use Rattle.cq_simulate.proofs.Terms.{common_steps, rules, ◌≡◌, ℕ, zero, suc, ◌+◌, ◌≤◌, false, cond, List, [], ◌∷◌, map, Option, None, refl, arith, All, max, fold, is_some, slice_index_or, AllByRecursion, enumerate_from, list_any, cond_both, Cell, Queued, Figures, Marked, Machine, IsInputBest, Fabric, SlotRecord, FabricRun, LimitedFabricRun, LimitedRecord, slots_in, recorded, sends, output_after, figures_after, figures_of, OutputFigures, figures_fold, recursion_from_All, get_or-replicate}
+-- so, and before the first slot nothing was counted. Nor has an output of a run that goes on from a sound state sent
+-- more cells than there were slots: in the state each of them has one `sent` line a slot at most, and the lines stand
+-- slot by slot, so from the first of them on, the cells that it sent are no more than the slots up to the last line.
+use Rattle.cq_simulate.proofs.Terms.{common_steps, rules, ◌≡◌, ℕ, zero, suc, ◌+◌, ◌≤◌, false, cond, List, [], ◌∷◌, map, Option, None, refl, arith, All, max, fold, is_some, slice_index_or, AllByRecursion, enumerate_from, list_any, cond_both, Cell, Queued, Figures, Marked, Machine, IsInputBest, Fabric, SlotRecord, FabricRun, LimitedFabricRun, LimitedRecord, slots_in, recorded, sends, output_after, figures_after, figures_of, OutputFigures, figures_fold, recursion_from_All, get_or-replicate, ◌<◌, length, Some, AllPairs, filter_map, eqb-true, take_all, All-from_recursion, Arrival, Departure, schedule_of, slots_of, Captured, EachPair, each_pair, departure_of, figures_told, frozen_told, IsResumed, Kept, IsSentBefore, switch_of, Taken, AreTables, ports_of, Tables, Sent, State, CanBeTakenUp, all_made, all_from_has, all_weaker}
+use Rattle.cq_resume.specs.Counted.{sent_by}
 
 -- ## The records of a run
 
@@ -61,3 +64,44 @@ pub once_a_slot : (ms : List Machine) (traffic : List (List (Option Cell))) (f g
     (figures_of ports rs).outputs
 once_a_slot ms traffic f g rs ports run =
     grind (arith, common_steps, counts_on, run_numbered, recursion_from_All, get_or-replicate, figures_fold)
+
+-- ## The departures that a state tells
+
+module _ (came : List Arrival) where
+  -- the last slot is before each slot that all lines are before
+  low : (n : ℕ) (xs : List Sent) → AllByRecursion (λ d. d.slot < n) xs →
+      slots_of (filter_map (departure_of came) xs) ≤ n
+  low n [] h = let none : 0 ≤ n = omega arith in none
+  low n (d ∷ xs) h = grind (arith, common_steps, low n xs h.1)
+
+  -- what departs at output j departs in this slot or later
+  abbrev From : ℕ → ℕ → Sent → Type 0
+  From j slot d = (x : Departure) → departure_of came d ≡ Some x → x.output ≡ j → slot ≤ x.slot
+
+  abbrev told : List Sent → List Departure
+  told xs = filter_map (departure_of came) xs
+
+  -- from a slot on, an output sent no more cells than there are slots up to the last line
+  few_from : (j : ℕ) (xs : List Sent) → EachPair (IsSentBefore came) xs → (slot : ℕ) → AllByRecursion (From j slot) xs →
+      length (sent_by (told xs) j) + slot ≤ max slot (slots_of (told xs))
+  few_from j [] pairs slot from = let none : 0 + slot ≤ max slot 0 = omega arith in none
+  few_from j (d ∷ xs) pairs slot from = search (rules, cond_both, eqb-true, all_weaker, few_from j xs pairs.1)
+
+  few : (j : ℕ) (xs : List Sent) → AllPairs (IsSentBefore came) xs → length (sent_by (told xs) j) ≤ slots_of (told xs)
+  few j xs pairs = omega (arith, few_from j xs (each_pair _ xs pairs) 0 (all_from_has _ xs (λ d _ x e at. omega arith)))
+
+  -- so it is with the figures that a state tells
+  pub counted : (s : State) → AllPairs (IsSentBefore came) s.sent → AllByRecursion (λ d. d.slot < s.head.next) s.sent →
+      CountsBefore s.head.next (figures_told came s)
+  unfolding figures_told
+  counted s pairs times = search (arith, rules, low, all_made, few)
+
+-- ## The run from there on
+
+pub resumed_counts : (t : Tables) (captures : List (List Captured)) (from : Taken) (kept : Kept) → AreTables t →
+    length captures ≡ ports_of t.setup → CanBeTakenUp (switch_of t (schedule_of t captures)) from →
+    IsResumed (switch_of t (schedule_of t captures)) from kept →
+    All (λ x. x.cells ≤ kept.figures.slots) kept.figures.outputs
+unfolding frozen_told
+resumed_counts t captures from kept are many up resumed =
+    search (arith, rules, limited_numbered, take_all, counts_on, counted, recursion_from_All, All-from_recursion)
