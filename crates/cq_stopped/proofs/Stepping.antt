@@ -219,11 +219,6 @@ module _ (w : Switch) (ranks : List (List ℕ)) (configured : IsConfigured w ran
     unfolding admission
     few_come = search (arith, rules, present, fewer)
 
-    -- ## What stays within bounds
-
-    arrived_is : Sound (n + 1) r.of_slot.arrived
-    arrived_is = search (rules, arrived, come, stable)
-
     -- ## Together
 
     known_next : Known w (n + 1) g.state next (cs ++ came ∷ []) sent_next
