@@ -36,18 +36,13 @@ module _ (t : Tables) (captures : List (List Captured)) (input : ℕ) (some : 0 
   unfolding cell_of cells cells_of
   fits k m = search (arith, rules, pieces_more k m, div_ceil_times (length (frame k)) t.cell_bytes some, take_all)
 
-  after_cell : (k m : ℕ) →
-      open_after (open_at_cell k m) (cell_of t captures input k m) (piece_at captures (cell_of t captures input k m))
-      ≡ cond (m + 1 == cells t captures input k) None (open_at_cell k (m + 1))
-  unfolding cell_of
-  after_cell k m = search (arith, rules, pieces_more k m)
-
   -- its cells from one on, and then others
   walk : (k : ℕ) (later : List Cell) → AllFit captures None later → (n m : ℕ) → 0 < n →
       m + n ≡ cells t captures input k →
       AllFit captures (open_at_cell k m) (map (cell_of t captures input k) (range_with_len m n) ++ later)
+  unfolding cell_of
   walk k later go zero m some e = absurd (omega arith)
-  walk k later go (suc n) m some e = search (arith, rules, fits k m, after_cell, walk k later go n (m + 1))
+  walk k later go (suc n) m some e = search (arith, rules, fits k m, pieces_more, walk k later go n (m + 1))
 
   -- some packets, one after another
   all_fit : (ks : List ℕ) → AllFit captures None (flat_map (packet_cells t captures input) ks)
@@ -135,8 +130,7 @@ all_are_made so_far none = grind (arith, common_steps, append-nil)
 pub nowhere : {t : Tables} {captures : List (List Captured)} {sent : List Departure} {stamp : ℕ} (output : ℕ) →
     HaveLeftOf t captures sent stamp → ports_of t.setup ≤ output → packets_out t captures sent output ≡ []
 unfolding packets_out
-nowhere {t} {captures} {sent} output of_run none =
-    search (rules, filter_none, all_from_has, departed_output, and_left, ne_eqb)
+nowhere {t} {captures} {sent} output of_run none = search (rules, filter_none, all_from_has, departed_output, ne_eqb)
 
 -- ## All outputs
 

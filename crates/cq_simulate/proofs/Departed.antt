@@ -76,20 +76,17 @@ module _ {t : Tables} {captures : List (List Captured)} {sent : List Departure} 
   it : CameAs came d
   it = came_as came sent of_run.whole d has
 
-  is_in_range : IsInRange (ports_of t.setup) (classes_of t.setup) it.arrival
-  is_in_range = grind (arith, common_steps, all_of_has, traffic_is)
-
   pub departed_captured : IsCaptured captures d.queued.cell
   unfolding cell_of cells
   departed_captured =
       search (arith, rules, it, all_cells t captures (λ a. IsCaptured captures a.cell), piece_begins, all_of_has)
 
   pub departed_class : d.queued.cell.class < length t.setup.classes
-  departed_class = rw it.own at is_in_range.class
+  departed_class = search (arith, rules, it, all_of_has, traffic_is)
 
   -- so each departure is at a port
   pub departed_output : d.output < ports_of t.setup
-  departed_output = rw it.output at is_in_range.output
+  departed_output = search (arith, rules, it, all_of_has, traffic_is)
 
 -- ## The last slot
 

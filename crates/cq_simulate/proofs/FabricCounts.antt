@@ -75,9 +75,6 @@ module _ (f : Fabric) (m : Partners) (is : IsMatching (orders_of f.inputs) m) wh
   pub proposals_none : ((i : ℕ) → length (input f i) ≡ 0) → proposals (orders_of f.inputs) m ≡ 0
   proposals_none none = search (arith, rules, proposals_within (orders_of f.inputs) m is 0, outputs_at, nil_from_length)
 
-pub square_few : (n : ℕ) → n ≤ most_ports → n * n ≤ 4096
-square_few n few = let square : n * n ≤ most_ports * most_ports = mul-le-mul few few in omega arith
-
 -- ## Beside an ideal switch
 
 waiting-sum : (lists : List (List Queued)) → waiting lists ≡ sum (map length lists)
@@ -133,7 +130,7 @@ module _ {ms : List Machine} {slot : ℕ} {cells : List (Option Cell)} {f g : Fa
     unfolding proposals_in
     proposed_few few =
         let after = after_sent ms slot classes cells f g ideal r agrees come stable in
-        search (arith, rules, proposals_few, after, stable, square_few, arrived ms slot classes cells f)
+        search (arith, rules, proposals_few, after, stable, mul-le-mul few few, arrived ms slot classes cells f)
 
     -- where no cell waits and none arrives none is proposed
     none_proposed : sum (fabric_held f) ≡ 0 → length (present cells) ≡ 0 → sum (proposals_in r) ≡ 0

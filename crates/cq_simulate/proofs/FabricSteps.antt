@@ -101,9 +101,8 @@ pub crossing_first : (whole : Bool) (ms : List Machine) (came : List Arrival) (f
 unfolding arriving_from departures_of transfers_of_run
 crossing_first whole ms came first sent note end n ready left early slots =
     let come = few_come first.next n came in
-    let alike = agrees_of first.next first.fabric ready.sound in
     let ideal : Marked IdealState = record { state = ideal_of first.fabric; marks = first.marks } in
-    let agrees : LimitedAgrees first.next (marked_fabric first) ideal = record { states = alike; marks = refl } in
+    let agrees : LimitedAgrees first.next (marked_fabric first) ideal = search (rules, agrees_of) in
     let went : WentOn ms came first first sent sent note note [] = search (arith, rules, append-nil, none_counted) in
     search (arith, rules, slots, come.1, come.2, ready.lists, ready.buffers, ready.refused)
 

@@ -147,10 +147,8 @@ module _ (w : Switch) (s : State) (i : ℕ) where
       in_packet f a first has same = grind (arith, common_steps, kept_has, has_kept, and_from, eqb-true, eq-eqb)
 
       -- and all of those are named, or none is
-      abbrev OneAnswer : Arrival → Type 0
-      OneAnswer f = (a : Arrival) → Has (packet_before w.came s.head.next f) a → is_told a ≡ is_told f
-
-      one_answer : (f : Arrival) → Has before f → f.cell.id.index ≡ 0 → OneAnswer f
+      one_answer : (f : Arrival) → Has before f → f.cell.id.index ≡ 0 → (a : Arrival) →
+          Has (packet_before w.came s.head.next f) a → is_told a ≡ is_told f
       one_answer f has begins =
           let all = packet_before w.came s.head.next f in
           let said = all_has (λ (a : Arrival). a.cell.id.index ≡ 0 → a.slot < s.head.next
@@ -289,12 +287,6 @@ module _ (w : Switch) (s : State) (in_range : IsInRange s) (shape : HasShape w s
     name_in_flow n q of =
         search (arith, rules, of_traffic w s in_range shape sound traffic n q of.is, its_output, eqb-true)
 
-    one_flow : (m n : Named) (q r : Queued) → InFlow m q → InFlow n r → OfOneFlow w.came m n
-    one_flow m n q r first second = let a = name_in_flow m q first in search (arith, rules, name_in_flow n r second)
-
-    slot_is : (n : Named) (q : Queued) → InFlow n q → q.key.slot ≡ n.slot
-    slot_is n q of = its_slot w s in_range shape sound traffic n q of.is
-
     -- ## They rise
 
     abbrev Earlier : Queued → Queued → Type 0
@@ -311,7 +303,7 @@ module _ (w : Switch) (s : State) (in_range : IsInRange s) (shape : HasShape w s
     gone_rise =
         let turn = pairs_looked_up (departure_of w.came) InTurn EarlierThere in
         let kept = pairs_kept_with EarlierThere (λ (x y : Departure). Earlier x.queued y.queued) leaves in
-        search (arith, rules, pairs_mapped, kept, turn, sent_in_flow, one_flow, slot_is, each_pair)
+        search (arith, rules, pairs_mapped, kept, turn, sent_in_flow, name_in_flow, its_slot w s, each_pair)
 
     -- of two that wait the first arrived first
     abbrev Ahead : Named → Named → Type 0
@@ -329,11 +321,12 @@ module _ (w : Switch) (s : State) (in_range : IsInRange s) (shape : HasShape w s
     waits_earlier q r first second before =
         let a = waits q first in
         let b = waits r second in
+        let slot = its_slot w s in_range shape sound traffic in
         let back : r.key.slot < q.key.slot → IsBefore r q = λ less.
-        search (arith, rules, in_order, ahead, one_flow, slot_is) in
+        search (arith, rules, in_order, ahead, name_in_flow, slot) in
         let same : q.key.slot ≡ r.key.slot → q ≡ r = λ slots.
         let inputs = (name_in_flow a.0 q a.2).0 ∙ sym (name_in_flow b.0 r b.2).0 in
-        let names = one_name a.0 b.0 a.1 b.1 (omega (arith, slot_is a.0 q a.2, slot_is b.0 r b.2)) inputs in cc in
+        let names = one_name a.0 b.0 a.1 b.1 (omega (arith, slot a.0 q a.2.is, slot b.0 r b.2.is)) inputs in cc in
         grind (arith, common_steps, back, same, cases_lt, key_laws.one_way, key_laws.never_itself)
 
     waiting_rise : EachPair Earlier waiting
@@ -349,7 +342,7 @@ module _ (w : Switch) (s : State) (in_range : IsInRange s) (shape : HasShape w s
     sent_earlier q r first second =
         let a = was_sent q first in
         let all = all_has (λ (d : Sent). All (After d.cell) (queued_in s)) s.sent a.0 sound.flows.after a.1 in
-        search (arith, rules, one_flow, slot_is, all_has (After a.0.cell) (queued_in s), waits r)
+        search (arith, rules, name_in_flow, its_slot w s, all_has (After a.0.cell) (queued_in s), waits r)
 
     told_rise : EachPair IsEarlier (map as_arrival (gone ++ waiting))
     told_rise = search (rules, pairs_mapped, IsEarlier, pairs_joined, gone_rise, waiting_rise, sent_earlier)
@@ -360,22 +353,13 @@ module _ (w : Switch) (s : State) (in_range : IsInRange s) (shape : HasShape w s
     abbrev pub told : List Arrival
     told = filter named (filter (comes_in_flow i c j) (before w s i))
 
-    record IsOne (x : Arrival) : Type 0 where
-      pub came : Has w.came x
-      pub early : x.slot < next
-      pub flow : comes_in_flow i c j x ≡ true
-      pub own : named x ≡ true
-
     abbrev is_name_of : Arrival → Named → Bool
     is_name_of x n = n.slot == x.slot && n.input == x.cell.id.input
 
     one_of_names : (n : Named) (q : Queued) → Has names n → InFlow n q → Has told (as_arrival q)
     one_of_names n q has of =
         let it = found_at w.came n.slot n.input q.cell (is_cell_of w.came n q of.is).arrives in
-        search (arith, rules, slot_is, and_from, and_parts, is_kind, eq-eqb, any_has, has_kept, lt-ltb, comes w)
-
-    from_told : (x : Arrival) → Has told x → IsOne x
-    from_told x has = grind (arith, common_steps, kept_has, early_of, line_at, is_early, ltb-true)
+        search (arith, rules, its_slot w, and_from, and_parts, is_kind, eq-eqb, any_has, has_kept, lt-ltb, comes w)
 
     has_told : (x : Arrival) → Has (map as_arrival (gone ++ waiting)) x → Has told x
     has_told x has =
@@ -411,8 +395,9 @@ module _ (w : Switch) (s : State) (in_range : IsInRange s) (shape : HasShape w s
 
     is_there : (x : Arrival) → Has told x → Has (map as_arrival (gone ++ waiting)) x
     is_there x has =
-        let one = from_told x has in
-        let (n, has_name, same_name) = has_any (is_name_of x) names one.own in
+        let one : Has w.came x × (x.slot < next) × (comes_in_flow i c j x ≡ true) × (named x ≡ true) =
+        grind (arith, common_steps, kept_has, early_of, line_at, is_early, ltb-true) in
+        let (n, has_name, same_name) = has_any (is_name_of x) names one.3 in
         let some = some_cell (arriving_cell w.came n) (comes w s in_range shape sound traffic n has_name).1 in
         let same = one_arrival (found_at w.came n.slot n.input some.0 some.1).arrival x in
         let q : Queued = record { cell = x.cell; key = key_of n } in
@@ -473,12 +458,9 @@ module _ (w : Switch) (s : State) (in_range : IsInRange s) (shape : HasShape w s
     abbrev slots : List (List (Option Cell))
     slots = arriving_from w.came next (length rs)
 
-    runs_on : RunsOn w next start rs resumed.end
-    unfolding frozen_told fabric_told
-    runs_on = resumed.runs
-
     fabric_runs : LimitedFabricRun IsInputBest w.limits w.machines next slots start rs resumed.end
-    fabric_runs = rw (take_all (length rs) rs (omega arith)) at runs_on.after
+    unfolding frozen_told fabric_told
+    fabric_runs = rw (take_all (length rs) rs (omega arith)) at resumed.runs.after
 
     ideal_alike : LimitedRunsAlike w.limits w.machines next slots beside rs resumed.end
     ideal_alike = (best_act_alike w.limits w.machines).run next w.classes slots start resumed.end beside rs
@@ -488,7 +470,7 @@ module _ (w : Switch) (s : State) (in_range : IsInRange s) (shape : HasShape w s
     ran = record { admissions = admissions_in rs; gone = gone_in (slots_in rs); after = ideal_alike.after }
 
     over : All (λ cells. cells ≡ []) ideal_alike.after.state.lists
-    over = (empty_together (next + length slots) _ _ ideal_alike.agrees.states).0 runs_on.empty
+    over = (empty_together (next + length slots) _ _ ideal_alike.agrees.states).0 resumed.runs.empty
 
     stand : AllByRecursion (StandAt 0) slots
     unfolding arriving_from
@@ -504,8 +486,8 @@ module _ (w : Switch) (s : State) (in_range : IsInRange s) (shape : HasShape w s
     module _ (i : ℕ) where
       -- those that come from the slot on are the late ones
       late_are : cells_at i slots ≡ cells_of (behind w s i)
-      unfolding arriving_from
-      late_are = search (arith, rules, comes_from i, none_at, none_from, traffic, cases_lt i most_ports, runs_on)
+      unfolding arriving_from frozen_told fabric_told
+      late_are = search (arith, rules, comes_from i, none_at, none_from, traffic, cases_lt i most_ports, resumed)
 
       rises : EachPair IsEarlier (line w s i)
       rises = line_rises w.came traffic.one_by_one i

@@ -173,8 +173,7 @@ module _ {t : Tables} {s : Scheduled} {first : EngineView} {sent : RoomView Depa
       frozen ≡ frozen_of last →
       IsParted (switch_of t s) (openings_of t.setup) slots
       (record { frozen = frozen; sent = sent_new.items; note = note_new.items })
-  parted_of has is =
-      let all = rw made.fresh.fresh at has in search (arith, rules, made.fresh.machines, machines_many)
+  parted_of has is = search (arith, rules, made.fresh.fresh, made.fresh.machines, machines_many)
 
 -- What a run says that goes on from where a run was taken up: what it kept, or the tag fault at which it stops.
 

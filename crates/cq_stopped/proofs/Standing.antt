@@ -146,9 +146,8 @@ module _ {w : Switch} (at : Taken) {ideal : IdealState} {cs : List (List (Option
 
   pub named_at : (t i : ℕ) → list_any (is_name_at t i) (named_in st) ≡ is_some (came_in cs t i)
   named_at t i =
-      let h = name_held t i in
       let one = is_of_one in let no = false_from_ne_true in
-      search (arith, rules, any_has, h, known.held, and_from, eq-eqb, has_any, one, and_parts, eqb-true, no)
+      search (arith, rules, any_has, name_held t i, known.held, and_from, eq-eqb, has_any, one, and_parts, eqb-true, no)
 
   -- ## What is told is what there was, and has slack: the third clause
 
@@ -169,8 +168,7 @@ module _ {w : Switch} (at : Taken) {ideal : IdealState} {cs : List (List (Option
   pub fabric_same : fabric_told w.came st ≡ f
   unfolding fabric_told state_of
   fabric_same =
-      let lists = by_places (list_told w.came st) [] at.frozen.lists (λ k lt. list_again k) in
-      search (arith, rules, by_places (buffer_told w.came st) [] at.frozen.buffers, buffer_again)
+      search (rules, by_places (list_told w.came st) [], by_places (buffer_told w.came st) [], list_again, buffer_again)
 
   pub slack_kept : HaveSlack w st
   slack_kept = rw fabric_same known.agrees.slack

@@ -4,7 +4,7 @@
 -- since the walk over the arrivals of each input ends with its mark, and those that are not named are, counted by any
 -- test, those that were refused. The text of that state is read as what was left, so what goes on from there is the
 -- run.
-use Rattle.cq_stopped.proofs.Terms.{come_count-first, IsCount, IsInputBest, recorded, slots_of_figures, rules, ◌≡◌, ℕ, zero, suc, ◌+◌, ◌-◌, ◌<◌, ◌≤◌, ◌^◌, List, [], ◌∷◌, length, map, fold, max, sym, ap, ◌∙◌, arith, common_steps, length-map, length-map-range_with_len, AllByRecursion, enumerate_from, flat_map, slice_index_or, Queued, Scheduled, arriving_from, departures_of, Fabric, cushion_of, input, SlotRecord, fabric_in, marked_in, LimitedRecord, slots_in, figures_of, input_figures, slacks, gone_in, list_of, each_pair, all_both, Differ, Has, all_from_has, all_of_has, has_image, has_left, has_right, image_has, figures_told, frozen_told, taken_of, opening, IsWhole, IsParted, seen_as, sent_as, state_of, IsRead, Kept, Runs, Switch, switch_of, named_in, queued_in, Taken, Tables, openings_of, AreRankNumbers, IsInRange, IsNamed, IsSeen, IsSent, state_text, Named, Sent, State, told_state, CanBeTakenUp, StoppedRunsAreSound, few_kept, of_images, all_weaker, written_in_run, arriving_length, counts_more, figures_fold, stable_limited_too, empty_list, limited_numbered, IsFabricRun, all_made, all_give, length-replicate, ◌==◌, Bool, Some, false, filter, refl, get_or-map, get_or-replicate, range_with_len, Cell, mark_at, refused_counts, refused_in, with_refused, fabric_judged, admissions_in, coming, has_name, unnamed, AreWholePackets, Name, refused_here, Refused, whole, all_stand, tallies_up, packets_alike, tally_is, IsTally, cells_in, all_arriving, all_in_range, all_judged, sum, proposals_in, ◌*◌, kinds_summed, tests_turned, kept_has}
+use Rattle.cq_stopped.proofs.Terms.{recursion_from_All, get_or_default, come_count-first, IsCount, IsInputBest, recorded, slots_of_figures, rules, ◌≡◌, ℕ, zero, suc, ◌+◌, ◌-◌, ◌<◌, ◌≤◌, ◌^◌, List, [], ◌∷◌, length, map, fold, max, sym, ap, ◌∙◌, arith, common_steps, length-map, length-map-range_with_len, AllByRecursion, enumerate_from, flat_map, slice_index_or, Queued, Scheduled, arriving_from, departures_of, Fabric, cushion_of, input, SlotRecord, fabric_in, marked_in, LimitedRecord, slots_in, figures_of, input_figures, slacks, gone_in, list_of, each_pair, all_both, Differ, Has, all_from_has, all_of_has, has_image, has_left, has_right, image_has, figures_told, frozen_told, taken_of, opening, IsWhole, IsParted, seen_as, sent_as, state_of, IsRead, Kept, Runs, Switch, switch_of, named_in, queued_in, Taken, Tables, openings_of, AreRankNumbers, IsInRange, IsNamed, IsSeen, IsSent, state_text, Named, Sent, State, told_state, CanBeTakenUp, StoppedRunsAreSound, few_kept, of_images, all_weaker, written_in_run, arriving_length, counts_more, figures_fold, stable_limited_too, empty_list, limited_numbered, IsFabricRun, all_made, all_give, length-replicate, ◌==◌, Bool, Some, false, filter, refl, get_or-map, get_or-replicate, range_with_len, Cell, mark_at, refused_counts, refused_in, with_refused, fabric_judged, admissions_in, coming, has_name, unnamed, AreWholePackets, Name, refused_here, Refused, whole, all_stand, tallies_up, packets_alike, tally_is, IsTally, cells_in, all_arriving, all_in_range, all_judged, sum, proposals_in, ◌*◌, kinds_summed, tests_turned, kept_has}
 use Rattle.cq_audit.proofs.Following.{run_within as of_its_slots}
 use Rattle.cq_resume.proofs.Cut.{filter_both}
 use Rattle.cq_resume.proofs.Joining.{parts_join as join}
@@ -41,12 +41,6 @@ one_seen i rs all =
     let longest = of_images (λ (r : SlotRecord). length (input r.arrived i)) IsCount rs in
     search (arith, rules, all_weaker, longest, most_few, slacks_few, least_of)
 
-rank_numbers : (states : List (List ℕ)) → AllByRecursion AreLow states →
-    ((j : ℕ) → j < length states → length (slice_index_or states j []) ≤ 32) → AllByRecursion AreRankNumbers states
-rank_numbers [] low small = tt
-rank_numbers (s ∷ states) low small =
-    ((small zero (omega arith), low.0), rank_numbers states low.1 (λ j inside. small (suc j) (omega arith)))
-
 -- ## The run
 
 module _ (w : Switch) (ranks : List (List ℕ)) (configured : IsConfigured w ranks) (slots : ℕ) (early : slots < 2 ^ 63)
@@ -71,10 +65,6 @@ module _ (w : Switch) (ranks : List (List ℕ)) (configured : IsConfigured w ran
       let come = come_count-first w.came at.frozen.next in
       run_known w ranks configured at.frozen.next 0 at.frozen.next (opening w ranks) (marked_in at.frozen) rs _ [] []
       (known_first w ranks configured) (omega (arith, parted.next)) (omega arith) (omega arith) runs
-
-  -- each input keeps its mark
-  marks_many : length at.frozen.marks ≡ ports
-  marks_many = search (arith, rules, stopped.marks, length-replicate)
 
   known : Known w at.frozen.next (fabric_in at.frozen) stopped.ideal (came_of rs) at.sent
   known = let known = stopped.known in search (rules, Known, came_of)
@@ -104,7 +94,10 @@ module _ (w : Switch) (ranks : List (List ℕ)) (configured : IsConfigured w ran
   seen_right = search (arith, rules, figures_are_of, of_images, all_made, one_seen, stopped.records)
 
   states_right : AllByRecursion AreRankNumbers at.frozen.ranks
-  states_right = search (arith, rules, state_sized, known, rank_numbers)
+  states_right =
+      all_give AreLow (λ s. length s ≤ 32) AreRankNumbers (λ s low few. (few, low)) _ (search (rules, known))
+      (recursion_from_All _ _ (λ k d inside.
+      rw (get_or_default at.frozen.ranks k d [] inside) (search (arith, rules, state_sized, known))))
 
   queued_right : (names : List Named) → ((c : Named) → Has names c → Has (queued_in st) c) →
       AllByRecursion (IsNamed ports) names
@@ -140,12 +133,11 @@ module _ (w : Switch) (ranks : List (List ℕ)) (configured : IsConfigured w ran
       (refused_here w.limits i (arriving_from w.came 0 next) (admissions_in rs))
   walk i inside =
       let down : mark_at (opening w ranks).marks i ≡ false = get_or-replicate ports i false false inside in
-      let start : Follow w.limits false (coming i 0 next w.came) = search (arith, rules, whole) in
       rw down at (walked w i (omega (arith, configured.few)) (configured.packets.lines i inside)
       (λ a. has_name names a) (came_of rs) next
       (λ a. sym (has_as_name (named_in st) a) ∙ named_at at known a.slot a.cell.id.input) 0 next (opening w ranks)
       (marked_in at.frozen) rs runs (omega arith) (simp length-replicate (omega arith))
-      (λ t k e. rw e (search (arith, rules, came_in, came_of))) (rw down start))
+      (λ t k e. rw e (search (arith, rules, came_in, came_of))) (rw down (search (arith, rules, whole))))
 
   -- what was refused, by input
   lost_here : (i : ℕ) → i < ports →
@@ -172,9 +164,10 @@ module _ (w : Switch) (ranks : List (List ℕ)) (configured : IsConfigured w ran
 
   tallied : Tallied w.limits next w.came names ports at.frozen.marks counts
   tallied =
+      let many = stopped.marks in
       let ends = λ (i : ℕ) (inside : i < ports). (walk i inside).ends in
       let walked = by_places (walk_mark w.limits next w.came names) (Some false) in
-      search (arith, rules, marks_many, walked, ends, get_or-map, length-map, same_counts, left_before, lost_counted)
+      search (rules, length-replicate, walked, ends, get_or-map, length-map, same_counts, left_before, lost_counted)
 
   packets_are : AreWholePackets w st
   unfolding state_of
