@@ -1,7 +1,7 @@
 -- Packets that are put together at all outputs in one pass. While some departures are left, each output stands where a
 -- walk over its own departures would stand (`SoFar`), with the packets of that walk in its bytes (`Walked`). One
 -- departure more goes on with the walk at its output, and passes by those at all others.
-use Rattle.cq_simulate.proofs.Terms.{if◌then◌else◌, cons_option, Has, append_assoc, all_from_has, rules, ◌≡◌, ◌≢◌, ℕ, ◌+◌, ◌<◌, ◌≤◌, All, List, [], ◌∷◌, ◌++◌, length, map, drop, get_or, set, Option, Some, None, refl, arith, suc, true, take, zero, cond, common_steps, IfSome, cases_eq, cond-true, cond-false, eq-eqb, ne_eqb, and_from, and_left, and_right, append-nil, get_or-set_other, get_or-set_same, length-set, unpacked, Departure, Captured, longest_body, rows_from, ports_of, Tables, ArePacked, HaveLeftOf, packets_out, CanBeJoined, IsEmptied, Took, left_with, records_of, Fits, piece_at, All-push, leaves_in_flow, left_in_flow, JoinerView, open_after, open_at, packet_at, PackedDeparture, written_with, OutPacket, PacketRow, ◌-◌, ◌*◌, flat_map, min, ◌==◌, range_with_len, Cell, cells, cell_of, arrivals, came_in_flow, AreTables, of_packet, Open, filter_none, JoinsOn, cells_above, AllFit, AllByRecursion, take-add, take_min, length-drop, div_ceil_times, take_all, length-rows_from, get_or_default}
+use Rattle.cq_simulate.proofs.Terms.{if◌then◌else◌, cons_option, Has, append_assoc, all_from_has, rules, ◌≡◌, ◌≢◌, ℕ, ◌+◌, ◌<◌, ◌≤◌, All, List, [], ◌∷◌, ◌++◌, length, map, drop, get_or, set, Option, Some, None, refl, arith, suc, true, take, zero, common_steps, IfSome, cases_eq, cond-true, cond-false, eq-eqb, ne_eqb, and_from, and_left, and_right, append-nil, get_or-set_other, get_or-set_same, length-set, unpacked, Departure, Captured, longest_body, rows_from, ports_of, Tables, ArePacked, HaveLeftOf, packets_out, CanBeJoined, IsEmptied, Took, left_with, records_of, Fits, All-push, leaves_in_flow, left_in_flow, JoinerView, open_at, packet_at, PackedDeparture, written_with, OutPacket, PacketRow, ◌-◌, ◌*◌, flat_map, min, ◌==◌, range_with_len, Cell, cells, cell_of, arrivals, came_in_flow, AreTables, of_packet, Open, filter_none, JoinsOn, cells_above, AllFit, AllByRecursion, take-add, take_min, length-drop, div_ceil_times, take_all, length-rows_from, get_or_default}
 unfoldable use Rattle.cq_base.specs.Pieces.{cells_of}
 use Rattle.cq_pcap.specs.Written.{written}
 use Rattle.cq_simulate.specs.declared.packing.Packing.{Packing}

@@ -2,7 +2,7 @@
 -- at any moment of it: so both its matchings are chosen of orders by first cells. After the slot both agree again. So
 -- it is of a run from the empty fabric on, and of one that goes on from a sound state, whichever stable matchings may
 -- be chosen; and after the arrivals of each slot no slack is below 0.
-use Rattle.cq_simulate.proofs.Terms.{common_steps, rules, ◌≡◌, ℕ, ◌+◌, List, [], ◌∷◌, length, arith, take_all, Option, Arrival, IsTraffic, traffic_is, schedule_of, Cell, Machine, Marked, empty_limited, first_slots, arriving_from, IdealState, AreForPorts, admission_for_ports, agrees_of, after_sent, arrived, slack_arrived, orders_are, same_limited_slot, slots_fit, Fabric, ideal_of, LimitedFabricRun, LimitedFabricSlot, LimitedRecord, empty_limited_fabric, Partners, IsInputBest, IsStable, Captured, IsResumed, Kept, Switch, switch_of, Taken, AreTables, classes_of, ports_of, openings_of, Tables, AlwaysHasSlack, AreChosen, AreInputBest, CanBeTakenUp, GoesOn, fabric_in, marked_in, Orders, IsParted}
+use Rattle.cq_simulate.proofs.Terms.{common_steps, rules, ◌≡◌, ℕ, ◌+◌, List, [], ◌∷◌, length, arith, take_all, Option, Arrival, IsTraffic, traffic_is, schedule_of, Cell, Machine, Marked, empty_limited, first_slots, arriving_from, IdealState, AreForPorts, admission_for_ports, agrees_of, after_sent, arrived, slack_arrived, orders_are, same_limited_slot, slots_fit, Fabric, ideal_of, LimitedFabricRun, LimitedFabricSlot, LimitedRecord, empty_limited_fabric, Partners, IsInputBest, IsStable, Captured, IsResumed, Kept, Switch, switch_of, Taken, AreTables, classes_of, ports_of, openings_of, Tables, AlwaysHasSlack, AreChosen, AreInputBest, CanBeTakenUp, fabric_in, marked_in, Orders, IsParted}
 use Rattle.cq_laws.proofs.LimitedWhole.{Stands, begin}
 use Rattle.cq_simulate.proofs.TakenUp.{goes_of, machines_many}
 

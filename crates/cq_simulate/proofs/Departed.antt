@@ -1,8 +1,8 @@
 -- Each cell that departs has arrived. Of each input and class the cells of the packets that are taken in leave an
 -- output as they came. So what holds of all cells that arrive holds of each that departs: it is of a packet of its
 -- input's capture.
-use Rattle.cq_simulate.proofs.Terms.{rules, ◌≡◌, ℕ, ◌+◌, ◌<◌, ◌≤◌, ◌^◌, true, List, [], ◌∷◌, length, Result, Ok, sym, ◌∙◌, arith, common_steps, max, AllByRecursion, filter, eq-eqb, and_from, Arrival, end_of, Departure, TagFault, packets_of, cells, start, cell_of, arrivals_at, arrivals, IsTraffic, piece_begins, all_flat, traffic_is, NoLimits, slots_of, leaves_in_flow, departures_of, departures_limited, LimitedRan, flows_leave_in_packets, limited_same_sent, run_as_before, slots_as_before, Captured, AreTables, IsSetup, classes_of, ports_of, Tables, machines_of, openings_of, HaveLeftOf, LeaveInOrder, LeaveWhole, LeftInOrder, IsCaptured, ideal_departures, ran_ideal, slots_ran, subst, and_parts, eqb-true, Has, all_of_has, has_cases, has_image, has_kept, image_has, kept_has, flat_map, of_packet, Cell, came_more, few_by, length_packet, row_of, rows_are, length-append, length-map-range_with_len, last_departs, limited_slots, all_made}
-use Rattle.cq_cells.specs.Traffic.{IsInRange, IsRecorded}
+use Rattle.cq_simulate.proofs.Terms.{rules, ◌≡◌, ℕ, ◌+◌, ◌<◌, ◌≤◌, ◌^◌, true, List, [], ◌∷◌, length, Result, Ok, sym, ◌∙◌, arith, common_steps, max, AllByRecursion, filter, eq-eqb, and_from, Arrival, end_of, Departure, TagFault, packets_of, cells, start, cell_of, arrivals_at, arrivals, IsTraffic, piece_begins, all_flat, traffic_is, NoLimits, slots_of, leaves_in_flow, departures_of, departures_limited, LimitedRan, flows_leave_in_packets, limited_same_sent, run_as_before, slots_as_before, Captured, AreTables, IsSetup, classes_of, ports_of, Tables, machines_of, openings_of, HaveLeftOf, LeaveInOrder, LeaveWhole, LeftInOrder, IsCaptured, ideal_departures, ran_ideal, slots_ran, and_parts, eqb-true, Has, all_of_has, has_cases, has_image, has_kept, image_has, kept_has, flat_map, of_packet, Cell, came_more, few_by, length_packet, row_of, rows_are, length-append, length-map-range_with_len, last_departs, limited_slots, all_made}
+use Rattle.cq_cells.specs.Traffic.{IsRecorded}
 use Rattle.cq_simulate.proofs.OfPackets.{as_packets, packets_come, runnable}
 
 -- ## What departs has come

@@ -1,7 +1,7 @@
 -- One slot of the fabric by its numbers. The cells that wait at the inputs grow by those that arrive and fall by one
 -- for each transfer. A phase has no more proposals than the number of ports squared, and none where no cell waits at
 -- an input. Beside an ideal switch a cell leaves in each slot in which one waits or comes.
-use Rattle.cq_simulate.proofs.Terms.{common_steps, rules, ◌≡◌, ℕ, zero, suc, ◌+◌, ◌*◌, ◌≤◌, List, [], ◌∷◌, length, length-append, Option, Some, None, refl, arith, mul-le-mul, sum, range_with_len, filter_map, cons_option, length-map, nil_from_length, length-insert, length-map-range_with_len, get_or-map-range_with_len, sum_by-le, arrival_at, is_for, Cell, Queued, Transfer, present, outputs_at, Fabric, IsFabric, input, SlotRecord, FabricSlot, proposals_in, transfers_in, orders_of, output_order, Partners, partner_of, spent, proposals, IsMatching, IsInputBest, Machine, one_if, came_from, first_at, Transfers, came_to, list_arrived, OutputsInRange, are_offers, outputs_at_most, has_there, most_ports, fabric_listed, map, sum_by-cons, ◌-◌, waiting, Agrees, fabric_held, hold_as_many, IdealState, IsEmptyFabric, empty_together, nothing_left, AreForPorts, IsStable, stable_slot, same_slot, counted, arrived, after_sent, get_or_past, cases_lt}
+use Rattle.cq_simulate.proofs.Terms.{common_steps, rules, ◌≡◌, ℕ, zero, suc, ◌+◌, ◌*◌, ◌≤◌, List, [], ◌∷◌, length, length-append, Option, Some, refl, arith, mul-le-mul, sum, range_with_len, filter_map, cons_option, length-map, nil_from_length, length-insert, length-map-range_with_len, get_or-map-range_with_len, sum_by-le, arrival_at, is_for, Cell, Queued, Transfer, present, outputs_at, Fabric, IsFabric, input, SlotRecord, FabricSlot, proposals_in, transfers_in, orders_of, output_order, Partners, partner_of, spent, proposals, IsMatching, IsInputBest, Machine, one_if, came_from, first_at, Transfers, came_to, list_arrived, OutputsInRange, are_offers, outputs_at_most, has_there, most_ports, fabric_listed, map, sum_by-cons, ◌-◌, waiting, Agrees, fabric_held, hold_as_many, IdealState, IsEmptyFabric, empty_together, nothing_left, AreForPorts, IsStable, stable_slot, same_slot, counted, arrived, after_sent, get_or_past, cases_lt}
 use Rattle.cq_prefs.specs.Moves.{list_taken, noted, transfers_of}
 use Rattle.cq_prefs.specs.Orders.{Orders, ports, outputs_of}
 

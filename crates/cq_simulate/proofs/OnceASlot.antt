@@ -4,7 +4,7 @@
 -- so, and before the first slot nothing was counted. Nor has an output of a run that goes on from a sound state sent
 -- more cells than there were slots: in the state each of them has one `sent` line a slot at most, and the lines stand
 -- slot by slot, so from the first of them on, the cells that it sent are no more than the slots up to the last line.
-use Rattle.cq_simulate.proofs.Terms.{common_steps, rules, ◌≡◌, ℕ, zero, suc, ◌+◌, ◌≤◌, false, cond, List, [], ◌∷◌, map, Option, None, refl, arith, All, max, fold, is_some, slice_index_or, AllByRecursion, enumerate_from, list_any, cond_both, Cell, Queued, Figures, Marked, Machine, IsInputBest, Fabric, SlotRecord, FabricRun, LimitedFabricRun, LimitedRecord, slots_in, recorded, sends, output_after, figures_after, figures_of, OutputFigures, figures_fold, recursion_from_All, get_or-replicate, ◌<◌, length, Some, AllPairs, filter_map, eqb-true, take_all, All-from_recursion, Arrival, Departure, schedule_of, slots_of, Captured, EachPair, each_pair, departure_of, figures_told, frozen_told, IsResumed, Kept, IsSentBefore, switch_of, Taken, AreTables, ports_of, Tables, Sent, State, CanBeTakenUp, all_made, all_from_has, all_weaker}
+use Rattle.cq_simulate.proofs.Terms.{common_steps, rules, ◌≡◌, ℕ, ◌+◌, ◌≤◌, false, cond, List, [], ◌∷◌, map, Option, None, refl, arith, All, max, fold, is_some, slice_index_or, AllByRecursion, enumerate_from, list_any, cond_both, Cell, Queued, Figures, Marked, Machine, IsInputBest, Fabric, SlotRecord, FabricRun, LimitedFabricRun, LimitedRecord, slots_in, recorded, sends, output_after, figures_after, figures_of, OutputFigures, figures_fold, recursion_from_All, get_or-replicate, ◌<◌, length, Some, AllPairs, filter_map, eqb-true, take_all, All-from_recursion, Arrival, Departure, schedule_of, slots_of, Captured, EachPair, each_pair, departure_of, figures_told, frozen_told, IsResumed, Kept, IsSentBefore, switch_of, Taken, AreTables, ports_of, Tables, Sent, State, CanBeTakenUp, all_made, all_from_has, all_weaker}
 use Rattle.cq_resume.specs.Counted.{sent_by}
 
 -- ## The records of a run

@@ -1,5 +1,5 @@
 -- The words of this crate's proofs that stand elsewhere, each passed on from its place.
-pub use Rattle.cq_base.proofs.Library.{All, All-from_recursion, All-push, AllByRecursion, AllPairs, Bool, Err, IfErr-weaker, IfOk-weaker, IfSome, IsTrue, List, None, Ok, Option, Result, Some, [], and_from, and_left, and_parts, and_right, ap, append-nil, append_assoc, arith, cases_eq, cases_lt, common_steps, cond, cond-false, cond-true, cond_both, cons_option, div_ceil_times, drop, drop_all, drop_more, enumerate_from, eq-eqb, eqb-true, err_from_is_err_and, false, filter, filter-append, filter_agree, filter_map, flat_map, flat_map-append, fold, get_or, get_or-map, get_or-map-range_with_len, get_or-replicate, get_or-set_other, get_or-set_same, get_or_default, get_or_from_slice_get, get_or_past, if◌then◌else◌, inl, is_some, le-leb, le-ltb, leb-false, length, length-append, length-drop, length-filter, length-filter_both, length-insert, length-map, length-map-range_with_len, length-replicate, length-set, list_any, lt-leb, lt-ltb, ltb-true, map, map-append, max, min, mul-le-mul, nat_lt, ne_eqb, nil_from_length, not, range_with_len, recursion_from_All, refl, replicate, rules, set, slice_get_within, slice_index, slice_index_or, subst, suc, sum, sum-map, sum_by, sum_by-cons, sum_by-le, sym, take, take-add, take-append-le, take_all, take_min, true, unwrap_or, vec_len, zero, ℕ, ◌&&◌, ◌*◌, ◌++◌, ◌+◌, ◌-◌, ◌<◌, ◌==◌, ◌^◌, ◌↔◌, ◌∙◌, ◌∷◌, ◌≡◌, ◌≢◌, ◌≤◌, ◌⊎◌}
+pub use Rattle.cq_base.proofs.Library.{All, All-from_recursion, All-push, AllByRecursion, AllPairs, Bool, Err, IfErr-weaker, IfOk-weaker, IfSome, IsTrue, List, None, Ok, Option, Result, Some, [], and_from, and_left, and_parts, and_right, ap, append-nil, append_assoc, arith, cases_eq, cases_lt, common_steps, cond, cond-false, cond-true, cond_both, cons_option, div_ceil_times, drop, drop_all, drop_more, enumerate_from, eq-eqb, eqb-true, err_from_is_err_and, false, filter, filter-append, filter_agree, filter_map, flat_map, flat_map-append, fold, get_or, get_or-map, get_or-map-range_with_len, get_or-replicate, get_or-set_other, get_or-set_same, get_or_default, get_or_from_slice_get, get_or_past, if◌then◌else◌, inl, is_some, le-leb, le-ltb, leb-false, length, length-append, length-drop, length-filter, length-filter_both, length-insert, length-map, length-map-range_with_len, length-replicate, length-set, list_any, lt-leb, lt-ltb, ltb-true, map, map-append, max, min, mul-le-mul, nat_lt, ne_eqb, nil_from_length, not, range_with_len, recursion_from_All, refl, replicate, rules, set, slice_get_within, slice_index, slice_index_or, suc, sum, sum-map, sum_by, sum_by-cons, sum_by-le, sym, take, take-add, take-append-le, take_all, take_min, true, unwrap_or, vec_len, zero, ℕ, ◌&&◌, ◌*◌, ◌++◌, ◌+◌, ◌-◌, ◌<◌, ◌==◌, ◌^◌, ◌↔◌, ◌∙◌, ◌∷◌, ◌≡◌, ◌≢◌, ◌≤◌, ◌⊎◌}
 pub use Rattle.cq_base.specs.Arrivals.{arrival_at, no_arrivals}
 pub use Rattle.cq_base.specs.Arriving.{Arrival, arriving_at, end_of}
 unfoldable pub use Rattle.cq_base.specs.Arriving.{arriving, enough, traffic_of}
@@ -33,7 +33,7 @@ unfoldable pub use Rattle.cq_ideal.proofs.FlowRun.{come_count}
 pub use Rattle.cq_ideal.proofs.FlowStands.{HasWaited, Stands, is_kind, is_of_flow, shown}
 unfoldable pub use Rattle.cq_ideal.proofs.FlowStands.{of_flow}
 pub use Rattle.cq_ideal.proofs.LimitedEnds.{limited_found_end, limited_same_sent, limited_whole_fault, run_as_before, slots_as_before}
-pub use Rattle.cq_ideal.proofs.LimitedRuns.{is_run_of, judged, run_fault, run_step}
+pub use Rattle.cq_ideal.proofs.LimitedRuns.{is_run_of, judged, run_fault}
 pub use Rattle.cq_ideal.proofs.Parted.{arriving_here, arriving_length, arriving_parts, departures_append}
 pub use Rattle.cq_ideal.proofs.Refusals.{counts_more, each_once}
 pub use Rattle.cq_ideal.proofs.RestAtInput.{comes_from, line_at, rest_of}
@@ -56,14 +56,14 @@ pub use Rattle.cq_ideal.specs.Ranking.{AreForPorts, ranking}
 pub use Rattle.cq_ideal.specs.Refused.{refused_counts, refused_in}
 unfoldable pub use Rattle.cq_ideal.specs.Refused.{packets_refused}
 pub use Rattle.cq_ideal.specs.WholePackets.{AreJudged, AreOfPackets, came_at, cells_at}
-pub use Rattle.cq_reasm.specs.Joining.{JoinerView, open_after, open_at}
+pub use Rattle.cq_reasm.specs.Joining.{JoinerView, open_at}
 pub use Rattle.cq_state.specs.{State.IsInRange, declared.state.Sent.Sent, declared.state.State.State}
 pub use Rattle.cq_prefs.specs.FirstCells.{list_of, orders_of, output_order}
 pub use Rattle.cq_prefs.specs.Pairing.{IsInputBest, IsMatching, IsStable, Partners, partner_of, proposals, spent}
 pub use Rattle.cq_laws.proofs.{IdealOf.agrees_of, Recorded.recorded}
 pub use Rattle.cq_laws.proofs.InputBest.{stable_limited_slot, stable_limited_too, stable_slot}
 pub use Rattle.cq_laws.proofs.LimitedEnds.{limited_ends, one_limited_whole}
-pub use Rattle.cq_laws.proofs.LimitedSlots.{admission_for_ports, limited_ports_kept, same_limited_slot}
+pub use Rattle.cq_laws.proofs.LimitedSlots.{admission_for_ports, same_limited_slot}
 pub use Rattle.cq_laws.proofs.OneRun.{only_limited_run, outputs_at}
 pub use Rattle.cq_laws.proofs.OneSlot.{after_sent, arrived, same_slot, slack_arrived}
 pub use Rattle.cq_laws.proofs.Sound.{orders_are}
@@ -102,7 +102,7 @@ pub use Rattle.cq_simulate.specs.IdealRuns.{IsRefusalOf, counts_limited, slots_r
 unfoldable pub use Rattle.cq_simulate.specs.IdealRuns.{ideal_departures, ideal_refusals, ran_ideal}
 pub use Rattle.cq_simulate.specs.Packets.{ArePacked, HaveLeftOf, LeaveInOrder, LeaveWhole, LeftInOrder, LeftInPackets, ends_packet_at, of_packet}
 unfoldable pub use Rattle.cq_simulate.specs.Packets.{packets_out}
-pub use Rattle.cq_simulate.specs.Pieces.{CanBeJoined, Fits, IsCaptured, IsEmptied, JoinsOn, Took, AllFit, left_with, piece_at, records_of}
+pub use Rattle.cq_simulate.specs.Pieces.{CanBeJoined, Fits, IsCaptured, IsEmptied, JoinsOn, Took, AllFit, left_with, records_of}
 pub use Rattle.cq_simulate.specs.{declared.fabric_run.PackedFabricRun.PackedFabricRun, declared.refusal.RunRefusal.RunRefusal}
 pub use Rattle.cq_simulate.specs.Terms.{AreTables, CanBeTakenUp, Cell, FabricRun, GoesOnFrom, IsFreshFor, IsQuiet, IsReady, IsResumeFault, IsScheduleFor, IsSetup, NoneCome, Tables, classes_of, kept_of, ports_of}
 pub use Rattle.cq_base.proofs.Each.{all_both, all_filter, all_weaker, all_flat, all_made, filter_all, filter_none, of_images}

@@ -3,7 +3,7 @@
 -- output. A cell that comes has another name than each that came before it, of its flow each came in an earlier slot,
 -- and each of its class that waits has the lesser key: its level and no greater rank. So of two in the order of keys
 -- the one ahead goes before the other, as what left the output goes before both.
-use Rattle.cq_stopped.proofs.Terms.{All-set, All-from_recursion, recursion_from_All, get_or_past, rules, ◌≡◌, ℕ, zero, suc, ◌+◌, ◌<◌, ◌≤◌, ◌^◌, true, List, [], ◌∷◌, length, Option, Some, None, Ok, refl, arith, ◌++◌, cases_eq, ltb-true, cases_lt, eq-eqb, le-ltb, lt-ltb, common_steps, get_or-set_other, get_or-set_same, length-set, same_Some, AllByRecursion, is_some, slice_index_or, slice_set, arrival_at, Cell, Queued, came_from, only_ok, all_told, put_all, Ranking, ranking, came_to, KeepLaws, Machine, machine_at, EachPair, after_input_ok, Key, given_floor, all_made, inl, inr, ◌⊎◌, CameFor, Has, IsBefore, IsRising, among_put_all, has_left, has_right, never_both, not_before_itself, pair_of_has, pairs_cross, pairs_joined, pairs_left, pairs_right, rising_put_all}
+use Rattle.cq_stopped.proofs.Terms.{All-set, All-from_recursion, recursion_from_All, rules, ◌≡◌, ℕ, zero, suc, ◌+◌, ◌<◌, ◌≤◌, ◌^◌, true, List, [], ◌∷◌, length, Option, Some, None, Ok, refl, arith, ◌++◌, cases_eq, ltb-true, cases_lt, eq-eqb, le-ltb, lt-ltb, common_steps, get_or-set_other, get_or-set_same, length-set, same_Some, AllByRecursion, slice_index_or, slice_set, arrival_at, Cell, Queued, came_from, only_ok, all_told, put_all, Ranking, ranking, came_to, KeepLaws, Machine, machine_at, EachPair, after_input_ok, Key, given_floor, all_made, inl, inr, ◌⊎◌, CameFor, Has, IsBefore, IsRising, among_put_all, has_left, has_right, never_both, not_before_itself, pair_of_has, pairs_cross, pairs_joined, pairs_left, pairs_right, rising_put_all}
 use Rattle.cq_base.specs.Key.{is_before}
 use Rattle.cq_ideal.specs.Ranking.{keyed}
 use Rattle.cq_stopped.proofs.Ran.{AreLow, KeepsLow, Follows}

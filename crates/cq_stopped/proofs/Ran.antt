@@ -5,7 +5,7 @@
 -- these are keyed as the switch keys them, no two of them have the same name, and of each flow those ahead came first.
 -- They are just the cells that came in, by what was recorded slot by slot. What left stands in order, and no list and
 -- no number of a rank state is too great.
-use Rattle.cq_stopped.proofs.Terms.{Bool, Named, ◌&&◌, ◌≡◌, ◌≢◌, ℕ, ◌⊎◌, ◌<◌, ◌≤◌, ◌^◌, List, [], ◌++◌, length, map, Option, Some, ◌==◌, filter, slice_index_or, AllByRecursion, arriving_at, Departure, Queued, IdealState, Agrees, Fabric, IsAmong, input, LimitedRecord, came_to, list_of, machine_at, EachPair, Has, Switch, All-replicate, recursion_from_All, common_steps, rules, zero, suc, ◌+◌, ◌-◌, ◌*◌, min, ◌∷◌, flat_map, arith, length-append, fold, replicate, range_with_len, length-map, Scheduled, IsRecorded, IsTraffic, KeepsLaws, Machine, all_both, ArePackets, IsScheduleOf, switch_of, AreTables, Tables, machine_of, opening_of, openings_of, AreRecorded, of_images, FitsLine, ClassRow, Kind, FirstCome, Fair, few_by, Captured, schedule_known, small_cells, keeps_laws, kind, machine_is, right_classes, right_size, level_count, longest_file, most_classes, most_ports}
+use Rattle.cq_stopped.proofs.Terms.{Bool, Named, ◌&&◌, ◌≡◌, ◌≢◌, ℕ, ◌⊎◌, ◌<◌, ◌≤◌, ◌^◌, List, [], ◌++◌, length, map, Option, Some, ◌==◌, filter, slice_index_or, AllByRecursion, arriving_at, Departure, Queued, IdealState, Agrees, Fabric, IsAmong, input, LimitedRecord, came_to, list_of, machine_at, EachPair, Has, Switch, All-replicate, recursion_from_All, common_steps, rules, zero, suc, ◌+◌, ◌-◌, ◌*◌, min, ◌∷◌, flat_map, arith, length-append, fold, range_with_len, length-map, Scheduled, IsRecorded, IsTraffic, KeepsLaws, Machine, all_both, ArePackets, IsScheduleOf, switch_of, AreTables, Tables, machine_of, opening_of, openings_of, AreRecorded, of_images, FitsLine, ClassRow, Kind, FirstCome, few_by, Captured, schedule_known, small_cells, keeps_laws, kind, machine_is, right_classes, right_size, level_count, longest_file, most_classes, most_ports}
 use Rattle.cq_ideal.proofs.FlowStands.{Stands}
 use Rattle.cq_cells.specs.Schedule.{arrivals, arrivals_at, t0_of, packets_of}
 
