@@ -2,7 +2,7 @@
 use Rattle.cq_simulate.proofs.Terms.{common_steps, rules, ◌≡◌, ℕ, suc, ◌+◌, ◌-◌, ◌<◌, ◌≤◌, ◌^◌, Bool, true, false, List, [], ◌++◌, length, map, Option, Err, refl, sym, ap, arith, zero, ◌*◌, ◌∷◌, length-append, sum, slice_index, cases_lt, and_left, leb-false, ne_eqb, Arrival, arriving, end_of, arriving_at, RoomView, Cell, Departure, TagFault, Transfer, EngineView, HaveListRoom, IsMadeAs, IsReadyFor, SlotDone, answer_to, its_admission, marked_fabric, HaveLeft, CanCount, AreForPorts, ranking, IsEmptyFabric, Fabric, input, LimitedFabricRun, LimitedRecord, IsLimitedFault, LimitedFabricSlot, IsInputBest, Machine, class_count, counts_fit, none_counted, HasRunOn, IsReadyOn, NoneCome, StopsWithin, RanTo, WentOn, to_come, arrivals_for, arrives_found, from_here, one_if, come_from, no_more_from, for_here, come_for, no_more_to, IsQuiet, append-nil, take_all, take-append-le, IdealState, transfers_of_run, range_with_len, come_count, come_count-first, arriving_length, arriving_here, arriving_parts, total, total_same, Marked, arriving_from, departures_of, LimitedSent, stable_limited_slot, same_limited_slot, only_limited_run, fabric_held, held_for, LimitedAgrees, figures_after, agrees_of, ideal_of, is_from, is_to, number_of, arriving_is, found, quiet_limited_slots, limited_lists_kept, limited_outputs_kept, all_go_on, departures_one, transfers_one, most_ports, quiet_slots, best_act_alike, kept_on, kept_with, slots_fit, run_length, ◌∙◌, kept_both, kept_quiet, fabric_listed, admission_for_ports}
 use Rattle.cq_engine.specs.Engine.{HasGoneOn, ports_of}
 use Rattle.cq_engine.specs.Resting.{HasRested}
-use Rattle.cq_simulate.proofs.Steps.{fewer_come, of_admitted, come_here, numbers, slot_err}
+use Rattle.cq_simulate.proofs.Steps.{fewer_come, of_admitted, come_here, numbers}
 use Rattle.cq_simulate.proofs.FabricCounts.{all_wait, cross_few, empty_beside, slot_proposed}
 
 -- What is still to come. The first arrival of a slot from this one on is the same among all arrivals as among those
@@ -253,7 +253,7 @@ module _ {whole : Bool} {end : ℕ} {M : List ℕ → Machine} {came : List Arri
       let ms = map M first.fixed in
       let all = arriving_parts came first.next slot (length c.records) (suc j) count (sym c.long) (omega arith) in
       let on = all_go_on (LimitedFabricSlot IsInputBest first.limits ms) (IsLimitedFault first.limits ms) in
-      record { records = c.records ++ []; stops = search (rules, on.stop, arriving_here, slot_err, arriving_length) }
+      record { records = c.records ++ []; stops = search (rules, on.stop, arriving_here, arriving_length) }
 
 -- ## To the slot that is run next
 

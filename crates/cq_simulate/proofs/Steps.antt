@@ -184,12 +184,6 @@ goes_on {b} going iff le none =
 
 -- ## The steps
 
-pub slot_ok : (x : Result LimitedSent TagFault) → Ok tt ≡ answer_to x → (sent : LimitedSent) × (x ≡ Ok sent)
-slot_ok fault e = grind (arith, common_steps)
-
-pub slot_err : {S : Type 0} (x : Result S TagFault) (fault : TagFault) → Err fault ≡ answer_to x → x ≡ Err fault
-slot_err x fault e = grind (arith, common_steps)
-
 -- what is left is no more than the slots that are left after one of them, in which a cell leaves where one waits
 pub fewer_after : (before after here rest end slot n : ℕ) → after ≤ before + here - 1 →
     before + (here + rest) + (end - slot) ≤ suc n → (end ≤ slot → here ≡ 0) → (end ≤ slot + 1 → rest ≡ 0) →
@@ -241,4 +235,4 @@ module _ (M : List ℕ → Machine) {came : List Arrival} {first : IdealSwitch} 
   unfolding traffic_of arriving_from
   at_fault cells fault are answer =
       let all = arriving_parts came 0 slot slot (suc n) (enough came) (omega arith) (sym r.left) in
-      search (arith, rules, run_behind r (arriving came slot ∷ arriving_from came (slot + 1) n), run_fault, slot_err)
+      search (arith, rules, run_behind r (arriving came slot ∷ arriving_from came (slot + 1) n), run_fault)

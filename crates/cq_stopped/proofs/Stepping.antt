@@ -277,6 +277,4 @@ module _ (w : Switch) (ranks : List (List ℕ)) (configured : IsConfigured w ran
 
   -- nothing is known of the empty fabric but that
   pub known_first : Known w 0 (empty_fabric (length w.machines) ranks) (empty_ideal (length w.machines) ranks) [] []
-  known_first =
-      let agree = limited_empty_agree in
-      search (arith, rules, configured, agree, length-replicate, Lane, get_or-replicate, get_or_past, cases_lt)
+  known_first = search (arith, rules, configured, length-replicate, Lane, get_or-replicate, get_or_past, cases_lt)

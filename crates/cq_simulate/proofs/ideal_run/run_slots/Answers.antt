@@ -1,5 +1,5 @@
 use Rattle.cq_simulate.proofs.Terms.{slots_within, ◌+◌, ◌-◌, suc, rules, map, ◌∙◌, arith, err_from_is_err_and, enough}
-use Rattle.cq_simulate.proofs.Steps.{Running, at_end, at_fault, at_next, can_have, free_again, goes_on, slot_ok, stands as stands_at}
+use Rattle.cq_simulate.proofs.Steps.{Running, at_end, at_fault, at_next, can_have, free_again, goes_on, stands as stands_at}
 use Rattle.cq_simulate.proofs.ideal_run.run_slots.Given as given
 use Rattle.cq_simulate.proofs.ideal_run.run_slots.Goals as goal
 use Rattle.cq_simulate.proofs.ideal_run.run_slots.Goals.{After-arrivals}
@@ -32,7 +32,7 @@ slots-smaller g c = let here = stands g (goal.at.slots-smaller g c).After-arriva
 pub slots-preserved : goal.slots-preserved
 slots-preserved g c =
     let here = stands g (goal.at.slots-preserved g c).After-arrivals in
-    search (arith, rules, slot_ok, at_next g.R.Rank.machine here, free_again)
+    search (arith, rules, at_next g.R.Rank.machine here, free_again)
 
 pub returns-clause-sent : goal.returns-clause-sent
 returns-clause-sent g c = at_end c.slots.invariant.runs (c.is_over.ensures.0 c.slots-test.false)
