@@ -80,6 +80,6 @@ pub use Rattle.cq_state.specs.{Refusals.IsTooLong, State.state_text, declared.wr
 pub use Rattle.cq_laws.specs.{Records.transfers_of_run, declared.frozen.Frozen.Frozen}
 pub use Rattle.cq_laws.proofs.WholeRuns.{empty_list}
 pub use Rattle.cq_resume.specs.{Reading.IsRead, Reading.state_of, Resumed.IsResumed, Resumed.Kept, Switch.Switch, Switch.switch_of}
-pub use Rattle.cq_simulate.proofs.{Chosen.parted_best, Chosen.parted_slack, Chosen.resumed_best, Chosen.resumed_slack, Departed.left_in_packets, Departed.small_cells, EachPacket.each_packet_once, ResumedCounts.resumed_counts, ResumedWhole.resumed_whole, StableRuns.all_stable, StableRuns.stable_sends, StableRuns.stable_slack, Tallies.one_is}
+pub use Rattle.cq_simulate.proofs.{Chosen.parted_best, Chosen.parted_slack, Chosen.resumed_best, Chosen.resumed_slack, Departed.left_in_packets, Departed.small_cells, EachPacket.each_packet_once, OnceASlot.resumed_counts, ResumedWhole.resumed_whole, FabricLaws.all_stable, FabricLaws.stable_sends, FabricLaws.stable_slack, Tallies.one_is}
 pub use Rattle.cq_simulate.specs.{PartedRuns.CanBeTakenUp, PartedRuns.kept_of, declared.packing.Packing.Packing}
 pub use Rattle.cq_words.specs.{Numbers.number_from, Streamed.as_run, Streamed.run_of, Streamed.streamed}
