@@ -5,7 +5,7 @@
 -- Where no line of a phase is wrong, the transfers of the pairs that they tell are the lines. What is noted of an
 -- input is its line: its partner is the output that the line names, and its first cell for that output is the one.
 -- And the lines of all inputs, in order, are the lines.
-use Rattle.cq_audit.proofs.Terms.{common_steps, ◌≡◌, ◌≢◌, ℕ, suc, ◌+◌, ◌<◌, ◌≤◌, ◌⊎◌, List, [], ◌∷◌, length, Option, None, Some, refl, ◌∙◌, arith, rules, sym, AllByRecursion, filter_map, range_with_len, option_map, length-map, get_or_past, cases_eq, cond_both, eqb-true, cases_lt, Queued, Transfer, Waiting, cells_of, list_of, orders_of, output_order, noted, transfers_of, Orders, ports, IsOffered, Partners, partner_of, HasBetterInput, HasBetterOutput, IsMatching, AreOfPhase, AreRight, IsBlocking, IsStableTold, RiseByInput, line_of_input, told, first_id, output_told, all_weaker, get_or-map-range_with_len, length-map-range_with_len, is_output_order, outputs_at, CellId, sender, all_give}
+use Rattle.cq_audit.proofs.Terms.{common_steps, ◌≡◌, ◌≢◌, ℕ, suc, ◌+◌, ◌<◌, ◌≤◌, ◌⊎◌, List, [], ◌∷◌, length, Option, None, Some, ◌∙◌, arith, rules, sym, AllByRecursion, filter_map, range_with_len, option_map, length-map, get_or_past, cases_eq, cond_both, eqb-true, cases_lt, Queued, Transfer, Waiting, cells_of, list_of, orders_of, output_order, noted, transfers_of, Orders, ports, IsOffered, Partners, partner_of, HasBetterInput, HasBetterOutput, IsMatching, AreOfPhase, AreRight, IsBlocking, IsStableTold, RiseByInput, line_of_input, told, first_id, output_told, all_weaker, get_or-map-range_with_len, length-map-range_with_len, is_output_order, outputs_at, CellId, sender, all_give}
 use Rattle.cq_audit.proofs.TellingLines.{line_holds, line_is_of, no_line}
 
 -- ## Settled
@@ -73,10 +73,9 @@ lines_by_input : (f : ℕ → Option Transfer) (lines : List Transfer) (a n : �
     filter_map f (range_with_len a n) ≡ lines
 lines_by_input f [] a (suc n) same rise all = grind (arith, common_steps, lines_by_input f [] (a + 1) n)
 lines_by_input f (t ∷ lines) a (suc n) same rise all =
-    let next = later_between a n t.input lines in
     let own = lines_by_input f lines (a + 1) n in
     let rest = lines_by_input f (t ∷ lines) (a + 1) n in
-    grind (arith, common_steps, line_later, all_weaker, later_between, no_line, next, own, rest, cases_eq t.input a)
+    grind (arith, common_steps, line_later, all_weaker, later_between, no_line, own, rest, cases_eq t.input a)
 lines_by_input f lines a n same rise all = grind (arith, common_steps)
 
 -- ## What is noted of an input
@@ -85,23 +84,15 @@ module _ (lists : List (List Queued)) (lines : List Transfer) (right : AreRight 
     (are : AreOfPhase (length lists) slot phase lines) where
   note_is : (o : Option Transfer) → line_of_input i lines ≡ o →
       noted slot phase i (list_of lists i) (option_map (λ (t : Transfer). t.output) o) ≡ o
-  note_is None is = refl
-  note_is (Some t) is = search (arith, rules, some_of, names_first lists lines right i t is, line_holds, line_is_of)
-
-pub told_moves : (lists : List (List Queued)) (lines : List Transfer) (slot phase : ℕ) → AreRight lists lines →
-    AreOfPhase (length lists) slot phase lines → transfers_of (told (length lists) lines) lists slot phase ≡ lines
-unfolding transfers_of
-told_moves lists lines slot phase right are = search (rules, told_size, lines_by_input, told_at, note_is, all_weaker)
+  note_is o is = search (arith, rules, some_of, names_first lists lines right i, line_holds, line_is_of)
 
 -- the same of lists, and of the offers of what they hold
 pub judged_stable : (lists : List Waiting) (lines : List Transfer) (slot phase : ℕ) (m : Partners) (o : Orders) →
     o ≡ orders_of (cells_of lists) → m ≡ told (length lists) lines → AreRight (cells_of lists) lines →
     AreOfPhase (length lists) slot phase lines → ((i j : ℕ) → IsBlocking o m i j → ⊥) →
     IsStableTold (cells_of lists) slot phase lines m
+unfolding transfers_of
 judged_stable lists lines slot phase m o orders pairs right are none =
     let long = length-map lists (λ (w : Waiting). w.cells) in
-    let is = told_matching (cells_of lists) lines right in search (arith, rules, settled, told_moves)
-
--- as many offers as lists
-pub offers_long : (lists : List Waiting) → ports (orders_of (cells_of lists)) ≡ length lists
-offers_long lists = simp length-map
+    let is = told_matching (cells_of lists) lines right in
+    search (arith, rules, settled, told_size, lines_by_input, told_at, note_is, all_weaker)

@@ -1,21 +1,18 @@
 -- The lines of a phase have one verdict. Of two faults neither comes before the other. And where the lines are the
 -- transfers of a stable matching, the line of an input is what is noted of it: it names the input's first cell for its
 -- partner. So no line is wrong, the pairs that the lines tell are the matching, and none blocks it.
-use Rattle.cq_audit.proofs.Terms.{common_steps, rules, ◌≡◌, ℕ, zero, suc, ◌+◌, ◌<◌, ◌≤◌, ◌⊎◌, List, length, Option, None, Some, refl, ap, ◌∙◌, arith, filter_map, range_with_len, cases_lt, cases_eq, ext_get_or, length-map, Queued, Transfer, list_of, output_order, noted, transfers_of, Partners, partner_of, offer_of, transfers_tell, IsPhaseExact, IsPhaseFault, IsStableTold, IsWrongLine, first_id, line_of_input, output_told, told, PhaseFault}
+use Rattle.cq_audit.proofs.Terms.{common_steps, rules, ◌≡◌, ℕ, zero, suc, ◌+◌, ◌<◌, ◌≤◌, ◌⊎◌, List, length, Option, None, Some, ◌∙◌, arith, filter_map, range_with_len, cases_lt, cases_eq, ext_get_or, length-map, get_or_past, Queued, Transfer, list_of, output_order, noted, transfers_of, Partners, partner_of, offer_of, transfers_tell, IsPhaseExact, IsPhaseFault, IsStableTold, IsWrongLine, first_id, line_of_input, output_told, told, PhaseFault}
 use Rattle.cq_audit.specs.declared.phase.PhaseFault.TheVariants.{WrongLine, Blocking}
-use Rattle.cq_audit.proofs.LinesMoved.{line_later, some_of, told_at, told_size}
+use Rattle.cq_audit.proofs.LinesMoved.{line_later, told_at, told_size}
 
 -- ## The line of an input among those of all
 
 -- what a function notes of an input is a transfer of it
 module _ (h : ℕ → Option Transfer) (own : (i : ℕ) (t : Transfer) → h i ≡ Some t → t.input ≡ i) where
-  none_here : (i a n : ℕ) → (i < a) ⊎ (a + n ≤ i) → line_of_input i (filter_map h (range_with_len a n)) ≡ None
-  none_here i a zero out = refl
-  none_here i a (suc n) out = grind (arith, common_steps, line_later, none_here i (a + 1) n (grind arith))
-
-  line_here : (i a n : ℕ) → a ≤ i → i < a + n → line_of_input i (filter_map h (range_with_len a n)) ≡ h i
-  line_here i a zero low high = absurd (omega arith)
-  line_here i a (suc n) low high = search (rules, line_later, none_here, cases_eq, line_here i (a + 1) n)
+  line_is_here : (i a n : ℕ) → ((i < a) ⊎ (a + n ≤ i) → h i ≡ None) →
+      line_of_input i (filter_map h (range_with_len a n)) ≡ h i
+  line_is_here i a zero out = search (arith, rules, cases_lt i a)
+  line_is_here i a (suc n) out = search (arith, rules, line_later, cases_eq, line_is_here i (a + 1) n)
 
 -- ## The transfers of a stable matching
 
@@ -30,34 +27,28 @@ module _ (lists : List (List Queued)) (slot phase : ℕ) (lines : List Transfer)
     partner : partner_of m i ≡ Some t.output
     first : first_id t.output (list_of lists i) ≡ Some t.id
 
-  note_of : (i : ℕ) (t : Transfer) → note i ≡ Some t → IsNoteOf i t
-  unfolding note
-  note_of i t noted_is = grind (arith, common_steps)
-
   size : length m ≡ length lists
   size = is.stable.matching.size ∙ length-map lists output_order
 
-  line_is_note : (i : ℕ) → i < length m → line_of_input i lines ≡ note i
+  -- an input that has a partner has a cell for it, and so a line
+  line_is_note : (i : ℕ) → line_of_input i lines ≡ note i
   unfolding transfers_of note
-  line_is_note i inside = search (rules, line_here, note_of)
+  line_is_note i = search (arith, rules, line_is_here, get_or_past)
+
+  partner_told : (i : ℕ) → partner_of m i ≡ output_told lines i
+  unfolding note
+  partner_told i = grind (arith, common_steps, line_is_note, offer_of lists m is.stable i)
 
   -- the line of an input names its partner and its first cell for it
   line_names : (i : ℕ) (t : Transfer) → line_of_input i lines ≡ Some t → IsNoteOf i t
-  unfolding transfers_of note
-  line_names i t stands = search (rules, note_of, line_is_note, none_here, cases_lt)
+  unfolding note
+  line_names i t stands = search (rules, line_is_note)
 
   told_partner : (i j : ℕ) → output_told lines i ≡ Some j → partner_of m i ≡ Some j
-  told_partner i j e =
-      let line = some_of (λ t. t.output) (line_of_input i lines) j e in
-      (line_names i line.0 line.1).partner ∙ ap Some line.2
+  told_partner i j e = cc (partner_told i)
 
   pub none_wrong : (i : ℕ) → IsWrongLine lists lines i → ⊥
   none_wrong i wrong = search (arith, rules, line_names i wrong.line wrong.stands, told_partner)
-
-  -- an input that has a partner has a cell for it, and so a line
-  partner_told : (i : ℕ) → i < length m → partner_of m i ≡ output_told lines i
-  unfolding note
-  partner_told i inside = grind (arith, common_steps, line_is_note, offer_of lists m is.stable i)
 
   pub told_is : told (length lists) lines ≡ m
   told_is = search (arith, rules, ext_get_or None (told (length lists) lines) m, told_size, size, told_at, partner_told)
