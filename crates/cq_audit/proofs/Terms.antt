@@ -1,5 +1,5 @@
 -- The words of this crate's proofs that stand elsewhere, each passed on from its place.
-pub use Rattle.cq_base.proofs.Library.{AllByRecursion, Bool, Err, IfErr, IfSome, IsOk, List, None, Ok, OnOk, Option, Result, Some, [], and_left, and_parts, and_right, ap, append-nil, append_assoc, append_cancel_left, arith, cases_Bool, cases_eq, cases_lt, cases_order, common_steps, cond-false, cond_both, drop, drop_more, eq-eqb, eqb-true, err_from_is_err_and, ext_get_or, false, false_from_ne_true, filter, filter-append, filter_map, find-append, get_or, get_or-map, get_or-map-range_with_len, recursion_from_All, get_or-set_other, get_or-set_same, get_or-take, get_or_past, inl, inr, le-ltb, length, length-append, length-map, length-map-range_with_len, length-replicate, length-set, length-take-le, lit≤, lt-ltb, ltb-true, map, min, ne_eqb, not, option_map, position_or_len, range_with_len, refl, replicate, rules, slice_get, subst, suc, sym, take, take-append-drop, take-append-le, take-take, take_all, take_more, take_rest, true, zero, ℕ, ⊎_elim, ⊤, ◌*◌, ◌++◌, ◌+◌, ◌-◌, ◌<◌, ◌^◌, ◌∙◌, ◌∷◌, ◌≡◌, ◌≢◌, ◌≤◌, ◌⊎◌}
+pub use Rattle.cq_base.proofs.Library.{AllByRecursion, Bool, Err, IfErr, IfSome, IsOk, List, None, Ok, OnOk, Option, Result, Some, [], and_left, and_parts, and_right, ap, append-nil, append_assoc, append_cancel_left, arith, cases_Bool, cases_eq, cases_lt, cases_order, common_steps, cond-false, cond_both, drop, drop_more, eq-eqb, eqb-true, err_from_is_err_and, ext_get_or, false, false_from_ne_true, filter, filter-append, filter_map, find-append, get_or, get_or-map, get_or-map-range_with_len, recursion_from_All, get_or-set_other, get_or-set_same, get_or-take, get_or_past, inl, inr, le-ltb, length, length-append, length-map, length-map-range_with_len, length-replicate, length-set, length-take-le, lit≤, lt-ltb, ltb-true, map, map-append, min, ne_eqb, not, option_map, position_or_len, range_with_len, refl, replicate, rules, slice_get, subst, suc, sym, take, take-append-drop, take-append-le, take-take, take_all, take_more, take_rest, true, zero, ℕ, ⊎_elim, ⊤, ◌*◌, ◌++◌, ◌+◌, ◌-◌, ◌<◌, ◌^◌, ◌∙◌, ◌∷◌, ◌≡◌, ◌≢◌, ◌≤◌, ◌⊎◌}
 pub use Rattle.cq_base.proofs.Lists.{first_here, first_later}
 pub use Rattle.cq_base.specs.Arrivals.{arrival_at, no_arrivals}
 pub use Rattle.cq_base.specs.Arriving.{Arrival, arriving, end_of, enough}
@@ -19,11 +19,11 @@ unfoldable pub use Rattle.cq_ideal.specs.Ending.{arriving_from}
 pub use Rattle.cq_ideal.specs.Ranking.{ranking}
 pub use Rattle.cq_lines.proofs.Going.{SoFar, one_line_more}
 pub use Rattle.cq_lines.specs.Texts.{Leads}
-pub use Rattle.cq_audit.specs.Audit.{IsAuditExact, IsNo, IsNoOf, IsReadNo, IsYes, opening_fabric, phase_refusal}
+pub use Rattle.cq_audit.specs.Audit.{IsAuditExact, IsNo, IsNoOf, IsReadNo, IsYes, opening_fabric}
 pub use Rattle.cq_audit.specs.Phase.{AllBehind, AreOfPhase, AreParted, AreRight, IsBlocking, IsFirstWrong, IsPhaseExact, IsPhaseFault, IsStableTold, IsWrongLine, NoneBefore, RiseByInput, first_id, in_phase, is_at, line_of_input, output_told}
 unfoldable pub use Rattle.cq_audit.specs.Phase.{told}
 pub use Rattle.cq_audit.specs.Replay.{CanCome, CanReplay, HasRested, IsInStep, IsMadeAs, IsSlotFault, ReplayView, SlotReplayed, ports_in, refusal_of, shown}
-pub use Rattle.cq_audit.specs.StableRun.{Begins, BeginsFirst, IsFaultAt, IsLeftAt, IsOfStableRun, Reaches, StableRun, before_slot}
+pub use Rattle.cq_audit.specs.StableRun.{Begins, BeginsFirst, IsFaultAt, IsOfStableRun, Reaches, StableRun, before_slot}
 pub use Rattle.cq_audit.specs.{declared.phase.PhaseFault.PhaseFault, declared.refusal.AuditRefusal.AuditRefusal, declared.replay.SlotFault.SlotFault}
 pub use Rattle.cq_audit.specs.declared.refusal.AuditRefusal.TheVariants.{Left, Line, NoMemory}
 pub use Rattle.cq_list.specs.InputList.{Waiting, cells_of}
@@ -56,7 +56,7 @@ pub use Rattle.cq_ideal.proofs.{FlowFound.all_found, LimitedParts.limited_parts,
 pub use Rattle.cq_ideal.specs.{IdealSlot.fronts, Limiter.ComeToPorts, Limiter.LimiterView, Parts.RanksView}
 pub use Rattle.cq_lines.specs.{Lines.ending, Lines.BeginsWith}
 pub use Rattle.cq_lines.proofs.{Spelling.one_number, Walk.ending_ends, Walk.one_ending}
-pub use Rattle.cq_laws.proofs.{Came.came_from, Held.nothing_for, InputBest.stable_limited_too, Joined.all_go_on, KeptParts.transfers_one, LimitedSlots.same_limited_fault, LimitedWhole.begin, LimitedWhole.same_limited_run, QuietSlots.quiet_transfers, Rises.sender}
+pub use Rattle.cq_laws.proofs.{Came.came_from, Held.nothing_for, InputBest.stable_limited_too, Joined.all_go_on, KeptParts.transfers_both, KeptParts.transfers_one, LimitedSlots.same_limited_fault, LimitedWhole.begin, LimitedWhole.same_limited_run, QuietSlots.quiet_transfers, Rises.sender}
 pub use Rattle.cq_laws.specs.{Agreement.SendsAlike, Holding.held_for, LimitedAgreement.LimitedAgrees, LimitedAgreement.LimitedRunsAlike, Quiet.idled}
 pub use Rattle.cq_fabric.specs.Held.{HoldsFabric}
 pub use Rattle.cq_fabric.proofs.{Kept.limited_lists_kept, Kept.limited_outputs_kept, Known.AreRanked, Known.BuffersHaveRoom, Known.HaveArrived, Known.HaveJudged, Known.HaveMoved, Known.HaveSent, Rested.rested_agrees, Rested.rested_limited_run, Rested.still_held}

@@ -5,7 +5,7 @@
 -- the run. So of two faults of phases neither stands before the other, for a run that goes on past a phase has made
 -- the transfers of a stable matching there, as its lines say. For the same reason no fault stands within a whole run
 -- that moves what the lines say, and none behind it, for the run is over there. And two such runs are one.
-use Rattle.cq_audit.proofs.Terms.{common_steps, rules, ◌≡◌, ℕ, ◌<◌, ◌≤◌, List, [], ◌∷◌, ◌++◌, length, take, drop, Option, refl, sym, arith, append_assoc, ◌-◌, AllByRecursion, cases_lt, take-append-drop, take-take, Arrival, end_of, Transfer, Marked, arriving_from, first_slots, arriving_length, Machine, IsStable, Fabric, IsEmptyFabric, LimitedFabricRun, LimitedFabricSlot, LimitedRecord, slots_in, transfers_of_run, AfterBy, reach, run_of_whole, Reaches, StableRun, before_slot, all_weaker, suc, ◌⊎◌, inl, inr, ⊎_elim, cases_order, Partners, one_arrival, one_departure, IsNoOf, phase_refusal, IsStableTold, in_phase, Begins, BeginsFirst, IsFaultAt, IsLeftAt, IsOfStableRun, PhaseFault, AuditRefusal, Left, filter_all, lt-ltb}
+use Rattle.cq_audit.proofs.Terms.{common_steps, rules, ◌≡◌, ℕ, ◌<◌, ◌≤◌, List, [], ◌∷◌, ◌++◌, length, take, drop, Option, refl, arith, map-append, transfers_both, ◌-◌, AllByRecursion, cases_lt, take-append-drop, take-take, Arrival, end_of, Transfer, Marked, arriving_from, first_slots, arriving_length, Machine, IsStable, Fabric, IsEmptyFabric, LimitedFabricRun, LimitedFabricSlot, LimitedRecord, slots_in, transfers_of_run, AfterBy, reach, run_of_whole, Reaches, StableRun, before_slot, all_weaker, suc, ◌⊎◌, inl, inr, ⊎_elim, cases_order, Partners, one_arrival, one_departure, IsNoOf, IsStableTold, in_phase, Begins, BeginsFirst, IsFaultAt, IsOfStableRun, PhaseFault, AuditRefusal, filter_all, lt-ltb}
 use Rattle.cq_audit.proofs.BySlot.{before_is, before_later, phase_before, phase_later, phase_now}
 use Rattle.cq_audit.proofs.Following.{each_moved, one_move, one_stable_run, run_later, run_within}
 use Rattle.cq_audit.proofs.PhaseExact.{phase_is_exact}
@@ -15,9 +15,7 @@ abbrev pub moved : List LimitedRecord → List Transfer
 moved rs = transfers_of_run (slots_in rs)
 
 pub moved_parts : (xs ys : List LimitedRecord) → moved (xs ++ ys) ≡ moved xs ++ moved ys
-unfolding transfers_of_run
-moved_parts [] ys = refl
-moved_parts (x ∷ xs) ys = grind (arith, common_steps, append_assoc, moved_parts xs ys)
+moved_parts xs ys = search (rules, transfers_both, map-append)
 
 module _ (limits : List (Option ℕ)) (ms : List Machine) (came : List Arrival) where
   -- the transfers of a run of so many slots are of these slots
@@ -65,21 +63,18 @@ module _ (limits : List (Option ℕ)) (ms : List Machine) (came : List Arrival) 
           let r = reach (LimitedFabricSlot IsStable limits ms) came start rs m n end le run in
           search (arith, rules, moved_parts, take-append-drop m rs, all_before, run_later, before_is, before_later)
 
-      -- ## A whole run that moves what the lines up to its end say
+      -- ## Whole runs that move what the lines up to their ends say
 
-      pub record IsFollowed : Type 0 where
-        pub records : List LimitedRecord
-        pub end : Marked Fabric
-        pub runs : Whole records end
-        pub told : moved records ≡ before_slot (length records) note
+      not_longer : (rs ss : List LimitedRecord) (g h : Marked Fabric) → Whole rs g → Whole ss h →
+          moved rs ≡ before_slot (length rs) note → moved ss ≡ before_slot (length ss) note →
+          length rs < length ss → ⊥
+      not_longer rs ss g h w v told_r told_s lt =
+          let half = halfway (length rs) (length ss) ss h in
+          search (arith, rules, whole_run, half, one_stable_run, whole_going, whole_run rs g w)
 
-      not_longer : (a b : IsFollowed) → length a.records < length b.records → ⊥
-      not_longer a b lt =
-          let h = halfway (length a.records) (length b.records) b.records b.end in
-          search (arith, rules, whole_run, h, one_stable_run, whole_going, whole_run a.records a.end a.runs)
-
-      pub one_length : (a b : IsFollowed) → length a.records ≡ length b.records
-      one_length a b = grind (arith, common_steps, not_longer a b, not_longer b a, cases_lt)
+      pub one_length : (rs ss : List LimitedRecord) (g h : Marked Fabric) → Whole rs g → Whole ss h →
+          moved rs ≡ before_slot (length rs) note → moved ss ≡ before_slot (length ss) note → length rs ≡ length ss
+      one_length rs ss g h w v told_r told_s = search (arith, rules, not_longer, cases_lt)
 
       -- ## The states that the lines leave no choice of
 
@@ -164,51 +159,27 @@ module _ (limits : List (Option ℕ)) (ms : List Machine) (came : List Arrival) 
           (same, one_phase t p q a b there y, search (arith, rules, phase_is_exact.one_fault))) (λ other. absurd
           (⊎_elim (none_later s t p q a b x y) (none_later t s q p b a y x) other)) (cases_order s t)
 
-      -- ## A whole run that moves what the lines up to its end say
-
-      followed_left : (n : ℕ) → IsLeftAt limits ms came start note n → IsFollowed
-      followed_left l = search (arith, rules)
-
-      followed_whole : IsOfStableRun limits ms came start note → IsFollowed
-      followed_whole is = search (arith, rules, followed)
-
-      -- no phase has a fault: none of a slot of the run, and the run reaches no other
-      none_followed : (slot phase : ℕ) (fault : PhaseFault) → IsFollowed → FaultAt slot phase fault → ⊥
-      none_followed slot phase fault w f =
-          let n = length w.records in
-          let run = whole_run w.records w.end w.runs in
+      -- no phase has a fault where a whole run moves what the lines up to its end say: none of a slot of the run, and
+      -- the run reaches no other
+      none_followed : (slot phase : ℕ) (fault : PhaseFault) (rs : List LimitedRecord) (end : Marked Fabric) →
+          Whole rs end → moved rs ≡ before_slot (length rs) note → FaultAt slot phase fault → ⊥
+      none_followed slot phase fault rs end w told f =
+          let n = length rs in
+          let run = whole_run rs end w in
           let at = reached_at slot phase fault f in
           let h = halfway n slot at.1.records at.0 in
           search (arith, rules, none_passed slot phase fault, passed, whole_going, h, one_stable_run, cases_lt slot n)
 
-      -- no line is left of those that it moves all
-      none_left : (n : ℕ) → IsOfStableRun limits ms came start note → IsLeftAt limits ms came start note n → ⊥
-      unfolding followed_left followed_whole
-      none_left n is l = grind (arith, common_steps, one_length (followed_whole is) (followed_left n l), followed)
-
-      one_left : (m n : ℕ) → IsLeftAt limits ms came start note m → IsLeftAt limits ms came start note n → m ≡ n
-      unfolding followed_left
-      one_left m n a b = cc (one_length (followed_left m a) (followed_left n b))
-
       -- ## Refusals
-
-      -- a fault of a phase, or a line that is left
-      fault_or_left : (refusal : AuditRefusal) → IsNoOf limits ms came start note refusal →
-          ((slot : ℕ) × (phase : ℕ) × (fault : PhaseFault) × (refusal ≡ phase_refusal slot phase fault)
-          × FaultAt slot phase fault) ⊎ ((n : ℕ) × (refusal ≡ Left n) × IsLeftAt limits ms came start note n)
-      fault_or_left refusal wrong = grind (arith, common_steps)
 
       pub one_no_of : (r s : AuditRefusal) → IsNoOf limits ms came start note r →
           IsNoOf limits ms came start note s → r ≡ s
-      one_no_of r s x y = search (arith, rules, one_fault_at, none_followed, fault_or_left, one_left)
+      one_no_of r s x y = search (arith, rules, one_fault_at, none_followed, one_length)
 
       pub no_no : (r : AuditRefusal) → IsOfStableRun limits ms came start note → IsNoOf limits ms came start note r → ⊥
-      no_no r is x = search (arith, rules, none_followed, followed_whole, none_left, fault_or_left)
+      no_no r is x = search (arith, rules, none_followed, followed, one_length)
 
     pub one_whole_run : (rs ss : List LimitedRecord) (g h : Marked Fabric) → StableRun limits ms came start rs g →
         StableRun limits ms came start ss h → moved rs ≡ moved ss → (rs ≡ ss) × (g ≡ h)
     one_whole_run rs ss g h w v same =
-        let long = one_length (moved rs)
-        (record { records = rs; end = g; runs = w; told = followed rs g (moved rs) w refl })
-        (record { records = ss; end = h; runs = v; told = followed ss h (moved rs) v (sym same) }) in
-        grind (arith, common_steps, one_stable_run, whole_run)
+        grind (arith, common_steps, one_length (moved rs) rs ss g h w v, followed, one_stable_run, whole_run)
