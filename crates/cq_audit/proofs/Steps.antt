@@ -11,7 +11,7 @@
 use Rattle.cq_audit.proofs.Terms.{common_steps, rules, ◌≡◌, ℕ, ◌+◌, ◌-◌, ◌<◌, ◌≤◌, Bool, List, [], length, map, Option, Result, Err, arith, length-append, ◌*◌, zero, suc, ◌∷◌, ◌++◌, refl, append_assoc, IfErr, IsOk, OnOk, cases_lt, append-nil, take_all, take-append-le, Arrival, arriving, end_of, enough, RoomView, Cell, Transfer, Machine, class_count, Marked, first_slots, arriving_from, ranking, IsStable, Fabric, IsEmptyFabric, LimitedFabricRun, empty_limited_fabric, fabric_admission, IsLimitedFault, LimitedFabricSlot, LimitedRecord, arrivals_for, refusal_of, AreInOrder, NoneBefore, CanReplay, HasRested, IsInStep, IsSlotFault, ReplayView, SlotReplayed, ports_in, IsMadeAs, IsReady, IsStill, RunEnds, Reaches, before_slot, AuditRefusal, Left, SlotFault, arriving_length, arriving_parts, quiet_limited_slots, transfers_of_run, AfterBy, run_length, first_more, quiet_slots, Ok, Some, TagFault, arrival_at, IsTraffic, is_from, is_to, number_of, count_for, whole_limited_run, empty_limited, input, reach, empty_list, empty_together, nothing_for, slots_fit, arrives_found, come_from, from_here, from_last, no_more_from, one_if, some_one, idled, all_go_on, transfers_one, quiet_transfers, limited_parts, run_fault, held_for, LimitedAgrees, LimitedRunsAlike, same_limited_fault, begin, same_limited_run, limited_lists_kept, limited_outputs_kept, come_for, for_here, for_last, no_more_to}
 use Rattle.cq_audit.proofs.BySlot.{before_is, phase_later, none_first, none_from, none_next}
 use Rattle.cq_audit.proofs.Skips.{all_late}
-use Rattle.cq_audit.proofs.WholeFollowing.{all_before, moved, moved_parts}
+use Rattle.cq_audit.proofs.WholeFollowing.{Going, Runs, all_before, moved, moved_parts}
 use Rattle.cq_audit.proofs.Following.{one_stable_run}
 use Rattle.cq_ideal.proofs.LimitedEnds.{last, limited_ends, limited_not_more, limited_whole_fault}
 
@@ -26,54 +26,47 @@ module _ (limits : List (Option ℕ)) (ms : List Machine) (came : List Arrival) 
       ((i : ℕ) → length (input g.state i) ≤ length (input f.state i) + come_from i came slot n)
       × ((j : ℕ) → held_for j g.state ≤ held_for j f.state + come_for j (arriving_from came slot n))
   unfolding arriving_from
-  grow zero slot f g [] run = search (arith, rules)
   grow (suc n) slot f g (r ∷ rs) run =
       let rest = grow n (slot + 1) run.0 g rs run.2 in
       let kept = limited_lists_kept limits ms slot (arriving came slot) f run.0 r run.1 in
       search (arith, rules, some_one, arrives_found, from_here, limited_outputs_kept, for_here, kept)
-  grow _ slot f g _ run = absurd run
+  grow n slot f g rs run = search (arith, rules)
 
   module _ (ports : ℕ) (ranks : List (List ℕ)) (slot : ℕ) (f : Marked Fabric) (rs : List LimitedRecord)
-      (run : LimitedFabricRun IsStable limits ms 0 (first_slots came slot) (empty_limited_fabric ports ranks) rs f)
-    where
-      -- where a cell arrives in the next slot, fewer wait at its input than arrive there in all
-      pub list_is_short : (i : ℕ) (cell : Cell) → arrival_at (arriving came slot) i ≡ Some cell →
-          length (input f.state i) < number_of (is_from i) came
-      list_is_short i cell at =
-          let grown = (grow slot 0 (empty_limited_fabric ports ranks) f rs run).0 i in
-          let all = no_more_from i came (suc slot) in
-          let comes = arrives_found came slot i in grind (arith, common_steps, empty_list, one_if, from_last)
+      (run : Runs limits ms came (empty_limited_fabric ports ranks) slot rs f) where
+    -- where a cell arrives in the next slot, fewer wait at its input than arrive there in all
+    pub list_is_short : (i : ℕ) (cell : Cell) → arrival_at (arriving came slot) i ≡ Some cell →
+        length (input f.state i) < number_of (is_from i) came
+    list_is_short i cell at =
+        let grown = (grow slot 0 (empty_limited_fabric ports ranks) f rs run).0 i in
+        let all = no_more_from i came (suc slot) in
+        let comes = arrives_found came slot i in grind (arith, common_steps, empty_list, one_if, from_last)
 
-      -- the cells that an output holds and those that arrive for it in the next slot are no more than arrive for it in
-      -- all
-      pub output_is_short : (j : ℕ) → held_for j f.state + count_for j (arriving came slot) ≤ number_of (is_to j) came
-      output_is_short j =
-          let grown = grow slot 0 (empty_limited_fabric ports ranks) f rs run in
-          grind (arith, common_steps, grown, empty_list, nothing_for, for_last, no_more_to j came (slot + 1))
+    -- the cells that an output holds and those that arrive for it in the next slot are no more than arrive for it in
+    -- all
+    pub output_is_short : (j : ℕ) → held_for j f.state + count_for j (arriving came slot) ≤ number_of (is_to j) came
+    output_is_short j =
+        let grown = grow slot 0 (empty_limited_fabric ports ranks) f rs run in
+        grind (arith, common_steps, grown, empty_list, nothing_for, for_last, no_more_to j came (slot + 1))
 
-      -- ## Beside the ideal switch
+    -- ## Beside the ideal switch
 
-      module _ (classes : ℕ) (traffic : IsTraffic ports classes came) where
-        pub beside : LimitedRunsAlike limits ms 0 (first_slots came slot) (empty_limited ports ranks) rs f
-        beside = same_limited_run limits ms classes 0 (first_slots came slot) (empty_limited_fabric ports ranks) f _ rs
-            (begin limits ms classes ports ranks _ (slots_fit ports classes came 0 slot traffic)) run
+    module _ (classes : ℕ) (traffic : IsTraffic ports classes came) where
+      pub beside : LimitedRunsAlike limits ms 0 (first_slots came slot) (empty_limited ports ranks) rs f
+      beside = same_limited_run limits ms classes 0 (first_slots came slot) (empty_limited_fabric ports ranks) f _ rs
+          (begin limits ms classes ports ranks _ (slots_fit ports classes came 0 slot traffic)) run
 
-        pub agree_now : LimitedAgrees slot f beside.after
-        agree_now = grind (arith, common_steps, arriving_length)
+      pub agree_now : LimitedAgrees slot f beside.after
+      agree_now = grind (arith, common_steps, arriving_length)
 
-        -- a fault in the next slot is one of the whole ideal run
-        fault_there : (fault : TagFault) →
-            ranking ms slot 0 (fabric_admission limits (arriving came slot) f).cells f.state.ranks ≡ Err fault →
-            whole_limited_run limits ms came (empty_limited ports ranks) ≡ Err fault
-        fault_there fault is =
-            let here = (same_limited_fault limits ms slot (arriving came slot) f beside.after fault agree_now).1 is in
-            let parts = limited_parts limits ms 0 slot (first_slots came slot) (arriving came slot ∷ []) in
-            search (arith, rules, first_more came slot, arriving_length, parts, limited_whole_fault limits, run_fault)
-
-        -- the ranks of what is admitted in the next slot fit
-        pub ranks_fit : IsOk (whole_limited_run limits ms came (empty_limited ports ranks)) →
-            IsOk (ranking ms slot 0 (fabric_admission limits (arriving came slot) f).cells f.state.ranks)
-        ranks_fit whole = grind (arith, common_steps, fault_there)
+      -- a fault in the next slot is one of the whole ideal run
+      fault_there : (fault : TagFault) →
+          ranking ms slot 0 (fabric_admission limits (arriving came slot) f).cells f.state.ranks ≡ Err fault →
+          whole_limited_run limits ms came (empty_limited ports ranks) ≡ Err fault
+      fault_there fault is =
+          let here = (same_limited_fault limits ms slot (arriving came slot) f beside.after fault agree_now).1 is in
+          let parts = limited_parts limits ms 0 slot (first_slots came slot) (arriving came slot ∷ []) in
+          search (arith, rules, first_more came slot, arriving_length, parts, limited_whole_fault limits, run_fault)
 
   -- ## Where the run ends
 
@@ -81,8 +74,7 @@ module _ (limits : List (Option ℕ)) (ms : List Machine) (came : List Arrival) 
       (whole : IsOk (whole_limited_run limits ms came (empty_limited ports ranks))) where
     -- after as many slots as the ideal switch has, no cell is to come and none waits
     over_there : (f : Marked Fabric) (rs : List LimitedRecord) →
-        LimitedFabricRun IsStable limits ms 0 (first_slots came (last limits ms ports ranks came))
-        (empty_limited_fabric ports ranks) rs f →
+        Runs limits ms came (empty_limited_fabric ports ranks) (last limits ms ports ranks came) rs f →
         (end_of came ≤ last limits ms ports ranks came) × IsEmptyFabric f.state
     over_there f rs run =
         let n = last limits ms ports ranks came in
@@ -92,10 +84,8 @@ module _ (limits : List (Option ℕ)) (ms : List Machine) (came : List Arrival) 
 
     -- so a run that is over at no slot up to this one has no more slots
     pub slots_bounded : (slot : ℕ) (f : Marked Fabric) (rs : List LimitedRecord) →
-        LimitedFabricRun IsStable limits ms 0 (first_slots came slot) (empty_limited_fabric ports ranks) rs f →
-        ((m : ℕ) (g : Marked Fabric) → m ≤ slot →
-        AfterBy (LimitedFabricSlot IsStable limits ms) came (empty_limited_fabric ports ranks) rs m g →
-        end_of came ≤ m → IsEmptyFabric g.state → ⊥) → slot < enough came
+        Runs limits ms came (empty_limited_fabric ports ranks) slot rs f →
+        Going limits ms came (empty_limited_fabric ports ranks) slot rs → slot < enough came
     slots_bounded slot f rs run not_over =
         let far = reach (LimitedFabricSlot IsStable limits ms) came (empty_limited_fabric ports ranks) rs
         (last limits ms ports ranks came) slot f in
@@ -107,8 +97,7 @@ module _ (limits : List (Option ℕ)) (ms : List Machine) (came : List Arrival) 
 pub record Replaying (M : List ℕ → Machine) (came : List Arrival) (lines : List Transfer) (first : ReplayView)
     (slot : ℕ) (rest : List Transfer) (now : ReplayView) (note : RoomView Transfer) : Type 0 where
   pub records : List LimitedRecord
-  pub runs : LimitedFabricRun IsStable first.limits (map M first.fixed) 0 (first_slots came slot) first.fabric records
-      now.fabric
+  pub runs : Runs first.limits (map M first.fixed) came first.fabric slot records now.fabric
   pub going : (m : ℕ) (f : Marked Fabric) → m < slot →
       AfterBy (LimitedFabricSlot IsStable first.limits (map M first.fixed)) came first.fabric records m f →
       end_of came ≤ m → IsEmptyFabric f.state → ⊥
@@ -147,9 +136,6 @@ module _ {M : List ℕ → Machine} {came : List Arrival} {lines : List Transfer
   told_before : moved b.records ≡ before_slot slot lines
   told_before = grind (arith, common_steps, before_is, moved, all_before, all_late)
 
-  pub rest_is_short : length rest ≤ length lines
-  rest_is_short = grind (arith, common_steps, length-append, moved)
-
   -- what was noted is taken out, and its room is there again
   pub cleared : (note' : RoomView Transfer) → note'.items ≡ [] → note'.spare ≡ note.spare + length note.items →
       Replaying M came lines first slot rest now note'
@@ -181,9 +167,7 @@ module _ {M : List ℕ → Machine} {came : List Arrival} {lines : List Transfer
 
   module _ (more : end_of came ≤ slot → IsEmptyFabric now.fabric.state → ⊥) where
     -- the run is over at no slot up to this one
-    not_over : (m : ℕ) (f : Marked Fabric) → m ≤ slot →
-        AfterBy (LimitedFabricSlot IsStable first.limits (map M first.fixed)) came first.fabric b.records m f →
-        end_of came ≤ m → IsEmptyFabric f.state → ⊥
+    not_over : Going first.limits (map M first.fixed) came first.fabric slot b.records
     not_over m f le run late empty = grind (arith, common_steps, one_stable_run, one_each, take_all, cases_lt)
 
     pub at_next : (cells : List (Option Cell)) (left : List Transfer) (new : ReplayView) (note' : RoomView Transfer) →
@@ -209,8 +193,8 @@ module _ {M : List ℕ → Machine} {came : List Arrival} {lines : List Transfer
     -- ## What a slot asks for
 
     module _ {first_note : RoomView Transfer} (ready : IsReady (map M first.fixed) came lines first first_note) where
-      run_from_start : LimitedFabricRun IsStable first.limits (map M first.fixed) 0 (first_slots came slot)
-          (empty_limited_fabric (ports_in first) first.fabric.state.ranks) b.records now.fabric
+      run_from_start : Runs first.limits (map M first.fixed) came
+          (empty_limited_fabric (ports_in first) first.fabric.state.ranks) slot b.records now.fabric
       run_from_start = search (arith, rules)
 
       -- the run ends, and a slot is left
@@ -221,7 +205,7 @@ module _ {M : List ℕ → Machine} {came : List Arrival} {lines : List Transfer
           CanReplay (map M now.fixed) slot cells rest now note
       can_replay cells are none =
           let for_ports = arrivals_for (ports_in first) (class_count (map M first.fixed)) came slot ready.traffic in
-          search (arith, rules, ranks_fit, run_from_start, a_slot_left, list_is_short, output_is_short)
+          search (arith, rules, fault_there, run_from_start, a_slot_left, list_is_short, output_is_short)
 
   -- ## The end of the loop
 

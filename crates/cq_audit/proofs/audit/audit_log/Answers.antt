@@ -1,5 +1,5 @@
-use Rattle.cq_audit.proofs.Terms.{rules, ◌≡◌, length, ◌∙◌, arith, length-map, err_from_is_err_and, machine_from}
-use Rattle.cq_audit.proofs.Opened.{IsOpened, ready, verdict}
+use Rattle.cq_audit.proofs.Terms.{rules, ◌≡◌, length, ◌∙◌, arith, length-map, err_from_is_err_and, machine_from, common_steps}
+use Rattle.cq_audit.proofs.Opened.{IsOpened, ready}
 use Rattle.cq_audit.proofs.LogLines.{log_in_order}
 use Rattle.cq_audit.proofs.audit.audit_log.Goals as goal
 use Rattle.cq_audit.proofs.audit.audit_log.Goals.{After-as_slice, After-len-ports, In_ok-ranks}
@@ -39,4 +39,4 @@ returns c =
     let at = goal.at.returns c in
     let kinds = ranked at.In_ok-ranks in
     let many = counted at.After-len-ports in
-    let begins = stands at.After-as_slice kinds in search (arith, rules, verdict)
+    let begins = stands at.After-as_slice kinds in grind (arith, common_steps)

@@ -1,5 +1,6 @@
-use Rattle.cq_audit.proofs.Terms.{rules, common_steps, ◌≤◌, ◌∙◌, arith, end_of, IsEmptyFabric}
-use Rattle.cq_audit.proofs.Steps.{Replaying, a_slot_left, at_end, at_fault, at_next, can_replay, cleared, not_over_past, past, replaying_first, rest_is_short}
+use Rattle.cq_audit.proofs.Terms.{rules, common_steps, ◌≤◌, ◌∙◌, arith, length-append, end_of, IsEmptyFabric}
+use Rattle.cq_audit.proofs.WholeFollowing.{moved}
+use Rattle.cq_audit.proofs.Steps.{Replaying, a_slot_left, at_end, at_fault, at_next, can_replay, cleared, not_over_past, past, replaying_first}
 use Rattle.cq_audit.proofs.audit.replay_run.Given as given
 use Rattle.cq_audit.proofs.audit.replay_run.Goals as goal
 use Rattle.cq_audit.proofs.audit.replay_run.Goals.{After-skip-slot}
@@ -10,14 +11,12 @@ slots-init g c = search (rules, replaying_first)
 -- the replay behind the slots that were skipped, with room for what a slot notes
 there : (g : given.Over) (c : After-skip-slot g) → Replaying g.R.Rank.machine c.args.schedule.now.came c.args.lines.now
     c.args.replay.now c.skip-slot.result c.slots.rest.now c.skip-slot.new.replay c.clear.new.self
-there g c = past (cleared c.slots.invariant c.clear.new.self c.clear.ensures.items c.clear.ensures.spare)
-    c.skip-slot.ensures.still c.skip-slot.ensures.rested
+there g c = search (arith, rules, past, cleared c.slots.invariant)
 
 -- the loop goes on there
 more : (g : given.Over) (c : After-skip-slot g) → end_of c.args.schedule.now.came ≤ c.skip-slot.result →
     IsEmptyFabric c.skip-slot.new.replay.fabric.state → ⊥
-more g c = not_over_past c.slots.invariant c.skip-slot.ensures.still c.skip-slot.ensures.rested
-    (λ late empty. grind (arith, common_steps, c.is_over.ensures.1))
+more g c = search (arith, rules, not_over_past c.slots.invariant, c.is_over.ensures.1)
 
 pub slot-requires : goal.slot-requires
 slot-requires g c =
@@ -44,7 +43,7 @@ overflow_add-slot g c =
     let can = can_replay (there g at) (more g at) c.requires in search (arith, rules, can)
 
 pub left_over-requires : goal.left_over-requires
-left_over-requires g c = rest_is_short c.slots.invariant
+left_over-requires g c = grind (arith, common_steps, length-append, moved)
 
 pub returns : goal.returns
 returns g c = let over = c.is_over.ensures.0 c.slots-test.false in search (arith, rules, at_end)
