@@ -22,13 +22,10 @@ module _ (o : Orders) (m : Partners) (i : ℕ) where
     pub least : (j : ℕ) → place_of o i j < n → IsBlocking o m i j → IsUpTo found j
 
   module _ (xs : List ℕ) (are : xs ≡ take (partner_place o m i) (outputs_of o i)) (n : ℕ) where
-    all_ahead : length xs ≡ partner_place o m i
-    all_ahead = grind (arith, common_steps, length-take-le, order_ends)
-
     -- all that are ahead were looked at
     pub at_end : (found : Option ℕ) → LeastUntil n found → length xs ≤ n →
         IfSome found (λ j. (l : ℕ) → IsBlocking o m i l → j ≤ l) × IfNone found ((l : ℕ) → IsBlocking o m i l → ⊥)
-    at_end found had all = grind (arith, common_steps, all_ahead, is_ahead, had.least)
+    at_end found had all = grind (arith, common_steps, length-take-le, order_ends, is_ahead, had.least)
 
     -- the output at place n
     module _ (offers : AreOffers o) (inside : n < length xs) where
@@ -36,7 +33,7 @@ module _ (o : Orders) (m : Partners) (i : ℕ) where
       output = get_or xs n 0
 
       pub stands : (place_of o i output ≡ n) × (n < partner_place o m i) × IsOffered o i output
-      stands = grind (arith, common_steps, order_ends, all_ahead, place_of-at, get_or-take)
+      stands = grind (arith, common_steps, order_ends, length-take-le, place_of-at, get_or-take)
 
       pub in_range : length m ≡ ports o → output < length m
       in_range square = grind (arith, common_steps, output_in_range, stands)

@@ -7,10 +7,6 @@ use Rattle.cq_audit.proofs.Terms.{rules, ◌≡◌, ℕ, ◌+◌, ◌<◌, ◌�
 -- ## What is kept of lines by a test
 
 module _ (keep : Transfer → Bool) where
-  keeps_first : (xs ys : List Transfer) → AllByRecursion (λ t. keep t ≡ true) xs →
-      AllByRecursion (λ t. keep t ≡ false) ys → filter keep (xs ++ ys) ≡ xs
-  keeps_first xs ys all none = grind (arith, common_steps, filter-append, filter_all, filter_none, append-nil)
-
   keeps_later : (xs ys : List Transfer) → AllByRecursion (λ t. keep t ≡ false) xs →
       filter keep (xs ++ ys) ≡ filter keep ys
   keeps_later xs ys none = grind (arith, common_steps, filter-append, filter_none)
@@ -27,7 +23,8 @@ module _ (keep : Transfer → Bool) where
 module _ (slot : ℕ) where
   pub before_is : (xs ys : List Transfer) → AllByRecursion (λ t. t.slot < slot) xs →
       AllByRecursion (λ t. slot ≤ t.slot) ys → before_slot slot (xs ++ ys) ≡ xs
-  before_is xs ys all none = grind (arith, common_steps, keeps_first, all_weaker, lt-ltb, le-ltb)
+  before_is xs ys all none =
+      grind (arith, common_steps, filter-append, filter_all, filter_none, append-nil, all_weaker, lt-ltb, le-ltb)
 
   -- so they are parted in one way
   pub one_parting : (xs ys us vs : List Transfer) → AllByRecursion (λ t. t.slot < slot) xs →
@@ -71,7 +68,8 @@ module _ (slot : ℕ) where
   pub of_two : (xs ys : List Transfer) → AllByRecursion (λ t. (t.slot ≡ slot) × (t.phase ≡ 1)) xs →
       AllByRecursion (λ t. (t.slot ≡ slot) × (t.phase ≡ 2)) ys →
       (in_phase slot 1 (xs ++ ys) ≡ xs) × (in_phase slot 2 (xs ++ ys) ≡ ys)
-  of_two xs ys first second = search (arith, rules, keeps_first, none_other, second_behind, filter_all, all_weaker)
+  of_two xs ys first second =
+      search (arith, rules, filter-append, filter_none, append-nil, none_other, second_behind, filter_all, all_weaker)
 
 -- ## Lines in order
 

@@ -2,7 +2,7 @@
 -- the slot's transfers are the same, so are those of each phase, and they tell the matchings
 -- (`transfers_tell_the_matching`). All else follows from the state and what arrives. In a run the transfers of a
 -- slot stand before those of later ones.
-use Rattle.cq_audit.proofs.Terms.{common_steps, rules, ◌≡◌, ℕ, ◌+◌, ◌<◌, ◌≤◌, List, [], ◌∷◌, length, Option, refl, sym, ◌∙◌, arith, AllByRecursion, Cell, Queued, Machine, Marked, orders_of, transfers_of, Orders, IsStable, Partners, Fabric, FabricSlot, SlotRecord, LimitedFabricRun, LimitedRecord, slots_in, Transfers, transfers_in, transfers_of_run, one_arrival, one_departure, one_transfer, same_record, transfers_tell, all_weaker, in_phase, all_both, all_from_has, looked_up}
+use Rattle.cq_audit.proofs.Terms.{common_steps, rules, ◌≡◌, ℕ, ◌+◌, ◌<◌, ◌≤◌, List, [], ◌∷◌, length, Option, arith, AllByRecursion, Cell, Queued, Machine, Marked, orders_of, transfers_of, Orders, IsStable, Partners, Fabric, FabricSlot, SlotRecord, LimitedFabricRun, LimitedRecord, slots_in, Transfers, transfers_in, transfers_of_run, one_arrival, one_departure, one_transfer, same_record, transfers_tell, all_weaker, in_phase, all_both, all_from_has, looked_up}
 use Rattle.cq_audit.proofs.BySlot.{of_two, one_parting}
 
 -- ## What is noted of a phase
@@ -37,9 +37,8 @@ module _ (ms : List Machine) where
       let of_r = each_moved r in
       let of_s = each_moved s in
       let arrive = one_arrival ms slot cells r.came s.came f r.arrived s.arrived x.arrive y.arrive in
-      let first = one_move r.first s.first r.slot 1 r.arrived s.arrived r.filled s.filled arrive.1 x.first_chosen
-      y.first_chosen (cc) x.fill y.fill in
-      search (rules, same_record, one_departure, one_move r.second s.second r.slot 2 r.sent s.sent g h)
+      let first = one_move r.first s.first r.slot 1 r.arrived s.arrived r.filled s.filled arrive.1 in
+      search (rules, same_record, one_departure, first, one_move r.second s.second r.slot 2 r.sent s.sent g h)
 
 pub slot_at : (MayChoose : Orders → Partners → Type 0) (ms : List Machine) (slot : ℕ) (cells : List (Option Cell))
     (f g : Fabric)
@@ -55,10 +54,9 @@ module _ (limits : List (Option ℕ)) (ms : List Machine) where
       LimitedFabricRun IsStable limits ms slot traffic f rs g →
       AllByRecursion (λ t. (slot ≤ t.slot) × (t.slot < slot + length traffic)) (transfers_of_run (slots_in rs))
   unfolding transfers_of_run
-  run_within slot [] f g [] x = tt
   run_within slot (cells ∷ traffic) f g (r ∷ rs) x =
       search (arith, rules, all_both, all_weaker, slot_at IsStable ms, run_within (slot + 1) traffic x.0 g rs)
-  run_within slot _ f g _ x = absurd x
+  run_within slot traffic f g rs x = grind (arith, common_steps)
 
   pub run_later : (slot : ℕ) (traffic : List (List (Option Cell))) (f g : Marked Fabric) (rs : List LimitedRecord) →
       LimitedFabricRun IsStable limits ms slot traffic f rs g →
@@ -70,7 +68,6 @@ module _ (limits : List (Option ℕ)) (ms : List Machine) where
       LimitedFabricRun IsStable limits ms slot traffic f ss h →
       transfers_of_run (slots_in rs) ≡ transfers_of_run (slots_in ss) → (rs ≡ ss) × (g ≡ h)
   unfolding transfers_of_run
-  one_stable_run slot [] f g h [] [] x y moved = (refl, x ∙ sym y)
   one_stable_run slot (cells ∷ traffic) f g h (r ∷ rs) (s ∷ ss) x y moved =
       let parts = one_parting (slot + 1) (transfers_in r.of_slot) (transfers_of_run (slots_in rs)) in
       let one = one_stable_slot ms slot r.admission.cells f.state x.0.state y.0.state r.of_slot s.of_slot x.1.runs in

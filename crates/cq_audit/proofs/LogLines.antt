@@ -9,15 +9,9 @@ pub begins_with_slot : (text more : List ℕ) (t : Transfer) → text ≡ log_li
     BeginsWith text (Some t.slot) (ending (numbers_behind t) ++ more)
 begins_with_slot text more t e = grind (arith, common_steps, append_assoc, ending_ends)
 
-pub line_of_parts : (text rest behind : List ℕ) (slot : ℕ) (fs : List (Option ℕ)) (t : Transfer) →
-    BeginsWith text (Some slot) rest → rest ≡ ending fs ++ behind → slot ≡ t.slot → fs ≡ numbers_behind t →
-    text ≡ log_line t ++ behind
-line_of_parts text rest behind slot fs t begins e same_slot same = grind (arith, common_steps, append_assoc)
-
 pub parts_of_line : (text rest more : List ℕ) (slot : ℕ) (t : Transfer) → BeginsWith text (Some slot) rest →
     text ≡ log_line t ++ more → (slot ≡ t.slot) × (rest ≡ ending (numbers_behind t) ++ more)
-parts_of_line text rest more slot t begins e = one_number text rest (ending (numbers_behind t) ++ more) slot t.slot
-    begins (begins_with_slot text more t e)
+parts_of_line text rest more slot t begins e = search (arith, rules, one_number text rest, begins_with_slot)
 
 -- one transfer's line stands there
 pub one_log_line : (t u : Transfer) (x y : List ℕ) → IsTransfer t → IsTransfer u →

@@ -1,9 +1,6 @@
 -- Pairs that are told from both sides. One more pair is told from both, where its ends were free.
-use Rattle.cq_audit.proofs.Terms.{none_unless, rules, ◌≡◌, ℕ, ◌<◌, length, replicate, None, arith, cases_eq, length-set, get_or-set_same, get_or-set_other, Partners, partner_of, with_pair, IsFreeOutput, nobody, common_steps}
+use Rattle.cq_audit.proofs.Terms.{none_unless, rules, ◌≡◌, ℕ, ◌<◌, length, None, arith, cases_eq, length-set, get_or-set_same, get_or-set_other, Partners, partner_of, with_pair, IsFreeOutput, common_steps}
 use Rattle.cq_audit.specs.Pairs.{AreMirrored}
-
-pub none_mirrored : (n : ℕ) → AreMirrored (replicate n None) (replicate n None)
-none_mirrored n = search (arith, rules, nobody)
 
 module _ (m w : Partners) (mirror : AreMirrored m w) where
   pub free_there : (j : ℕ) → IsFreeOutput m j → partner_of w j ≡ None

@@ -90,14 +90,13 @@ module _ (limits : List (Option ℕ)) (ms : List Machine) (ports : ℕ) (few : p
       slot + length rs ≤ 2 ^ 64 → AllByRecursion (ComesTellable ports) traffic → AllListed ports f.state.inputs →
       LimitedFabricRun IsStable limits ms slot traffic f rs g → AreWritten ports (transfers_of_run (slots_in rs))
   unfolding transfers_of_run admission
-  run_written slot [] f g [] long come all run = search rules
   run_written slot (cells ∷ traffic) f g (r ∷ rs) long come all run =
       let step = run.1 in
       let one = slot_written ports ms slot r.admission.cells f.state run.0.state r.of_slot few (omega arith)
       (rw step.admits (λ i cell at. come.0 i cell (admitted_arrives _ cells i cell at))) step.runs all in
       let rest = run_written (slot + 1) traffic run.0 g rs (omega arith) come.1 one.1 run.2 in
       search (arith, rules, run_later, pairs_joined, all_both, all_of_has, slot_at IsStable ms)
-  run_written slot _ f g _ long come all run = absurd run
+  run_written slot traffic f g rs long come all run = grind (arith, common_steps)
 
 -- ## The cells that come
 

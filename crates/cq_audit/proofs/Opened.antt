@@ -1,7 +1,6 @@
 -- How the replay of a log begins that is made for a setup: the machines are those of the disciplines, each in its
--- opening state, and there is room for all cells that arrive, and for what one slot notes. And what its end says of
--- the log.
-use Rattle.cq_audit.proofs.Terms.{common_steps, rules, ◌≡◌, ℕ, ◌*◌, List, [], length, map, Option, Result, arith, IfErr, IsOk, OnOk, get_or-map-range_with_len, Arrival, RoomView, Transfer, Setup, IsShort, IsTraffic, is_from, is_to, rooms_of, Machine, class_count, machines_of, openings_of, whole_limited_run, empty_limited, IsNo, IsYes, opening_fabric, AreInOrder, IsLog, IsInStep, ReplayView, ports_in, IsReady, RunEnds, AuditRefusal}
+-- opening state, and there is room for all cells that arrive, and for what one slot notes.
+use Rattle.cq_audit.proofs.Terms.{rules, ◌≡◌, ℕ, ◌*◌, List, [], length, map, Option, arith, IsOk, get_or-map-range_with_len, Arrival, RoomView, Transfer, Setup, IsShort, IsTraffic, is_from, is_to, rooms_of, Machine, class_count, machines_of, openings_of, whole_limited_run, empty_limited, opening_fabric, AreInOrder, IsInStep, ReplayView, ports_in, IsReady}
 
 -- The replay of a switch of this setup with these limits, before its first slot.
 pub record IsOpened (M : List ℕ → Machine) (setup : Setup) (limits : List (Option ℕ)) (first : ReplayView) : Type 0
@@ -23,10 +22,3 @@ module _ {M : List ℕ → Machine} {setup : Setup} {limits : List (Option ℕ)}
       IsReady (map M first.fixed) came lines first note
   ready lines note ports many step classes traffic short ranked from_inputs to_outputs order none spare =
       search (arith, rules, get_or-map-range_with_len)
-
-  -- ## What the end says of the log
-
-  pub verdict : (lines : List Transfer) (log : List ℕ) (result : Result (Unit {0}) AuditRefusal) →
-      IsLog (length setup.kinds) lines log → RunEnds (map M first.fixed) came lines first result →
-      OnOk result (IsYes setup limits came log) × IfErr result (IsNo setup limits came log)
-  verdict lines log result read ends = grind (arith, common_steps)

@@ -4,7 +4,7 @@
 -- each step leaves: what comes is judged and ranked and arrives, the lines of the first phase are gone by, the outputs
 -- send, and the lines of the second are gone by.
 -- A replay before its first slot, and after slots in which nothing happens.
-use Rattle.cq_audit.proofs.Terms.{common_steps, rules, ◌≡◌, ℕ, ◌+◌, ◌<◌, ◌≤◌, ◌^◌, Bool, List, ◌++◌, length, map, get_or, Option, Ok, Err, sym, ap, ◌∙◌, subst, arith, append_assoc, length-append, [], replicate, length-map, length-replicate, Cell, Queued, TagFault, Transfer, RoomView, Machine, class_count, AreForOneSwitch, admitted, marked, marks_after, marks_down, count_for, ranking, admitted_arrives, admitted_for_ports, list_of, SlotRecord, fabric_admission, LimitedFabricRun, empty_limited_fabric, Arrives, transfers_in, ComeApart, FitLists, Queues, fabric_of, admits_are, admitted_room, numbers_fit, still_holds, holds_first, IsPhaseFault, in_phase, CanCome, CanReplay, IsInStep, IsSlotFault, ReplayView, SlotReplayed, shown, SlotFault, all_weaker, no_arrivals, IsStable, IsEmptyFabric, quiet_limited_slots, empty_agree, fronts, ComeToPorts, LimiterView, RanksView, idled, length-told, by_marks, SendsAlike, HoldsFabric, AreRanked, BuffersHaveRoom, HaveArrived, HaveJudged, HaveMoved, HaveSent, stable_limited_too, rested_agrees, rested_limited_run, still_held, length-map-range_with_len, length-idle}
+use Rattle.cq_audit.proofs.Terms.{common_steps, rules, ◌≡◌, ℕ, ◌+◌, ◌<◌, ◌≤◌, ◌^◌, Bool, List, ◌++◌, length, map, get_or, Option, Ok, Err, sym, ap, ◌∙◌, subst, arith, append_assoc, length-append, [], replicate, length-map, length-replicate, Cell, Queued, TagFault, Transfer, RoomView, Machine, class_count, AreForOneSwitch, admitted, marked, marks_after, marks_down, count_for, ranking, admitted_arrives, admitted_for_ports, list_of, SlotRecord, fabric_admission, LimitedFabricRun, Arrives, transfers_in, ComeApart, FitLists, Queues, fabric_of, admits_are, admitted_room, numbers_fit, still_holds, holds_first, IsPhaseFault, in_phase, CanCome, CanReplay, IsInStep, IsSlotFault, ReplayView, SlotReplayed, shown, SlotFault, all_weaker, no_arrivals, IsStable, IsEmptyFabric, quiet_limited_slots, empty_agree, fronts, ComeToPorts, LimiterView, RanksView, idled, length-told, by_marks, SendsAlike, HoldsFabric, AreRanked, BuffersHaveRoom, HaveArrived, HaveJudged, HaveMoved, HaveSent, stable_limited_too, rested_agrees, rested_limited_run, still_held, length-map-range_with_len, length-idle}
 use Rattle.cq_fabric.proofs.Slot.{alike as sends_alike, arrive as slot_arrives, can_cross_first, can_cross_second, come_apart, depart as slot_departs, few_cross, fill as slot_fills, fits_lists, held_before, is_slot, recorded}
 use Rattle.cq_audit.specs.SlotSteps.{CanGoBy, CanSend, HasGoneBy, HaveAllSent, HaveCome}
 use Rattle.cq_audit.proofs.BySlot.{second_behind}
@@ -91,15 +91,12 @@ module _ {M : List ℕ → Machine} {slot : ℕ} {cells : List (Option Cell)} {l
   room : BuffersHaveRoom (length ms) q0 comes
   room = search (arith, rules, admitted_room, buffers_room)
 
-  admits : by_marks judged.marks cells ≡ fabric_admission l.limits cells (marked l.marks (fabric_of q0 ranks0.states))
-  admits = search (arith, rules, admits_are, holds)
-
   first_long : length q1.inputs ≡ length ranks0.fixed
   first_long = search (arith, rules, length-map)
 
   arrives : Arrives ms slot (fabric_admission l.limits cells (marked l.marks (fabric_of q0 ranks0.states))).cells
       come.came (fabric_of q0 ranks0.states) (fabric_of q1 ranks1.states)
-  arrives = grind (arith, common_steps, admits, slot_arrives, ranked, arrived)
+  arrives = grind (arith, common_steps, admits_are, holds, slot_arrives, ranked, arrived)
 
   -- the lines of the first phase can be gone by
   pub first_goes : CanGoBy slot 1 lines q1 note
@@ -169,7 +166,7 @@ module _ {M : List ℕ → Machine} {slot : ℕ} {cells : List (Option Cell)} {l
             let slot_is = is_slot ranked arrived room moved1 have_sent moved2 in
             rw (← known.is) (record {
               of_slot = record { admission = by_marks judged.marks cells; of_slot = of_slot };
-              is_slot = search (arith, rules, admits, slot_is);
+              is_slot = search (arith, rules, admits_are, holds, slot_is);
               moved = search (arith, rules, append_assoc);
               in_order = rw (← long) two.parted.in_order;
               behind = two.parted.behind;
@@ -190,10 +187,6 @@ pub record AreNew (n : ℕ) (q : Queues) (l : LimiterView) : Type 0 where
   pub marks : l.marks ≡ marks_down n
 
 module _ {n : ℕ} {q : Queues} {l : LimiterView} (new : AreNew n q l) (ranks : RanksView) where
-  pub opening_is : {states : List (List ℕ)} → ranks.states ≡ states →
-      marked l.marks (fabric_of q ranks.states) ≡ empty_limited_fabric n states
-  opening_is same = grind (arith, common_steps)
-
   pub in_step_first : {ms : List Machine} → AreForOneSwitch ms → length ms ≡ n → length ranks.states ≡ n →
       IsInStep ms 0 (shown ranks q l)
   in_step_first one ports long =

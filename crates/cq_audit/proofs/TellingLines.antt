@@ -1,7 +1,9 @@
 -- The lines of a phase, told one after another. Their inputs rise, so where a line has its turn, those before it are of
 -- lesser inputs and those behind it of greater ones: it is the line of its input, and an output that is taken then is
 -- taken by a lesser input's line.
-use Rattle.cq_audit.proofs.Terms.{common_steps, subst, rules, ◌≡◌, ◌≢◌, ℕ, ◌+◌, ◌<◌, ◌≤◌, ◌⊎◌, List, [], ◌∷◌, ◌++◌, length, get_or, take, drop, None, Some, refl, sym, ◌∙◌, arith, replicate, AllByRecursion, cases_eq, cond_both, eq-eqb, eqb-true, length-map, length-replicate, length-set, get_or-set_same, get_or-set_other, ext_get_or, get_or-map-range_with_len, length-map-range_with_len, take-append-drop, take_more, drop_more, find-append, all_back, all_weaker, Queued, Transfer, Waiting, cells_of, list_of, Partners, partner_of, with_pair, IsFreeOutput, nobody, IsOf, AreRight, IsFirstWrong, IsWrongLine, RiseByInput, first_id, line_of_input, output_told, told, get_or-map}
+use Rattle.cq_audit.proofs.Terms.{all_of_has, common_steps, subst, rules, ◌≡◌, ◌≢◌, ℕ, ◌+◌, ◌<◌, ◌≤◌, ◌⊎◌, List, [], ◌∷◌, ◌++◌, length, get_or, take, drop, None, Some, refl, sym, ◌∙◌, arith, replicate, AllByRecursion, cases_eq, cond_both, eq-eqb, eqb-true, length-map, length-replicate, length-set, get_or-set_same, get_or-set_other, ext_get_or, get_or-map-range_with_len, length-map-range_with_len, take-append-drop, take_more, drop_more, find-append, all_back, all_weaker, Queued, Transfer, Waiting, cells_of, list_of, Partners, partner_of, with_pair, IsFreeOutput, nobody, IsOf, AreRight, IsFirstWrong, IsWrongLine, RiseByInput, first_id, line_of_input, output_told, told, get_or-map}
+use Rattle.cq_base.proofs.Having.{has_there}
+use Rattle.std.proofs.lemmas.List.Folds.{find_at}
 use Rattle.cq_audit.specs.Pairs.{CanBeJoined}
 
 -- the list of an input that is one
@@ -18,8 +20,7 @@ module _ (i : ℕ) where
 
   pub line_holds : (P : Transfer → Type 0) (lines : List Transfer) (t : Transfer) → AllByRecursion P lines →
       line_of_input i lines ≡ Some t → P t
-  line_holds P [] t all e = absurd (let Q : ⊥ = cc in Q)
-  line_holds P (u ∷ lines) t all e = grind (arith, common_steps, cond_both, line_holds P lines t all.1)
+  line_holds P lines t all e = search (arith, rules, all_of_has P lines, has_there, find_at)
 
   pub no_line : (lines : List Transfer) → AllByRecursion (λ u. i < u.input) lines → line_of_input i lines ≡ None
   no_line [] all = refl
@@ -93,11 +94,8 @@ module _ (ws : List Waiting) (lines : List Transfer) (n : ℕ) (d : Transfer) (m
   told_before : (k : ℕ) (u : Transfer) → line_of_input k front ≡ Some u → k < line.input
   told_before k u is = grind (arith, common_steps, line_holds, line_is_of, sides)
 
-  free_before : line_of_input line.input front ≡ None
-  free_before = grind (arith, common_steps, told_before)
-
   own_line : (rest : List Transfer) → line_of_input line.input (front ++ line ∷ rest) ≡ Some line
-  own_line rest = grind (arith, common_steps, find-append, free_before, cond_both, eq-eqb)
+  own_line rest = grind (arith, common_steps, find-append, told_before, cond_both, eq-eqb)
 
   other_line : (k : ℕ) → k ≢ line.input → line_of_input k (front ++ line ∷ []) ≡ line_of_input k front
   other_line k other = grind (arith, common_steps, find-append, cond_both, eqb-true)
@@ -115,7 +113,7 @@ module _ (ws : List Waiting) (lines : List Transfer) (n : ℕ) (d : Transfer) (m
       }
 
   pub can_join : IsFreeOutput m line.output → CanBeJoined m line.input line.output
-  can_join free = grind (arith, common_steps, free_before, long, own)
+  can_join free = grind (arith, common_steps, told_before, long, own)
 
   -- it is right
   pub right_at : first_id line.output w.cells ≡ Some line.id → IsFreeOutput m line.output →

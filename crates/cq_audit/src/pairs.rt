@@ -27,7 +27,7 @@ impl Model for Pairs {
 
 impl Pairs {
     /// No pair, over so many inputs and as many outputs.
-    #[tactic(auto, using(crate::proofs::Mirrored::none_mirrored))]
+    #[tactic(auto, using(cq_prefs::proofs::Pairs::nobody))]
     pub fn none(ports: u16) -> Pairs
         requires { ports ≤ most_ports }
         ensures { result ≡ replicate ports None }

@@ -21,7 +21,7 @@ pub fn next_transfer(text: &[u8], ports: u16, last: Option<Transfer>) -> Option<
 }
 
 // The transfer whose line stands at the front, and what stands behind it.
-#[tactic(auto, using(crate::proofs::LogLines::begins_with_slot, crate::proofs::LogLines::line_of_parts))]
+#[tactic(auto, using(crate::proofs::LogLines::begins_with_slot, std::proofs::Common::append_assoc))]
 fn take_transfer(text: &[u8]) -> Option<(Transfer, &[u8])>
     ensures found { IfSome result (λ f. IsTransfer f.0 × (text.now ≡ log_line f.0 ++ f.1.now)) }
     ensures none { IfNone result ((t : Transfer) (rest : List ℕ) → IsTransfer t → text.now ≢ log_line t ++ rest) }

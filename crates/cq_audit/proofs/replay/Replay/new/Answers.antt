@@ -1,5 +1,5 @@
-use Rattle.cq_audit.proofs.Terms.{◌≡◌, arith, rules, length, length-map}
-use Rattle.cq_audit.proofs.Slots.{AreNew, in_step_first, opening_is}
+use Rattle.cq_audit.proofs.Terms.{◌≡◌, arith, rules, length, length-map, common_steps}
+use Rattle.cq_audit.proofs.Slots.{AreNew, in_step_first}
 use Rattle.cq_audit.proofs.replay.Replay.new.Given as given
 use Rattle.cq_audit.proofs.replay.Replay.new.Goals as goal
 use Rattle.cq_audit.proofs.replay.Replay.new.Goals.{After-of}
@@ -21,7 +21,7 @@ returns g c =
     record {
       fixed = c.of.ensures.fixed;
       limits = c.in_ok-new.ensures.limits;
-      fabric = opening_is is c.of.result c.of.ensures.states;
+      fabric = grind (arith, common_steps);
       from_inputs = rw each at c.in_ok-queues_for.ensures.from_inputs;
       to_outputs = rw each at c.in_ok-queues_for.ensures.to_outputs;
       in_step = search (arith, rules, in_step_first is c.of.result, length-map);
