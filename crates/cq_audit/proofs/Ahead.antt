@@ -7,9 +7,6 @@ module _ (o : Orders) (m : Partners) (i : ℕ) where
   pub is_ahead : (j : ℕ) → IsBlocking o m i j → place_of o i j < partner_place o m i
   is_ahead j blocks = search (arith, rules, cases_lt, same_at_place)
 
-  pub order_ends : partner_place o m i ≤ length (outputs_of o i)
-  order_ends = grind (arith, common_steps, place_in-le-length)
-
   -- ## The least of the outputs so far
 
   abbrev IsUpTo : Option ℕ → ℕ → Type 0
@@ -25,7 +22,7 @@ module _ (o : Orders) (m : Partners) (i : ℕ) where
     -- all that are ahead were looked at
     pub at_end : (found : Option ℕ) → LeastUntil n found → length xs ≤ n →
         IfSome found (λ j. (l : ℕ) → IsBlocking o m i l → j ≤ l) × IfNone found ((l : ℕ) → IsBlocking o m i l → ⊥)
-    at_end found had all = grind (arith, common_steps, length-take-le, order_ends, is_ahead, had.least)
+    at_end found had all = grind (arith, common_steps, length-take-le, place_in-le-length, is_ahead, had.least)
 
     -- the output at place n
     module _ (offers : AreOffers o) (inside : n < length xs) where
@@ -33,7 +30,7 @@ module _ (o : Orders) (m : Partners) (i : ℕ) where
       output = get_or xs n 0
 
       pub stands : (place_of o i output ≡ n) × (n < partner_place o m i) × IsOffered o i output
-      stands = grind (arith, common_steps, order_ends, length-take-le, place_of-at, get_or-take)
+      stands = grind (arith, common_steps, place_in-le-length, length-take-le, place_of-at, get_or-take)
 
       pub in_range : length m ≡ ports o → output < length m
       in_range square = grind (arith, common_steps, output_in_range, stands)

@@ -2,7 +2,8 @@
 -- first, and those of its phases are among the others.
 -- The lines of a log, phase by phase. They are in order, so where none is of an earlier phase those of this one
 -- stand at the front, in order of input, and the others are of later ones.
-use Rattle.cq_audit.proofs.Terms.{rules, ◌≡◌, ℕ, ◌+◌, ◌<◌, ◌≤◌, Bool, true, false, List, [], ◌∷◌, ◌++◌, refl, arith, suc, ◌⊎◌, take, drop, ap, ⊎_elim, common_steps, AllByRecursion, filter, position_or_len, and_left, and_parts, and_right, cases_lt, cond-false, cond_both, eq-eqb, eqb-true, false_from_ne_true, le-ltb, lt-ltb, ltb-true, ne_eqb, cases_Bool, append-nil, append_cancel_left, filter-append, Transfer, AreInOrder, IsTransferBefore, AllBehind, NoneBefore, in_phase, is_at, AreParted, FirstIsLeast, before_slot, all_weaker, not, first_here, first_later, all_front, all_give, filter_all, filter_none, recursion_from_All}
+use Rattle.cq_audit.proofs.Terms.{rules, ◌≡◌, ℕ, ◌+◌, ◌<◌, ◌≤◌, Bool, true, false, List, [], ◌∷◌, ◌++◌, refl, arith, ◌⊎◌, take, drop, ap, ⊎_elim, common_steps, AllByRecursion, filter, position_or_len, and_left, and_parts, and_right, cases_lt, cond_both, eq-eqb, eqb-true, le-ltb, lt-ltb, ltb-true, ne_eqb, cases_Bool, append-nil, append_cancel_left, filter-append, Transfer, AreInOrder, IsTransferBefore, AllBehind, NoneBefore, in_phase, is_at, AreParted, FirstIsLeast, before_slot, all_weaker, not, first_here, first_later, all_front, all_give, filter_all, filter_none, recursion_from_All}
+use Rattle.std.proofs.lemmas.Bool.Decides.{nat_tests}
 
 -- ## What is kept of lines by a test
 
@@ -15,8 +16,7 @@ module _ (keep : Transfer → Bool) where
   keeps_of_kept : (wider : Transfer → Bool) → ((t : Transfer) → keep t ≡ true → wider t ≡ true) →
       (xs : List Transfer) → filter keep (filter wider xs) ≡ filter keep xs
   keeps_of_kept wider all [] = refl
-  keeps_of_kept wider all (x ∷ xs) =
-      grind (arith, common_steps, cond_both, false_from_ne_true, cond-false, keeps_of_kept wider all xs)
+  keeps_of_kept wider all (x ∷ xs) = grind (arith, common_steps, cond_both, all x, keeps_of_kept wider all xs)
 
 -- ## Lines before a slot
 
@@ -69,7 +69,7 @@ module _ (slot : ℕ) where
       AllByRecursion (λ t. (t.slot ≡ slot) × (t.phase ≡ 2)) ys →
       (in_phase slot 1 (xs ++ ys) ≡ xs) × (in_phase slot 2 (xs ++ ys) ≡ ys)
   of_two xs ys first second =
-      search (arith, rules, filter-append, filter_none, append-nil, none_other, second_behind, filter_all, all_weaker)
+      search (arith, rules, filter-append, filter_all, filter_none, all_weaker, nat_tests, append-nil)
 
 -- ## Lines in order
 
@@ -108,8 +108,7 @@ module _ (ports slot phase : ℕ) where
   parted (t ∷ note) end is order none =
       let other = λ (u : Transfer). not (is_at slot phase u) in
       let had = parted note (position_or_len other note) refl order.2 none.1 in
-      ⊎_elim (λ (here : is_at slot phase t ≡ true).
-      let next : end ≡ suc (position_or_len other note) = omega (arith, first_later other t note (ap not here)) in
-      rw next (search (arith, rules, all_front (IsTransferBefore t), had.whole, all_give, and_parts, eqb-true)))
+      ⊎_elim (λ (here : is_at slot phase t ≡ true). rw (is, first_later other t note (ap not here))
+      (search (arith, rules, all_front (IsTransferBefore t), had.whole, all_give, and_parts, eqb-true)))
       (λ away. grind (arith, common_steps, first_here, eq-eqb, cases_lt, all_behind, none_of_it))
       (cases_Bool (is_at slot phase t))

@@ -63,10 +63,6 @@ line_later i t lines other = grind (arith, common_steps, cond_both, eqb-true)
 abbrev Between : ℕ → ℕ → List Transfer → Type 0
 Between a n lines = AllByRecursion (λ u. (a ≤ u.input) × (u.input < a + n)) lines
 
-later_between : (a n b : ℕ) (lines : List Transfer) → a ≤ b → AllByRecursion (λ u. b < u.input) lines →
-    Between a (suc n) lines → Between (a + 1) n lines
-later_between a n b lines le = all_give _ _ _ (λ u above between. (omega arith, omega arith)) lines
-
 -- what tells of each input its line, tells the lines
 lines_by_input : (f : ℕ → Option Transfer) (lines : List Transfer) (a n : ℕ) →
     ((i : ℕ) → a ≤ i → i < a + n → f i ≡ line_of_input i lines) → RiseByInput lines → Between a n lines →
@@ -75,7 +71,7 @@ lines_by_input f [] a (suc n) same rise all = grind (arith, common_steps, lines_
 lines_by_input f (t ∷ lines) a (suc n) same rise all =
     let own = lines_by_input f lines (a + 1) n in
     let rest = lines_by_input f (t ∷ lines) (a + 1) n in
-    grind (arith, common_steps, line_later, all_weaker, later_between, no_line, own, rest, cases_eq t.input a)
+    grind (arith, common_steps, line_later, all_weaker, all_give, no_line, own, rest, cases_eq t.input a)
 lines_by_input f lines a n same rise all = grind (arith, common_steps)
 
 -- ## What is noted of an input

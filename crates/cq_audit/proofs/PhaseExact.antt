@@ -39,16 +39,12 @@ module _ (lists : List (List Queued)) (slot phase : ℕ) (lines : List Transfer)
   unfolding note
   partner_told i = grind (arith, common_steps, line_is_note, offer_of lists m is.stable i)
 
-  -- the line of an input names its partner and its first cell for it
-  line_names : (i : ℕ) (t : Transfer) → line_of_input i lines ≡ Some t → IsNoteOf i t
-  unfolding note
-  line_names i t stands = search (rules, line_is_note)
-
   told_partner : (i j : ℕ) → output_told lines i ≡ Some j → partner_of m i ≡ Some j
   told_partner i j e = cc (partner_told i)
 
   pub none_wrong : (i : ℕ) → IsWrongLine lists lines i → ⊥
-  none_wrong i wrong = search (arith, rules, line_names i wrong.line wrong.stands, told_partner)
+  unfolding note
+  none_wrong i wrong = search (arith, rules, line_is_note, told_partner)
 
   pub told_is : told (length lists) lines ≡ m
   told_is = search (arith, rules, ext_get_or None (told (length lists) lines) m, told_size, size, told_at, partner_told)

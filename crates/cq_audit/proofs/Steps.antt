@@ -136,11 +136,6 @@ module _ {M : List ℕ → Machine} {came : List Arrival} {lines : List Transfer
   told_before : moved b.records ≡ before_slot slot lines
   told_before = grind (arith, common_steps, before_is, moved, all_before, all_late)
 
-  -- what was noted is taken out, and its room is there again
-  pub cleared : (note' : RoomView Transfer) → note'.items ≡ [] → note'.spare ≡ note.spare + length note.items →
-      Replaying M came lines first slot rest now note'
-  cleared note' none room = grind (arith, common_steps)
-
   -- ## Slots that are skipped
 
   module _ {next : ℕ} {new : ReplayView} (still : IsStill came rest slot next)
@@ -149,13 +144,15 @@ module _ {M : List ℕ → Machine} {came : List Arrival} {lines : List Transfer
     quiet_records = quiet_limited_slots (map M first.fixed) (next - slot) slot (ports_in now) now.fabric.state.ranks
         now.fabric.marks
 
-    pub past : Replaying M came lines first next rest new note
-    past =
+    -- what was noted is taken out, and its room is there again
+    pub past : {note' : RoomView Transfer} → note'.items ≡ [] → note'.spare ≡ note.spare + length note.items →
+        Replaying M came lines first next rest new note'
+    past none room =
         let joined = all_go_on (LimitedFabricSlot IsStable first.limits (map M first.fixed))
         (IsLimitedFault first.limits (map M first.fixed)) in
         let parts = moved_parts b.records quiet_records in
         let parts_are = arriving_parts came 0 slot slot (next - slot) next in
-        search (rules, none_from, quiet_slots, arriving_length, take-append-le, cases_lt, none_moved_by, append-nil)
+        search (arith, rules, none_from, quiet_slots, arriving_length, take-append-le, cases_lt, none_moved_by)
 
     -- what was not over is not over after it
     pub not_over_past : (end_of came ≤ slot → IsEmptyFabric now.fabric.state → ⊥) → end_of came ≤ next →
@@ -193,19 +190,15 @@ module _ {M : List ℕ → Machine} {came : List Arrival} {lines : List Transfer
     -- ## What a slot asks for
 
     module _ {first_note : RoomView Transfer} (ready : IsReady (map M first.fixed) came lines first first_note) where
-      run_from_start : Runs first.limits (map M first.fixed) came
-          (empty_limited_fabric (ports_in first) first.fabric.state.ranks) slot b.records now.fabric
-      run_from_start = search (arith, rules)
-
       -- the run ends, and a slot is left
       pub a_slot_left : slot < enough came
-      a_slot_left = search (arith, rules, slots_bounded, run_from_start, not_over)
+      a_slot_left = search (arith, rules, slots_bounded, not_over)
 
       pub can_replay : (cells : List (Option Cell)) → cells ≡ arriving came slot → note.items ≡ [] →
           CanReplay (map M now.fixed) slot cells rest now note
       can_replay cells are none =
           let for_ports = arrivals_for (ports_in first) (class_count (map M first.fixed)) came slot ready.traffic in
-          search (arith, rules, fault_there, run_from_start, a_slot_left, list_is_short, output_is_short)
+          search (arith, rules, fault_there, a_slot_left, list_is_short, output_is_short)
 
   -- ## The end of the loop
 

@@ -1,7 +1,7 @@
 -- The lines of a phase, told one after another. Their inputs rise, so where a line has its turn, those before it are of
 -- lesser inputs and those behind it of greater ones: it is the line of its input, and an output that is taken then is
 -- taken by a lesser input's line.
-use Rattle.cq_audit.proofs.Terms.{all_of_has, common_steps, subst, rules, ◌≡◌, ◌≢◌, ℕ, ◌+◌, ◌<◌, ◌≤◌, ◌⊎◌, List, [], ◌∷◌, ◌++◌, length, get_or, take, drop, None, Some, refl, sym, ◌∙◌, arith, replicate, AllByRecursion, cases_eq, cond_both, eq-eqb, eqb-true, length-map, length-replicate, length-set, get_or-set_same, get_or-set_other, ext_get_or, get_or-map-range_with_len, length-map-range_with_len, take-append-drop, take_more, drop_more, find-append, all_back, all_weaker, Queued, Transfer, Waiting, cells_of, list_of, Partners, partner_of, with_pair, IsFreeOutput, nobody, IsOf, AreRight, IsFirstWrong, IsWrongLine, RiseByInput, first_id, line_of_input, output_told, told, get_or-map}
+use Rattle.cq_audit.proofs.Terms.{all_of_has, common_steps, rules, ◌≡◌, ◌≢◌, ℕ, ◌+◌, ◌<◌, ◌≤◌, ◌⊎◌, List, [], ◌∷◌, ◌++◌, length, get_or, take, drop, None, Some, refl, sym, ◌∙◌, arith, replicate, AllByRecursion, cases_eq, cond_both, eq-eqb, eqb-true, length-map, length-replicate, length-set, get_or-set_same, get_or-set_other, ext_get_or, get_or-map-range_with_len, length-map-range_with_len, take-append-drop, take_more, drop_more, find-append, all_back, all_weaker, Queued, Transfer, Waiting, cells_of, list_of, Partners, partner_of, with_pair, IsFreeOutput, nobody, IsOf, AreRight, IsFirstWrong, IsWrongLine, RiseByInput, first_id, line_of_input, output_told, told, get_or-map}
 use Rattle.cq_base.proofs.Having.{has_there}
 use Rattle.std.proofs.lemmas.List.Folds.{find_at}
 use Rattle.cq_audit.specs.Pairs.{CanBeJoined}
@@ -105,8 +105,8 @@ module _ (ws : List Waiting) (lines : List Transfer) (n : ℕ) (d : Transfer) (m
       IsFirstWrong (cells_of ws) lines line.input
   wrong_at why =
       let stands : line_of_input line.input lines ≡ Some line = cc (own_line (drop (n + 1) lines), parts) in
-      let same = λ (k : ℕ) (less : k < line.input). subst (λ (ls : List Transfer). line_of_input k ls
-      ≡ line_of_input k front) (sym parts) (lesser_line front (drop (n + 1) lines) line sides.1 k less) in
+      let same = λ (k : ℕ) (less : k < line.input).
+      rw (← parts) at (lesser_line front (drop (n + 1) lines) line sides.1 k less) in
       record {
         wrong = search (arith, rules, same, stands, told_before, had.told, list);
         least = λ k below. search (arith, rules, same, had.right k, same_wrong (cells_of ws) lines front k);

@@ -72,10 +72,6 @@ module _ (limits : List (Option ℕ)) (ms : List Machine) (came : List Arrival) 
           let half = halfway (length rs) (length ss) ss h in
           search (arith, rules, whole_run, half, one_stable_run, whole_going, whole_run rs g w)
 
-      pub one_length : (rs ss : List LimitedRecord) (g h : Marked Fabric) → Whole rs g → Whole ss h →
-          moved rs ≡ before_slot (length rs) note → moved ss ≡ before_slot (length ss) note → length rs ≡ length ss
-      one_length rs ss g h w v told_r told_s = search (arith, rules, not_longer, cases_lt)
-
       -- ## The states that the lines leave no choice of
 
       abbrev Begun : ℕ → ℕ → Fabric → Type 0
@@ -174,12 +170,12 @@ module _ (limits : List (Option ℕ)) (ms : List Machine) (came : List Arrival) 
 
       pub one_no_of : (r s : AuditRefusal) → IsNoOf limits ms came start note r →
           IsNoOf limits ms came start note s → r ≡ s
-      one_no_of r s x y = search (arith, rules, one_fault_at, none_followed, one_length)
+      one_no_of r s x y = search (arith, rules, one_fault_at, none_followed, not_longer, cases_lt)
 
       pub no_no : (r : AuditRefusal) → IsOfStableRun limits ms came start note → IsNoOf limits ms came start note r → ⊥
-      no_no r is x = search (arith, rules, none_followed, followed, one_length)
+      no_no r is x = search (arith, rules, none_followed, followed, not_longer, cases_lt)
 
     pub one_whole_run : (rs ss : List LimitedRecord) (g h : Marked Fabric) → StableRun limits ms came start rs g →
         StableRun limits ms came start ss h → moved rs ≡ moved ss → (rs ≡ ss) × (g ≡ h)
     one_whole_run rs ss g h w v same =
-        grind (arith, common_steps, one_length (moved rs) rs ss g h w v, followed, one_stable_run, whole_run)
+        grind (arith, common_steps, not_longer, cases_lt, followed, one_stable_run, whole_run)

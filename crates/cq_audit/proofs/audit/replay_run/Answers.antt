@@ -1,6 +1,6 @@
 use Rattle.cq_audit.proofs.Terms.{rules, common_steps, ◌≤◌, ◌∙◌, arith, length-append, end_of, IsEmptyFabric}
 use Rattle.cq_audit.proofs.WholeFollowing.{moved}
-use Rattle.cq_audit.proofs.Steps.{Replaying, a_slot_left, at_end, at_fault, at_next, can_replay, cleared, not_over_past, past, replaying_first}
+use Rattle.cq_audit.proofs.Steps.{Replaying, a_slot_left, at_end, at_fault, at_next, can_replay, not_over_past, past, replaying_first}
 use Rattle.cq_audit.proofs.audit.replay_run.Given as given
 use Rattle.cq_audit.proofs.audit.replay_run.Goals as goal
 use Rattle.cq_audit.proofs.audit.replay_run.Goals.{After-skip-slot}
@@ -11,7 +11,7 @@ slots-init g c = search (rules, replaying_first)
 -- the replay behind the slots that were skipped, with room for what a slot notes
 there : (g : given.Over) (c : After-skip-slot g) → Replaying g.R.Rank.machine c.args.schedule.now.came c.args.lines.now
     c.args.replay.now c.skip-slot.result c.slots.rest.now c.skip-slot.new.replay c.clear.new.self
-there g c = search (arith, rules, past, cleared c.slots.invariant)
+there g c = search (arith, rules, past c.slots.invariant)
 
 -- the loop goes on there
 more : (g : given.Over) (c : After-skip-slot g) → end_of c.args.schedule.now.came ≤ c.skip-slot.result →
@@ -31,7 +31,7 @@ returns-in-Err g c =
 pub slots-smaller : goal.slots-smaller
 slots-smaller g c =
     let at = (goal.at.slots-smaller g c).After-skip-slot in
-    let left = a_slot_left (there g at) (more g at) c.requires in omega arith
+    omega (arith, a_slot_left (there g at) (more g at) c.requires)
 
 pub slots-preserved : goal.slots-preserved
 slots-preserved g c =
@@ -40,7 +40,7 @@ slots-preserved g c =
 pub overflow_add-slot : goal.overflow_add-slot
 overflow_add-slot g c =
     let at = (goal.at.overflow_add-slot g c).After-skip-slot in
-    let can = can_replay (there g at) (more g at) c.requires in search (arith, rules, can)
+    search (arith, rules, can_replay (there g at) (more g at) c.requires)
 
 pub left_over-requires : goal.left_over-requires
 left_over-requires g c = grind (arith, common_steps, length-append, moved)
