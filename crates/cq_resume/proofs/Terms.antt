@@ -1,5 +1,5 @@
 -- The words of this crate's proofs that stand elsewhere, each passed on from its place.
-pub use Rattle.cq_base.proofs.Library.{All, All-from_recursion, All-permutation, All-replicate, AllAdjacentBelow, AllByRecursion, AllPairs, AllZip, Bool, Bor, Called, ComputesKey, FnReturnsAtPair, IfSome, IsDistinct, IsDistinct-IsPermutation, IsDistinct-from_apart, IsNonDecreasingBy, IsNonDecreasingBy-take, IsPartitionPoint, IsPartitionPoint-from_clause, IsPartitionedBy, IsPartitionedBy-leb, IsPartitionedBy-ltb, IsPermutation, IsPermutation-sym, IsSome, IsSortedByKey, List, Mut, None, Option, Ordering, Some, YieldsList-from_map, YieldsList-from_slice, [], always_returns_same, and_from, and_left, and_parts, and_right, ap, apart_from_distinct, append-nil, append_assoc, arith, below_more, below_none, cases_Bool, cases_eq, cases_lt, cases_order, common_steps, cond, drop, enumerate_from, eq-eqb, eqb, eqb-true, err_from_is_err_and, false, false_from_ne_true, filter, filter-append, filter_map, filter_more, flat_map, flat_map-append, fold, ge_from_not_lt, get_or, get_or-drop, get_or-map, get_or-map-range_with_len, get_or-replicate, get_or-set_other, get_or-set_same, get_or-take, get_or_default, get_or_past, get_or_read, inl, inr, is_lt, items_from_extend, le-leb, le-ltb, leb, leb-false, leb-true, length, length-append, length-drop, length-enumerate_from, length-filter, length-map, length-map-range_with_len, length-replicate, length-take-le, list_any, list_any-IsPermutation, list_any_at, list_any_none, lt-leb, lt-ltb, ltb, ltb-false, ltb-true, map, map-append, map-id, map-range_with_len_more, nat_cmp, nat_lt, ne_eqb, not, option_map, or_cases, or_left, or_right, ordering_then, range_with_len, recursion_from_All, refl, replicate, rules, set, slice_get, slice_get-get_or, slice_index_or, suc, sum_by-IsPermutation, sym, take, take-append-drop, take_all, take_at, take_more, tests, true, with_items_is, zero, ℕ, ◌&&◌, ◌*◌, ◌++◌, ◌+◌, ◌-◌, ◌<◌, ◌==◌, ◌^◌, ◌||◌, ◌↔◌, ◌∙◌, ◌∷◌, ◌≡◌, ◌≢◌, ◌≤◌, ◌⊎◌, fill_by_all}
+pub use Rattle.cq_base.proofs.Library.{All, All-from_recursion, All-permutation, All-replicate, AllAdjacentBelow, AllByRecursion, AllPairs, AllZip, Bool, Bor, Called, ComputesKey, FnReturnsAtPair, IfSome, IsDistinct, IsDistinct-IsPermutation, IsDistinct-from_apart, IsNonDecreasingBy, IsNonDecreasingBy-take, IsPartitionPoint, IsPartitionedBy-leb, IsPartitionedBy-ltb, IsPermutation, IsPermutation-sym, IsSome, IsSortedByKey, List, Mut, None, Option, Ordering, Some, YieldsList-from_map, YieldsList-from_slice, [], always_returns_same, and_from, and_left, and_parts, and_right, ap, apart_from_distinct, append-nil, append_assoc, arith, below_more, cases_Bool, cases_eq, cases_lt, common_steps, cond, drop, enumerate_from, eq-eqb, eqb, eqb-true, err_from_is_err_and, false, false_from_ne_true, filter, filter-append, filter_map, filter_more, flat_map, flat_map-append, fold, get_or, get_or-drop, get_or-map, get_or-map-range_with_len, get_or-replicate, get_or-set_other, get_or-set_same, get_or-take, get_or_default, get_or_past, get_or_read, inl, inr, items_from_extend, le-leb, le-ltb, leb, leb-false, length, length-append, length-drop, length-enumerate_from, length-filter, length-map, length-map-range_with_len, length-replicate, length-take-le, list_any, list_any-IsPermutation, list_any_at, list_any_none, lt-leb, lt-ltb, ltb, ltb-true, map, map-append, map-id, map-range_with_len_more, nat_cmp, nat_lt, ne_eqb, not, option_map, ordering_then, range_with_len, recursion_from_All, refl, replicate, rules, set, slice_get, slice_get-get_or, slice_index_or, suc, sum_by-IsPermutation, sym, take, take-append-drop, take_all, take_at, take_more, tests, true, with_items_is, zero, ℕ, ◌&&◌, ◌*◌, ◌++◌, ◌+◌, ◌-◌, ◌<◌, ◌==◌, ◌^◌, ◌↔◌, ◌∙◌, ◌∷◌, ◌≡◌, ◌≢◌, ◌≤◌, ◌⊎◌, fill_by_all}
 pub use Rattle.cq_base.specs.Arriving.{Arrival, arriving, arriving_at, end_of}
 pub use Rattle.cq_base.specs.Cells.{IsBefore, IsRising, is_for}
 pub use Rattle.cq_base.specs.Items.{EachPair, Has}
@@ -30,7 +30,7 @@ unfoldable pub use Rattle.cq_resume.specs.Told.{fabric_told}
 pub use Rattle.cq_resume.specs.{declared.found.Found.Found, declared.found.Gone.Gone, declared.found.Name.Name, declared.packets.Tally.Tally, declared.refusal.StateRefusal.StateRefusal, declared.taken.Taken.Taken}
 pub use Rattle.cq_resume.specs.Terms.{AreTables, CanCount, CanTakeUp, IsTransferBefore, classes_of, departed, figures_at_input, machine_of, machines_of, named_as, ports_of, with_departure}
 pub use Rattle.cq_base.proofs.Each.{all_back, all_both, all_front, all_weaker, few_kept, filter_all, filter_none, images_held, of_images, counted_more}
-pub use Rattle.cq_base.specs.{Arrivals.no_arrivals, declared.cell.TagFault.TagFault, declared.figures.InputFigures.InputFigures, declared.key.Key.Key, declared.setup.ClassRow.ClassRow, declared.setup.Kind.Kind, declared.setup.Kind.TheVariants.Fair, declared.setup.Kind.TheVariants.FirstCome, declared.setup.Kind.TheVariants.Priority, declared.setup.Setup.Setup}
+pub use Rattle.cq_base.specs.{Arrivals.no_arrivals, declared.cell.TagFault.TagFault, declared.figures.InputFigures.InputFigures, declared.key.Key.Key, declared.setup.ClassRow.ClassRow, declared.setup.Kind.Kind, declared.setup.Kind.TheVariants.FirstCome, declared.setup.Setup.Setup}
 pub use Rattle.cq_base.proofs.Keys.{key_laws}
 pub use Rattle.cq_pcap.specs.Captured.{Captured}
 pub use Rattle.cq_cells.specs.{NextArrival.ArrivesIn, NextArrival.IsNextArrival}

@@ -3,11 +3,18 @@
 -- its slot at its input, before the next slot, and has the name's key. So names and found cells belong together, place
 -- by place. Each found cell is one that arrives: so it goes to one of the outputs, is of one of the classes, and came
 -- to one of the inputs. Names that stand by input and then by slot: sorted by both they stand so, but for names that
--- are the same; and where no two are the same they do. The name of an arrival, if there is one, stands where halving
--- finds the first that is not ahead of it. So no cell is named twice exactly where the names that were found stand
--- strictly in order: order changes nothing of which names are the same.
-use Rattle.cq_resume.proofs.Terms.{rules, arith, ◌≡◌, ℕ, ◌+◌, ◌<◌, ◌≤◌, ◌↔◌, List, [], ◌∷◌, ◌++◌, length, get_or, map, take, refl, None, Some, Bool, common_steps, filter_map, Option, IsSome, AllByRecursion, AllPairs, AllZip, take_more, All-from_recursion, cases_Bool, lt-ltb, ltb-true, All, recursion_from_All, Arrival, Queued, AreGone, AreFound, IsTold, names_of, told_of, waiting_name, sent_name, IsGone, Sent, arriving_cell, key_of, named_in, queued_of, Gone, Name, Named, State, IsOfSwitch, IsTraffic, ◌≢◌, ◌⊎◌, eqb, ltb, true, false, sym, Bor, ◌&&◌, ◌||◌, IsPermutation, Called, ComputesKey, Mut, AllAdjacentBelow, IsDistinct, list_any, IsPartitionPoint, IsPartitionedBy, IsSortedByKey, Ordering, is_lt, nat_cmp, ordering_then, and_from, and_left, and_parts, and_right, cases_eq, cases_lt, cases_order, eq-eqb, eqb-true, le-ltb, ne_eqb, or_cases, or_left, or_right, false_from_ne_true, always_returns_same, get_or_default, list_any_at, list_any_none, IsDistinct-IsPermutation, IsDistinct-from_apart, apart_from_distinct, ge_from_not_lt, IsNameBefore, IsNameNotAfter, IsPermutation-sym, AreArrivals, all_has, all_of_has, all_from_has, Has, each_pair, all_pairs, EachPair, StateRefusal, filter}
+-- are the same; and where no two are the same they do. The name of an arrival, if there is one, is found by halving.
+-- So no cell is named twice exactly where the names that were found stand strictly in order: order changes nothing of
+-- which names are the same.
+use Rattle.cq_resume.proofs.Terms.{rules, arith, ◌≡◌, ℕ, ◌+◌, ◌<◌, ◌≤◌, ◌↔◌, List, [], ◌∷◌, ◌++◌, length, get_or, map, take, refl, None, Some, Bool, common_steps, filter_map, Option, IsSome, AllByRecursion, AllPairs, AllZip, take_more, All-from_recursion, All, recursion_from_All, Arrival, Queued, AreGone, AreFound, IsTold, names_of, told_of, waiting_name, sent_name, IsGone, Sent, arriving_cell, key_of, named_in, queued_of, Gone, Name, Named, State, IsOfSwitch, IsTraffic, ◌≢◌, eqb, true, false, Bor, ◌&&◌, IsPermutation, Called, ComputesKey, Mut, AllAdjacentBelow, IsDistinct, list_any, IsSortedByKey, Ordering, nat_cmp, ordering_then, cases_lt, eq-eqb, eqb-true, false_from_ne_true, always_returns_same, list_any_at, list_any_none, IsDistinct-IsPermutation, IsDistinct-from_apart, apart_from_distinct, IsNameBefore, IsNameNotAfter, IsPermutation-sym, AreArrivals, all_has, all_of_has, all_from_has, Has, each_pair, all_pairs, EachPair, StateRefusal, filter}
+use Rattle.std.proofs.lemmas.Bool.Decides.{nat_tests}
+use Rattle.std.specs.declared.cmp.Ordering.TheVariants.{Equal}
+use Rattle.std.specs.Ordering.{ordering_index}
+use Rattle.std.specs.List.Sorted.{IsBinarySearchResult, IsSearchInRange}
+use Rattle.std.proofs.Common.{Result, Ok, Err, is_ok}
+use Rattle.cq_base.proofs.Each.{one_there}
 use Rattle.cq_resume.specs.Sound.{IsOnlyFor}
+use Rattle.cq_resume.proofs.Cut.{not_falling}
 use Rattle.cq_resume.specs.declared.refusal.StateRefusal.TheVariants as refusal
 use Rattle.cq_resume.proofs.Coming.{found_at}
 use Rattle.cq_resume.proofs.Lanes.{name_on, next_pairs}
@@ -75,7 +82,7 @@ is_cell_of came c q is = search (arith, rules)
 
 pub told_facts : (came : List Arrival) (next : ℕ) (c : Named) (q : Queued) → IsTold came next c q →
     (c.slot < next) × IsCellOf came c q
-told_facts came next c q is = search (arith, rules, ltb-true, cases_Bool)
+told_facts came next c q is = grind (arith, nat_tests)
 
 -- those of an input are the cells of its names
 pub sifted : (came : List Arrival) (i : ℕ) (xs : List Named) →
@@ -96,11 +103,10 @@ pub names_zip : (came : List Arrival) (s : State) (listed buffered : List Queued
     AreFound came s.head.next s.listed listed → AreFound came s.head.next s.buffered buffered →
     AreGone came s.head.next s.sent sent → AllZip (IsOf came s.head.next) (named_in s) (names_of listed buffered sent)
 names_zip came s listed buffered sent first second third =
-    let next = s.head.next in
-    let waits = zip_by (IsTold came next) (λ cs qs. AllZip (IsOf came next) cs (map waiting_name qs)) tt
+    let waits = zip_by (IsTold came s.head.next) (λ cs qs. AllZip (IsOf came s.head.next) cs (map waiting_name qs)) tt
     (search (rules, told_facts)) in
-    let left = zip_by (IsGone came next) (λ ds gs. AllZip (IsOf came next) (map (λ (d : Sent). d.cell) ds)
-    (map sent_name gs)) tt (search (rules, told_facts)) in
+    let left = zip_by (IsGone came s.head.next) (λ ds gs. AllZip (IsOf came s.head.next)
+    (map (λ (d : Sent). d.cell) ds) (map sent_name gs)) tt (search (rules, told_facts)) in
     search (rules, zip_both, waits, left)
 
 module _ (ports classes : ℕ) (came : List Arrival) (traffic : IsTraffic ports classes came) (next : ℕ) where
@@ -121,17 +127,12 @@ arrival_key n = (n.queued.key.input, n.queued.key.slot)
 abbrev pub pair_cmp : ℕ × ℕ → ℕ × ℕ → Ordering
 pair_cmp a b = ordering_then (nat_cmp a.0 b.0) (nat_cmp a.1 b.1)
 
--- of two pairs of which the second is not less, the first is less or the same in its first part, and then no greater
--- in the other
-not_less : (i s j t : ℕ) → is_lt (ordering_then (nat_cmp j i) (nat_cmp t s)) ≡ false → (i < j) ⊎ ((i ≡ j) × (s ≤ t))
-not_less i s j t fails = grind (arith, common_steps, le-ltb, eq-eqb, ge_from_not_lt, lt-ltb, cases_order)
-
 pub names_sorted : {F : Type 0} {g : Mut F (Bor Name × Unit {0}) (ℕ × ℕ)} {f : F} (xs : List Name) →
     ((key : Name → ℕ × ℕ) → ComputesKey g key f → IsSortedByKey key pair_cmp xs) →
     ((a : Bor Name × Unit {0}) (r : ℕ × ℕ) (f' : F) → Called g f a r f' → (r ≡ arrival_key a.0.now) × (f' ≡ f)) →
     AllAdjacentBelow IsNameNotAfter xs (length xs)
 names_sorted {g = g} {f = f} xs sorted calls k d inside =
-    search (arith, rules, not_less, sorted arrival_key, always_returns_same g (λ a r. r ≡ arrival_key a.0.now))
+    grind (arith, nat_tests, sorted arrival_key (always_returns_same g (λ a r. r ≡ arrival_key a.0.now) f calls) k d)
 
 -- ## Names that differ
 
@@ -140,49 +141,37 @@ abbrev pub same_name : Name → Name → Bool
 same_name a b = eqb a.queued.key.slot b.queued.key.slot && eqb a.queued.key.input b.queued.key.input
 
 eqb_flips : (m n : ℕ) → eqb m n ≡ eqb n m
-eqb_flips m n = grind (arith, common_steps, eq-eqb, ne_eqb, cases_eq)
+eqb_flips m n = grind (arith, nat_tests)
 
 pub still_differ : (xs ys : List Name) → IsPermutation xs ys → IsDistinct same_name xs → IsDistinct same_name ys
 still_differ = search (arith, rules, IsDistinct-IsPermutation, eqb_flips)
 
 -- ## Looked up
 
--- whether a name is ahead of an arrival, and whether it is its own
-abbrev pub is_ahead : ℕ → ℕ → Name → Bool
-is_ahead input slot n = ltb n.queued.key.input input || (eqb n.queued.key.input input && ltb n.queued.key.slot slot)
-
+-- whether a name is an arrival's, and how it stands to it: by input and then by slot
 abbrev pub is_its : ℕ → ℕ → Name → Bool
 is_its input slot n = eqb n.queued.key.slot slot && eqb n.queued.key.input input
 
--- what it says in numbers
-ahead_is : (input slot : ℕ) (n : Name) → (is_ahead input slot n ≡ true) ↔
-    ((n.queued.key.input < input) ⊎ ((n.queued.key.input ≡ input) × (n.queued.key.slot < slot)))
-ahead_is input slot n =
-    search (arith, rules, ltb-true, and_parts, eqb-true, or_cases, or_left, or_right, and_from, eq-eqb, lt-ltb)
+abbrev standing : ℕ → ℕ → Name → Ordering
+standing input slot n = pair_cmp (arrival_key n) (input, slot)
 
-not_its : (input slot : ℕ) (n : Name) → ((n.queued.key.slot ≡ slot) → (n.queued.key.input ≡ input) → ⊥) →
-    is_its input slot n ≡ false
-not_its input slot n other = grind (arith, common_steps, and_right, ne_eqb, and_left, cases_eq)
+same_place : (input slot : ℕ) (n : Name) → (standing input slot n ≡ Equal) ↔ (is_its input slot n ≡ true)
+same_place input slot n = search (arith, rules, eq-eqb, eqb-true)
 
-pub ahead_parts : (input slot : ℕ) (names : List Name) → AllPairs IsNameBefore names →
-    IsPartitionedBy (is_ahead input slot) names
-ahead_parts input slot names order i j d le inside holds =
-    let before = order i j d in search (arith, rules, ahead_is, cases_eq)
+-- a name before another stands no later to it
+no_later : (input slot : ℕ) (a b : Name) → IsNameBefore a b →
+    ordering_index (standing input slot a) ≤ ordering_index (standing input slot b)
+no_later input slot a b before = grind (arith, nat_tests)
 
-any_only : {X : Type 0} (p : X → Bool) (xs : List X) (n : ℕ) (e : X) → n < length xs →
-    ((k : ℕ) (d : X) → k < length xs → k ≢ n → p (get_or xs k d) ≡ false) → list_any p xs ≡ p (get_or xs n e)
-any_only p xs n e inside none = search (rules, list_any_at, list_any_none, cases_eq, get_or_default, cases_Bool)
-
-module _ (input slot : ℕ) (names : List Name) (order : AllPairs IsNameBefore names) (at : ℕ) (few : at ≤ length names)
-    (point : IsPartitionPoint (λ n. is_ahead input slot n ≡ true) (λ n. is_ahead input slot n ≡ false) names at) where
-  -- past the last name there is none
-  pub named_past : length names ≤ at → false ≡ list_any (is_its input slot) names
-  named_past past = search (arith, rules, list_any_none, ahead_is, not_its, point)
-
-  pub named_here : (e : Name) → at < length names →
-      is_its input slot (get_or names at e) ≡ list_any (is_its input slot) names
-  named_here e inside = sym (any_only (is_its input slot) names at e inside
-      (search (arith, rules, order at, ahead_is, cases_lt, not_its)))
+pub named_where : (input slot : ℕ) (names : List Name) → AllPairs IsNameBefore names → (r : Result ℕ ℕ) →
+    IsSearchInRange r (length names) → IsBinarySearchResult (standing input slot) names r →
+    is_ok r ≡ list_any (is_its input slot) names
+named_where input slot names order (Ok at) inside equal =
+    let one = (one_there names at inside).0 in
+    search (arith, rules, list_any_at (is_its input slot) names at one, same_place, equal one)
+named_where input slot names order (Err at) inside parted =
+    let rising = not_falling IsNameBefore _ (no_later input slot) names order in
+    search (arith, rules, list_any_none, parted rising, cases_lt, same_place, false_from_ne_true)
 
 -- two names are of different arrivals
 abbrev pub Differ : Named → Named → Type 0
@@ -202,22 +191,20 @@ module _ (came : List Arrival) (s : State) where
       ((x : X) → Miss x → told_of came s.head.next (name x) ≡ None) → (xs : List X) →
       ((x : X) → Has xs x → Has (named_in s) (name x)) → (f : StateRefusal) →
       IsOnlyFor 1 ((x : X) × Has xs x × Miss x) f → IsOnlyFor 1 (AreArrivals came s → ⊥) f
-  missed name Miss give xs named (refusal.Unsound k) is =
-      search (arith, rules, all_has (CanBe came s.head.next) (named_in s), lt-ltb)
-  missed name Miss give xs named f is = search rules
+  missed name Miss give xs named f is =
+      search (arith, rules, all_has (CanBe came s.head.next) (named_in s), nat_tests)
 
   -- names that belong to those of the state, and the same in another order
   module _ {told names : List Name} (same : IsPermutation told names)
       (zips : AllZip (IsOf came s.head.next) (named_in s) told) where
     apart_alike : AllPairs Differ (named_in s) ↔ AllPairs IsApart told
-    apart_alike = pairs_alike (IsOf came s.head.next) Differ IsApart
-        (search (rules, false_from_ne_true, and_parts, eqb-true, and_from, eq-eqb)) (named_in s) told zips
+    apart_alike = pairs_alike (IsOf came s.head.next) Differ IsApart (search (rules, nat_tests)) (named_in s) told zips
 
     -- names that stand strictly in order are of different arrivals, and each arrives
     pub are_arrivals : AllPairs IsNameBefore names → AreArrivals came s
     are_arrivals rising =
         let still = still_differ names told (IsPermutation-sym told names same)
-        (IsDistinct-from_apart same_name names (search (arith, rules, and_right, and_left, ne_eqb))) in
+        (IsDistinct-from_apart same_name names (search (arith, rules, nat_tests))) in
         let can_be = All-from_recursion (CanBe came s.head.next) (named_in s) in
         search (arith, rules, can_be, all_from_has, zip_mate, apart_alike, apart_from_distinct same_name told)
 
@@ -226,4 +213,4 @@ module _ (came : List Arrival) (s : State) where
         AllPairs IsNameBefore names
     arrivals_rise order arrive =
         let differ = still_differ told names same (IsDistinct-from_apart same_name told (apart_alike.0 arrive.once)) in
-        next_pairs IsNameBefore names name_on (search (arith, rules, eq-eqb, and_from, cases_eq, apart_from_distinct))
+        next_pairs IsNameBefore names name_on (search (arith, rules, nat_tests, apart_from_distinct))

@@ -1,5 +1,5 @@
 //! The cells that a state names, looked up among those that arrive.
-ghost use Rattle.std.specs.Prelude.{◌≡◌, ◌↔◌, ◌<◌, ◌&&◌, ◌||◌, ◌==◌, nat_lt, AllPairs, IfErr, IfNone, IfOk, IfSome, IsPermutation, IsTrue, None, OnOk, Some, filter, length, map, true};
+ghost use Rattle.std.specs.Prelude.{◌≡◌, ◌↔◌, ◌<◌, ◌&&◌, ◌==◌, AllPairs, IfErr, IfNone, IfOk, IfSome, IsPermutation, IsTrue, None, OnOk, Some, filter, length, map, true};
 ghost use Rattle.std.specs.List.{AllAdjacentBelow, AllByRecursion, AllZip, list_any};
 ghost use Rattle.cq_base.specs.Items.{Has};
 ghost use Rattle.cq_resume.specs.Finding.{names_of as names_told};
@@ -199,15 +199,6 @@ pub fn find(alloc: Global, state: &State, schedule: &Schedule) -> Result<Found, 
     })
 }
 
-// Whether a name is of an earlier input, or of this one and of an earlier slot.
-fn is_ahead(name: &Name, input: Port, slot: Slot) -> bool
-    ensures { result ≡ (nat_lt name.now.queued.key.input input
-        || (name.now.queued.key.input == input && nat_lt name.now.queued.key.slot slot)) }
-{
-    let (at, since) = arrived(name);
-    at < input || (at == input && since < slot)
-}
-
 // Whether a name is of the cell that arrived in the slot at the input.
 fn is_of(name: &Name, input: Port, slot: Slot) -> bool
     ensures { result ≡ (name.now.queued.key.slot == slot && name.now.queued.key.input == input) }
@@ -235,11 +226,7 @@ pub fn is_named(names: &[Name], input: Port, slot: Slot, near: usize) -> bool
     if is_at(names, near, input, slot) {
         return true;
     }
-    let at = names.partition_point(|name| is_ahead(name, input, slot));
-    if at >= names.len() {
-        return false;
-    }
-    is_of(&names[at], input, slot)
+    names.binary_search_by_key(&(input, slot), arrived).is_ok()
 }
 
 /// Those of the names, which stand in order, that are of this input.
