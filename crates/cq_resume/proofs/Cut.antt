@@ -5,7 +5,8 @@
 -- figures of the outputs change departure by departure, each those of its own output. Items that stand in order of a
 -- number, taken number by number and laid end on end, are the same list. And the slots of a run: departures that stand
 -- by slot end with the last.
-use Rattle.cq_resume.proofs.Terms.{IsBefore, pairs_kept_with, ◌&&◌, rules, ◌≡◌, ℕ, ◌+◌, ◌-◌, ◌<◌, ◌≤◌, eqb, leb, ltb, Bool, true, false, List, [], ◌∷◌, length, get_or, take, drop, refl, ap, ◌∙◌, length-drop, Bor, arith, map, common_steps, filter, Called, ComputesKey, Mut, IsPartitionPoint, IsNonDecreasingBy, always_returns_same, append-nil, get_or-drop, get_or-take, length-take-le, take-append-drop, map-append, take_more, filter-append, eq-eqb, leb-false, leb-true, ltb-false, ltb-true, ne_eqb, cases_eq, eqb-true, AllPairs, range_with_len, IsRising, Queued, IsBufferedBefore, ◌^◌, set, length-append, AllByRecursion, Departure, OutputFigures, output_told, IsSentBefore, IsTimely, departed, with_departure, Gone, recursion_from_All, filter_all, filter_none, cases_Bool, get_or-map-range_with_len, set_one, slots_of, all_weaker, of_images, few_kept, each_pair, all_pairs, EachPair, pairs_mapped, All-from_recursion, map-constant, take_all, flat_map-append, has_at, ◌==◌, flat_map, suc, zero}
+use Rattle.cq_resume.proofs.Terms.{IsBefore, pairs_kept_with, ◌&&◌, rules, ◌≡◌, ℕ, ◌+◌, ◌-◌, ◌<◌, ◌≤◌, eqb, leb, ltb, Bool, true, false, List, [], ◌∷◌, length, get_or, take, drop, refl, ap, ◌∙◌, length-drop, Bor, arith, map, common_steps, filter, Called, ComputesKey, Mut, IsPartitionPoint, IsNonDecreasingBy, always_returns_same, append-nil, get_or-drop, get_or-take, length-take-le, take-append-drop, map-append, take_more, filter-append, eq-eqb, leb-false, ltb-true, ne_eqb, cases_eq, eqb-true, AllPairs, range_with_len, IsRising, Queued, IsBufferedBefore, ◌^◌, set, length-append, AllByRecursion, Departure, OutputFigures, output_told, IsSentBefore, IsTimely, departed, with_departure, Gone, recursion_from_All, filter_all, filter_none, cases_Bool, get_or-map-range_with_len, set_one, slots_of, all_weaker, of_images, few_kept, each_pair, all_pairs, EachPair, pairs_mapped, All-from_recursion, map-constant, take_all, flat_map-append, has_at, ◌==◌, flat_map, suc, zero}
+use Rattle.std.proofs.lemmas.Bool.Decides.{nat_tests}
 use Rattle.std.proofs.lemmas.List.{take_rest}
 
 -- a test computes what each of its calls answers
@@ -37,8 +38,7 @@ module _ {X : Type 0} (key : X → ℕ) (t start end : ℕ) (xs upto : List X) (
   before_none = none_kept its (take start upto) (search (arith, rules, length-take-le, get_or-take, ltb-true, ne_eqb))
 
   inner_all : filter its (drop start upto) ≡ drop start upto
-  inner_all = filter_all its (drop start upto) (recursion_from_All (λ x. its x ≡ true) (drop start upto)
-      (search (arith, rules, length-drop, size, get_or-take, get_or-drop, leb-true, ltb-false, eq-eqb)))
+  inner_all = search (rules, filter_all, recursion_from_All, length-drop, size, get_or-take, get_or-drop, nat_tests)
 
   pub cut_at : take (length upto - start) (drop start upto) ≡ filter (λ x. eqb (key x) t) xs
   cut_at =
@@ -50,9 +50,6 @@ module _ {X : Type 0} (key : X → ℕ) (t start end : ℕ) (xs upto : List X) (
 pub not_falling : {X : Type 0} (R : X → X → Type 0) (key : X → ℕ) → ((a b : X) → R a b → key a ≤ key b) →
     (xs : List X) → AllPairs R xs → IsNonDecreasingBy key xs
 not_falling R key no_less xs pairs i j d le inside = grind (arith, common_steps, cases_eq i j, pairs i j d)
-
-pub output_no_less : (a b : Queued) → IsBufferedBefore a b → a.cell.output ≤ b.cell.output
-output_no_less a b before = grind (arith, common_steps)
 
 -- of cells for one output the first is the more urgent
 pub rising_kept : (j : ℕ) (xs : List Queued) → EachPair IsBufferedBefore xs →

@@ -6,7 +6,7 @@
 -- cells: it holds where of any two names of one flow the one that arrived first leaves first. What a sound state comes
 -- to is said of found cells too. Where a step of judging fails it names the first clause that fails, since those before
 -- it are known; and a state is sound of which all are known.
-use Rattle.cq_resume.proofs.Terms.{common_steps, arith, rules, ◌≡◌, ◌<◌, ◌↔◌, ◌⊎◌, eqb, Bool, true, false, List, [], length, map, refl, ◌∙◌, ℕ, ap, All, IsPermutation, filter, AllByRecursion, AllZip, list_any-IsPermutation, sum_by-IsPermutation, Arrival, Queued, IsTally, input_told, sent_told, AreFound, IsWholePacket, PacketsStand, TalliesUp, has_name, names_of, IsFound, AllNamed, AreWholePackets, NoneNamed, HasLimit, Switch, is_named, named_in, packet_before, buffer_told, fabric_told, Gone, Name, Tally, State, length-filter, departed, figures_at_input, Found, Seen, ◌++◌, get_or, ◌≤◌, AllPairs, map-append, All-permutation, IsPermutation-sym, IsBefore, FlowsStand, IsGone, IsNameBefore, IsTold, InOneFlow, LeavesEarlier, sent_name, waiting_name, IsFoundBefore, IsListedBefore, IsNoLaterInput, IsGoneBefore, IsTimely, StandsBelow, StandBelow, AreOrdered, KeepArrivalOrder, OfOneFlow, AreBelowFloors, IsBelowFloor, StandInOrder, is_ahead, queued_in, output_of, Named, Sent, All-from_recursion, recursion_from_All, machines_of, Some, ◌+◌, filter_map, slice_get, cases_Bool, cases_lt, get_or_past, map-id, get_or-map-range_with_len, length-map-range_with_len, is_for, cushion_of, input, SlackStands, cushion_in, HaveSlack, list_told, queued_of, length-map, Scheduled, AreCellsFor, AreNamesFor, HaveRoom, IsCellFor, IsFirstOfTwo, AreFoundIn, IsForPorts, Clause, IsFirstOf, IsFirstUnsound, IsSound, filter_none, ne_eqb, switch_of, CanTakeUp, ports_of, Tables, machine_of, IsInRange, IsNamed, below_more, below_none, all_weaker, all_both, all_front, all_back, of_images, Setup, has_at, has_there, all_of_has, all_has, has_all, has_left, has_right, has_cases, has_image, image_has, pair_of_has, all_from_has, Has, each_pair, most_ports, StateRefusal, err_from_is_err_and, kept_has}
+use Rattle.cq_resume.proofs.Terms.{common_steps, arith, rules, ◌≡◌, ◌<◌, ◌↔◌, ◌⊎◌, eqb, Bool, true, false, List, [], length, map, refl, ◌∙◌, ℕ, ap, All, IsPermutation, filter, AllByRecursion, AllZip, list_any-IsPermutation, sum_by-IsPermutation, Arrival, Queued, IsTally, input_told, AreFound, IsWholePacket, PacketsStand, TalliesUp, has_name, names_of, IsFound, AllNamed, AreWholePackets, NoneNamed, HasLimit, Switch, is_named, named_in, packet_before, buffer_told, fabric_told, Gone, Name, Tally, State, length-filter, figures_at_input, Found, Seen, ◌++◌, get_or, ◌≤◌, AllPairs, map-append, All-permutation, IsPermutation-sym, IsBefore, FlowsStand, IsGone, IsNameBefore, IsTold, InOneFlow, LeavesEarlier, sent_name, waiting_name, IsFoundBefore, IsListedBefore, IsNoLaterInput, IsGoneBefore, IsTimely, StandsBelow, StandBelow, AreOrdered, KeepArrivalOrder, OfOneFlow, AreBelowFloors, IsBelowFloor, StandInOrder, is_ahead, queued_in, output_of, Named, Sent, All-from_recursion, recursion_from_All, machines_of, Some, ◌+◌, filter_map, slice_get, cases_lt, get_or_past, map-id, get_or-map-range_with_len, length-map-range_with_len, is_for, cushion_of, input, SlackStands, cushion_in, HaveSlack, list_told, queued_of, length-map, Scheduled, AreCellsFor, AreNamesFor, HaveRoom, IsCellFor, IsFirstOfTwo, AreFoundIn, IsForPorts, Clause, IsFirstOf, IsFirstUnsound, IsSound, filter_none, ne_eqb, switch_of, CanTakeUp, ports_of, Tables, machine_of, IsInRange, IsNamed, below_more, all_weaker, all_both, all_front, all_back, of_images, Setup, has_at, has_there, all_of_has, all_has, has_all, has_left, has_right, has_cases, has_image, image_has, pair_of_has, all_from_has, Has, each_pair, most_ports, StateRefusal, err_from_is_err_and, kept_has}
 use Rattle.cq_resume.proofs.Zipped.{zip_by, same_mapped, IsOf, names_zip, sifted, told_facts, zip_both, pairs_alike, all_alike, all_as, each_right, one_for}
 use Rattle.cq_resume.proofs.Cut.{filter_both}
 use Rattle.cq_resume.specs.Sound.{IsBufferedBefore, IsSentBefore}
@@ -70,18 +70,17 @@ module _ (w : Switch) (s : State) (f : Found) (found : IsFound w.came s f) where
   -- the lines stand in order where the found cells do
   pub order_alike : StandInOrder w s ↔ AreOrdered f s.head.next s.moved
   order_alike =
-      let next = s.head.next in
-      let lists = pairs_alike Told (λ c d. c.input ≤ d.input) IsNoLaterInput
-      (λ c d q r first second. grind (arith, common_steps, told_facts)) s.listed f.listed.items found.listed in
+      let lists = pairs_alike Told (λ c d. c.input ≤ d.input) IsNoLaterInput (search (arith, rules, told_facts))
+      s.listed f.listed.items found.listed in
       let keys = pairs_alike Told
       (λ c d. c.input ≡ d.input → output_of w.came c ≡ output_of w.came d → is_ahead c d ≡ true) IsListedBefore
-      (λ c d q r first second. grind (arith, common_steps, told_facts)) s.listed f.listed.items found.listed in
-      let buffers = pairs_alike Told (IsBufferedBefore w.came) IsFoundBefore
-      (λ c d q r first second. grind (arith, common_steps, told_facts)) s.buffered f.buffered.items found.buffered in
-      let sends = pairs_alike Left (IsSentBefore w.came) IsGoneBefore
-      (λ d e g h first second. grind (arith, common_steps, told_facts)) s.sent f.sent.items found.sent in
-      let times = all_alike Left (λ d. (d.cell.slot ≤ d.slot) × (d.slot < next)) (IsTimely next)
-      (λ d g is. grind (arith, common_steps, told_facts)) s.sent f.sent.items found.sent in (
+      (search (arith, rules, told_facts)) s.listed f.listed.items found.listed in
+      let buffers = pairs_alike Told (IsBufferedBefore w.came) IsFoundBefore (search (arith, rules, told_facts))
+      s.buffered f.buffered.items found.buffered in
+      let sends = pairs_alike Left (IsSentBefore w.came) IsGoneBefore (search (arith, rules, told_facts))
+      s.sent f.sent.items found.sent in
+      let times = all_alike Left (λ d. (d.cell.slot ≤ d.slot) × (d.slot < s.head.next)) (IsTimely s.head.next)
+      (search (arith, rules, told_facts)) s.sent f.sent.items found.sent in (
         (λ stand. search (arith, rules, recursion_from_All)),
         (λ is. search (arith, rules, All-from_recursion, sends.1 is.2.ordered, times.1 is.2.timely)),
       )
@@ -136,10 +135,8 @@ module _ (w : Switch) (s : State) (f : Found) (found : IsFound w.came s f) where
       let behind = all_as Left _ _ (λ d g gone. all_as Told (Turned d.cell) (Behind g) (λ c q is.
       grind (arith, common_steps, told_facts)) (queued_in s) waiting zips) s.sent f.sent.items found.sent in
       let turns = all_as Told _ _ (λ c q first. all_as Told (Ahead c) (InTurn q) (λ d r second.
-      grind (arith, common_steps, told_facts)) (queued_in s) waiting zips) (queued_in s) waiting zips in (
-        (λ keep. record { sent = sends.0 keep.sent; after = behind.0 keep.after; queued = turns.0 keep.queued }),
-        (λ kept. record { sent = sends.1 kept.sent; after = behind.1 kept.after; queued = turns.1 kept.queued }),
-      )
+      grind (arith, common_steps, told_facts)) (queued_in s) waiting zips) (queued_in s) waiting zips in
+      ((λ keep. search (rules, sends.0, behind.0, turns.0)), (λ kept. search (rules, sends.1, behind.1, turns.1)))
 
   abbrev Rises : Name → Name → Type 0
   Rises m n = IsNameBefore m n × LeavesEarlier m n
@@ -155,12 +152,17 @@ module _ (w : Switch) (s : State) (f : Found) (found : IsFound w.came s f) where
       let wait = λ (q : Queued) (has : Has waiting q). has_left _ _ _ (has_image waiting_name waiting q has) in
       let gone = λ (g : Gone) (has : Has f.sent.items g). has_right _ _ _ (has_image sent_name f.sent.items g has) in
       record {
-        sent = λ i j d lt inside one.
-            let turn = in_turn flows (sent_name (get_or f.sent.items i d)) (sent_name (get_or f.sent.items j d)) in
-            grind (arith, common_steps, turn, stand i j d, gone, has_at);
-        after = all_from_has _ f.sent.items (λ g first. all_from_has (Behind g) waiting (λ q has one.
+        sent = λ i j d lt inside one. grind (
+          arith,
+          common_steps,
+          stand i j d,
+          gone,
+          has_at,
+          in_turn flows (sent_name (get_or f.sent.items i d)) (sent_name (get_or f.sent.items j d)),
+        );
+        after = all_from_has _ _ (λ g first. all_from_has (Behind g) waiting (λ q has one.
             grind (arith, common_steps, in_turn flows (sent_name g) (waiting_name q) (gone g first) (wait q has))));
-        queued = all_from_has _ waiting (λ q first. all_from_has (InTurn q) waiting (λ r has one less.
+        queued = all_from_has _ _ (λ q first. all_from_has (InTurn q) waiting (λ r has one less.
             grind (arith, common_steps, in_turn flows (waiting_name q) (waiting_name r) (wait q first) (wait r has))));
       }
 
@@ -191,9 +193,18 @@ module _ (w : Switch) (s : State) (f : Found) (found : IsFound w.came s f) where
     input_is : (i : ℕ) → input (fabric_told w.came s) i ≡ filter (of_input i) f.listed.items
     unfolding fabric_told
     input_is i =
-        let long = length-map-range_with_len (list_told w.came s) 0 s.head.ports in
-        let low = all_weaker (λ (q : Queued). q.key.input < s.head.ports) in
-        search (arith, rules, get_or-map-range_with_len, get_or_past, list_is, cases_lt, filter_none, low, ne_eqb)
+        search (
+          arith,
+          rules,
+          get_or-map-range_with_len,
+          length-map-range_with_len,
+          get_or_past,
+          list_is,
+          cases_lt,
+          filter_none,
+          all_weaker,
+          ne_eqb,
+        )
 
     cushion_is : (i ahead : ℕ) (c : Queued) → slice_get (filter (of_input i) f.listed.items) ahead ≡ Some c →
         cushion_of (fabric_told w.came s) c ≡ length (cushion_in f.buffered.items c)
@@ -222,16 +233,12 @@ module _ (w : Switch) (s : State) (f : Found) (found : IsFound w.came s f) where
 
   -- ## Figures
 
-  pub sent_is : sent_told w.came s ≡ map departed f.sent.items
-  sent_is = search (arith, rules, same_mapped, cases_Bool)
-
   pub figures_are : (i : ℕ) (x : Seen) → figures_at_input f.names.items i x ≡ input_told s i x
   figures_are i x =
       let passed = zip_by (IsOf w.came s.head.next) (λ (cs : List Named) (ns : List Name).
       length (filter (λ c. eqb c.input i) cs) ≡ length (filter (λ n. eqb n.queued.key.input i) ns)) refl
       (search (arith, rules)) (named_in s) _ named_zips in
-      let moved = λ (g : Name → ℕ). sum_by-IsPermutation g _ f.names.items found.same in
-      grind (arith, common_steps, length-filter, moved)
+      grind (arith, common_steps, length-filter, λ (g : Name → ℕ). sum_by-IsPermutation g _ f.names.items found.same)
 
 -- ## The inputs that are named
 
@@ -247,16 +254,9 @@ module _ (w : Switch) (s : State) where
   abbrev pub Before : ℕ → Type 0
   Before n = (k : ℕ) → k < n → Clause w s k
 
-  module _ (n : ℕ) (before : Before n) where
-    pub one_more : Clause w s n → Before (n + 1)
-    one_more holds = below_more (Clause w s) n before holds
-
-  module _ (n : ℕ) (before : Before n) (P Q : Type 0) (first : Clause w s n ↔ P) (second : Clause w s (n + 1) ↔ Q) where
-    pub two_more : P × Q → Before (n + 1 + 1)
-    two_more both = one_more (n + 1) (one_more n before (first.1 both.0)) (second.1 both.1)
-
-    pub two_refused : (r : StateRefusal) → IsFirstOfTwo n P Q r → IsFirstOf w s r
-    two_refused r why = grind (arith, common_steps, one_more)
+  two_refused : (n : ℕ) → Before n → (P Q : Type 0) → Clause w s n ↔ P → Clause w s (n + 1) ↔ Q → (r : StateRefusal) →
+      IsFirstOfTwo n P Q r → IsFirstOf w s r
+  two_refused n before P Q first second r why = grind (arith, common_steps, below_more (Clause w s) n before)
 
 -- ## The found cells
 
@@ -324,25 +324,18 @@ module _ (t : Tables) (c : Scheduled) (s : State) (f : Found) (k : AreFoundIn t 
 
   -- ## Clause by clause
 
-  arrivals_known : Before (switch_of t c) s 2
-  arrivals_known = grind (arith, common_steps, one_more, below_none)
-
   pub stand_refused : (r : StateRefusal) → IsFirstOfTwo 2 (AreOrdered f s.head.next s.moved) (HaveRoom f) r →
       IsFirstOf (switch_of t c) s r
-  stand_refused = search (rules, two_refused, arrivals_known, order_alike, slack_is)
+  stand_refused = search (arith, rules, order_alike (switch_of t c) s f k.found, slack_is)
 
   module _ (stand : AreOrdered f s.head.next s.moved × HaveRoom f) where
-    order_known : Before (switch_of t c) s 4
-    order_known =
-        two_more (switch_of t c) s 2 arrivals_known _ _ (order_alike (switch_of t c) s f k.found) slack_is stand
-
     pub packets_refused : (PacketsStand t.limits s.head.next c.came f.names.items → ⊥) →
         IsFirstUnsound (switch_of t c) s 4
-    packets_refused fails = search (rules, order_known, packets_is)
+    packets_refused fails = search (arith, rules, order_alike (switch_of t c) s f k.found, slack_is, packets_is)
 
     module _ (packets : PacketsStand t.limits s.head.next c.came f.names.items) where
       packets_known : Before (switch_of t c) s 5
-      packets_known = one_more (switch_of t c) s 4 order_known (packets_is.1 packets)
+      packets_known = search (arith, rules, order_alike (switch_of t c) s f k.found, slack_is, packets_is)
 
       pub leave_refused : (r : StateRefusal) →
           IsFirstOfTwo 5 (FlowsStand f.names.items) (StandBelow t.setup s.ranks f) r → IsFirstOf (switch_of t c) s r
@@ -350,9 +343,9 @@ module _ (t : Tables) (c : Scheduled) (s : State) (f : Found) (k : AreFoundIn t 
 
       pub is_sound : FlowsStand f.names.items × StandBelow t.setup s.ranks f → IsSound (switch_of t c) s
       is_sound leave =
-          let floors = floors_alike (switch_of t c) s f k.found t.setup refl in
-          let all = two_more (switch_of t c) s 5 packets_known _ _ (flows_is stand.0) floors leave in
-          search (arith, rules, all 2, all 3, all 4, all 5, all 6)
+          let floors = (floors_alike (switch_of t c) s f k.found t.setup refl).1 leave.1 in
+          let order = (order_alike (switch_of t c) s f k.found).1 stand.0 in
+          search (rules, order, slack_is.1 stand.1, packets_is.1 packets, (flows_is stand.0).1 leave.0, floors)
 
 -- what is asked of a state whose cells are to be found
 pub ruleset judge_finds = (length-map, inputs_low)

@@ -1,7 +1,8 @@
 -- What is looked at is what was found, and the departures are those of the cells that were sent. What is taken up is
 -- what the state comes to, part by part.
-use Rattle.cq_resume.proofs.Terms.{arith, rules, ℕ, departed, of_images, Seen, enumerate_from, range_with_len, figures_told, frozen_told, fabric_told}
-use Rattle.cq_resume.proofs.Judging.{buffer_is, figures_are, list_is, mapped_alike, sent_is}
+use Rattle.cq_resume.proofs.Terms.{arith, rules, cases_Bool, ℕ, departed, of_images, Seen, enumerate_from, range_with_len, figures_told, frozen_told, fabric_told}
+use Rattle.cq_resume.proofs.Judging.{buffer_is, figures_are, list_is, mapped_alike}
+use Rattle.cq_resume.proofs.Zipped.{same_mapped}
 use Rattle.cq_resume.proofs.Cut.{departed_low, departed_rising}
 use Rattle.cq_resume.proofs.taken.take_up.Goals as goal
 
@@ -18,4 +19,4 @@ returns c w found tally =
     let inputs = mapped_alike _ _ figures (enumerate_from 0 s.inputs) in
     let lists = mapped_alike _ _ (list_is w s f found) (range_with_len 0 s.head.ports) in
     let buffers = mapped_alike _ _ (buffer_is w s f found) (range_with_len 0 s.head.ports) in
-    search (arith, rules, sent_is w s f found, c.in_ok-placed.ensures)
+    search (arith, rules, same_mapped, cases_Bool, c.in_ok-placed.ensures)
