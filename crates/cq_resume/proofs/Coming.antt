@@ -1,6 +1,6 @@
 -- The cells that arrive at one input, from a slot on. They rise by slot, so the next slot with an arrival is that of
 -- the first of them, and behind it are those from the slot after that on.
-use Rattle.cq_resume.proofs.Terms.{and_right, le-ltb, common_steps, rules, ◌≡◌, ℕ, ◌+◌, ◌<◌, ◌≤◌, leb, ltb, Bool, List, [], ◌∷◌, None, Some, refl, inl, inr, arith, ◌&&◌, filter, AllByRecursion, and_parts, eqb-true, and_from, and_left, eq-eqb, le-leb, lt-leb, lt-ltb, Arrival, arriving_at, Cell, is_from, ComeBehind, IsLine, coming, ArrivesIn, IsNextArrival, all_of_has, has_kept, Has, EachPair, filter_none, all_weaker}
+use Rattle.cq_resume.proofs.Terms.{common_steps, rules, ◌≡◌, ℕ, ◌+◌, ◌<◌, ◌≤◌, leb, ltb, Bool, List, [], ◌∷◌, None, Some, refl, inl, inr, arith, ◌&&◌, filter, AllByRecursion, and_parts, eqb-true, and_from, and_left, eq-eqb, le-leb, lt-leb, lt-ltb, Arrival, arriving_at, Cell, is_from, ComeBehind, IsLine, coming, ArrivesIn, IsNextArrival, all_of_has, has_kept, Has, EachPair, filter_none, all_weaker}
 
 -- ## What arrives in a slot at an input
 
@@ -63,11 +63,6 @@ next_in from next slot x (a ∷ line) rising (inr has) at le lt all =
 module _ (input from next : ℕ) (came : List Arrival) where
   pub none_comes : IsNextArrival (filter (is_from input) came) from None → coming input from next came ≡ []
   none_comes none = search (arith, rules, filter_none, all_weaker, and_left, lt-leb)
-
-  pub none_comes_yet : (slot : ℕ) → IsNextArrival (filter (is_from input) came) from (Some slot) → next ≤ slot →
-      coming input from next came ≡ []
-  none_comes_yet slot is le =
-      search (arith, rules, filter_none, all_weaker, and_left, and_right, lt-leb, le-ltb, is.none_before)
 
   module _ (slot : ℕ) (is : IsNextArrival (filter (is_from input) came) from (Some slot)) (lt : slot < next)
       (whole : IsLine (filter (is_from input) came)) where

@@ -2,7 +2,7 @@
 -- fabric that it tells of stands in order, no key is in it twice, and in each list, for each output and in each count
 -- there are no more cells than came, and none has more than there were slots. The lists, input by input, are all cells
 -- that wait at inputs, since these stand by input.
-use Rattle.cq_resume.proofs.Terms.{common_steps, rules, ◌≡◌, ◌≢◌, ℕ, ◌+◌, ◌<◌, ◌≤◌, ◌^◌, Bool, true, List, [], ◌∷◌, length, get_or, map, Option, None, Some, refl, ap, ◌∙◌, arith, length-append, ◌==◌, IsSome, filter, flat_map, flat_same, IsNamed, nat_lt, slice_get, AllByRecursion, enumerate_from, filter_map, range_with_len, option_map, cases_lt, eq-eqb, eqb-true, lt-ltb, get_or_past, length-map, filter-append, get_or-map-range_with_len, length-enumerate_from, length-map-range_with_len, Arrival, IsBefore, is_for, Cell, Departure, Queued, OutputFigures, IsTraffic, is_from, is_to, number_of, cells_refused, packets_refused, refused_at, refused_counts, Refused, Fabric, buffer, input, AreCountsOf, AreOwn, HasPorts, IsSoundFabric, fabric_in, departure_of, figures_told, frozen_told, sent_told, IsSound, HasShape, Switch, arriving_cell, buffer_told, fabric_told, is_ahead, key_of, list_told, named_in, output_in, output_of, queued_in, queued_of, IsInRange, Named, Sent, State, few_kept, InputFigures, Key, held_for, waiting_for, Apart, Early, all_before, differ_from, IsFabric, ListsKeepOrder, Frozen, AreSized, all_of_has, all_from_has, all_has, has_left, has_right, has_kept, kept_has, Has, AreApart, no_more, each_pair, pairs_left, pairs_cross, pairs_kept_with, looked_up, pairs_looked_up, kept_few, looked_few, image_at, numbers_few, EachPair}
+use Rattle.cq_resume.proofs.Terms.{common_steps, rules, ◌≡◌, ◌≢◌, ℕ, ◌+◌, ◌<◌, ◌≤◌, ◌^◌, Bool, true, List, [], ◌∷◌, length, get_or, map, Option, Some, refl, ap, ◌∙◌, arith, length-append, ◌==◌, IsSome, filter, flat_map, flat_same, IsNamed, nat_lt, slice_get, AllByRecursion, enumerate_from, filter_map, range_with_len, option_map, cases_lt, eq-eqb, eqb-true, lt-ltb, get_or_past, length-map, filter-append, get_or-map-range_with_len, length-enumerate_from, length-map-range_with_len, Arrival, IsBefore, is_for, Cell, Departure, Queued, OutputFigures, IsTraffic, is_from, is_to, number_of, cells_refused, packets_refused, refused_at, refused_counts, Refused, Fabric, buffer, input, AreCountsOf, AreOwn, HasPorts, IsSoundFabric, fabric_in, departure_of, figures_told, frozen_told, sent_told, IsSound, HasShape, Switch, arriving_cell, buffer_told, fabric_told, is_ahead, key_of, list_told, named_in, output_in, output_of, queued_in, queued_of, IsInRange, Named, Sent, State, few_kept, InputFigures, Key, held_for, waiting_for, Apart, Early, all_before, differ_from, IsFabric, ListsKeepOrder, Frozen, AreSized, all_of_has, all_from_has, all_has, has_left, has_right, has_kept, kept_has, Has, AreApart, no_more, each_pair, pairs_left, pairs_cross, pairs_kept_with, looked_up, pairs_looked_up, kept_few, looked_few, image_at, numbers_few, EachPair}
 use Rattle.std.proofs.lemmas.List.{Elements.filter_map-append, Folds.flat_map-map}
 use Rattle.cq_resume.proofs.Cut.{ordered, rising_kept}
 pub use Rattle.cq_resume.proofs.Coming.{FoundAt, found_at}
@@ -40,8 +40,7 @@ module _ (told : ℕ → List Queued) (many : ℕ) where
 -- ## A name and its arrival
 
 pub some_cell : (o : Option Cell) → IsSome o → (cell : Cell) × (o ≡ Some cell)
-some_cell None some = absurd (let P : ⊥ = cc in P)
-some_cell (Some cell) some = (cell, refl)
+some_cell o some = search (arith, rules)
 
 -- a cell with the key of a name
 abbrev pub cell_with : Named → Cell → Queued
@@ -135,15 +134,9 @@ module _ (w : Switch) (s : State) (in_range : IsInRange s) (shape : HasShape w s
   pub its_slot : (c : Named) (q : Queued) → t c ≡ Some q → q.key.slot ≡ c.slot
   its_slot c q is = ap (λ (k : Key). k.slot) (is_cell_of w.came c q is).key
 
-  pub its_input : (c : Named) (q : Queued) → t c ≡ Some q → q.key.input ≡ c.input
-  its_input c q is = ap (λ (k : Key). k.input) (is_cell_of w.came c q is).key
-
   -- cells of one key are of one name's arrival
   one_arrival : (c d : Named) (q r : Queued) → t c ≡ Some q → t d ≡ Some r → q.key ≡ r.key → Differ c d → ⊥
   one_arrival c d q r first second same differ = grind (arith, common_steps, differ, is_cell_of)
-
-  one_cell : (c d : Named) (q r : Queued) → t c ≡ Some q → t d ≡ Some r → q.key ≡ r.key → q ≡ r
-  one_cell c d q r first second same = grind (arith, common_steps, is_cell_of)
 
   pub in_order : (c d : Named) (q r : Queued) → t c ≡ Some q → t d ≡ Some r → is_ahead c d ≡ true → IsBefore q r
   in_order c d q r first second ahead = grind (arith, common_steps, is_cell_of)
@@ -183,8 +176,7 @@ module _ (w : Switch) (s : State) (in_range : IsInRange s) (shape : HasShape w s
   in_list i q = of_list (λ l. Has l q → InList i q) absurd i (search (arith, rules, looked_up, kept_has, eqb-true))
 
   pub in_buffer : (j : ℕ) (q : Queued) → Has (buffer f j) q → InBuffer j q
-  in_buffer j q = of_buffer (λ (l : List Queued). Has l q → InBuffer j q) (λ none. absurd none) j
-      (λ has. search (arith, rules, kept_has, looked_up, eqb-true))
+  in_buffer j q = of_buffer (λ l. Has l q → InBuffer j q) absurd j (search (rules, kept_has, looked_up, eqb-true))
 
   -- ## It is sound
 
@@ -201,7 +193,7 @@ module _ (w : Switch) (s : State) (in_range : IsInRange s) (shape : HasShape w s
       (search (arith, rules, pairs_looked_up t (IsBufferedBefore w.came) IsFoundBefore, each_pair))
 
   apart : Apart f
-  apart = search (rules, in_list, its_input, one_cell, in_buffer, one_arrival, pairs_cross, Differ, queued_differ)
+  apart = search (rules, in_list, is_cell_of, in_buffer, one_arrival, pairs_cross, Differ, queued_differ)
 
   early : Early s.head.next f
   early =
@@ -225,7 +217,7 @@ module _ (w : Switch) (s : State) (in_range : IsInRange s) (shape : HasShape w s
   is_sound = search (rules, is_fabric, keep_order, sound.slack, differ_from, apart, all_before, early)
 
   are_own : AreOwn (length w.machines) w.classes f
-  are_own = search (rules, in_list, of_traffic, its_input, in_buffer)
+  are_own = search (rules, in_list, of_traffic, is_cell_of, in_buffer)
 
   -- ## No more wait than came
 
@@ -242,8 +234,8 @@ module _ (w : Switch) (s : State) (in_range : IsInRange s) (shape : HasShape w s
   lists_joined =
       let all = ordered (λ (q : Queued). q.key.input) (filter_map t s.listed) s.head.ports
       (pairs_looked_up t (λ c d. c.input ≤ d.input) (λ q r. q.key.input ≤ r.key.input)
-      (search (arith, rules, its_input)) s.listed (each_pair _ s.listed sound.order.lists))
-      (all_from_has _ _ (search (arith, rules, looked_up, all_of_has (IsNamed s.head.ports) s.listed, its_input))) in
+      (search (arith, rules, is_cell_of)) s.listed (each_pair _ s.listed sound.order.lists))
+      (all_from_has _ _ (search (arith, rules, looked_up, all_of_has (IsNamed s.head.ports) s.listed, is_cell_of))) in
       rw flat_map-map (flat_same _ _ 0 s.head.ports (λ i _ _. sifted w.came i s.listed) ∙ all)
 
   module _ (j : ℕ) where
@@ -274,10 +266,9 @@ module _ (w : Switch) (s : State) (in_range : IsInRange s) (shape : HasShape w s
   output_counts j =
       let told = kept_few (departure_of w.came) (λ (d : Departure). d.output == j) (sent_to j) in
       let timely = all_has (λ (d : Sent). (d.cell.slot ≤ d.slot) × (d.slot < s.head.next)) s.sent in
-      let few = numbers_few (λ (d : Sent). d.slot) (filter (sent_to j) s.sent) s.head.next (pairs_kept_with
-      (IsSentBefore w.came) (λ d e. d.slot ≢ e.slot) (sent_to j) (search (arith, rules, eqb-true)) s.sent
-      (each_pair _ s.sent sound.order.sent)) (search (arith, rules, all_from_has, timely, kept_has)) in
-      search (arith, rules, told, eqb-true, eq-eqb)
+      let few = numbers_few (λ (d : Sent). d.slot) (filter (sent_to j) s.sent) s.head.next in
+      let apart = pairs_kept_with (IsSentBefore w.came) (λ d e. d.slot ≢ e.slot) (sent_to j) in
+      search (arith, rules, told, few, apart, each_pair, all_from_has, timely, kept_has, eqb-true, eq-eqb)
 
   -- ## Together
 

@@ -120,12 +120,6 @@ module _ (w : Switch) where
 
   -- ## Where a run is over
 
-  -- nothing waits any more, and nothing comes
-  over_at : (next : ℕ) (start : Marked Fabric) → end_of w.came ≤ next → IsEmptyFabric start.state →
-      RunsOn w next start [] start
-  unfolding arriving_from
-  over_at next start late empty = grind (arith, common_steps)
-
   over_or_not : (next : ℕ) (f : Fabric) →
       ((end_of w.came ≤ next) × IsEmptyFabric f) ⊎ (end_of w.came ≤ next → IsEmptyFabric f → ⊥)
   over_or_not next f =
@@ -152,10 +146,10 @@ module _ (w : Switch) where
       IsEmptyFabric over.state →
       (records : List LimitedRecord) × (end : Marked Fabric) × RunsOn w next start records end
   unfolding arriving_from
-  ends zero next start over [] run late empty = grind (arith, common_steps, over_at)
+  ends zero next start over [] run late empty = grind (arith, common_steps)
   ends (suc n) next start over (r ∷ rs) run late empty =
       let rest = ends n (next + 1) run.0 over rs run.2 (omega arith) empty in
-      search (arith, rules, over_at, slot_ahead, over_or_not next start.state)
+      search (arith, rules, slot_ahead, over_or_not next start.state)
   ends n next start over rs run late empty = absurd run
 
   -- ## A run that was stopped
@@ -180,11 +174,10 @@ module _ (w : Switch) where
       module _ (within : slots ≤ length rs) where
         rest : RunsOn w slots there (drop slots rs) end × (rs ≡ part.records ++ drop slots rs)
         rest =
-            let past = goes_past 0 slots (length rs - slots) (length rs) slots start there end part.records rs
-            (omega arith) (omega arith) part.runs (whole_run 0 start end rs runs) in
-            let more : length (drop slots rs) ≡ length rs - slots = omega (arith, length-drop slots rs) in
+            let past = goes_past 0 slots (length rs - slots) (length rs) slots start there end part.records rs in
+            let whole = whole_run 0 start end rs runs in
             let sum = λ (m : ℕ). take-add slots m rs in
-            (search (arith, rules, take_all, sum, runs.all_came, join), search (arith, rules, take-append-drop))
+            search (arith, rules, past, take_all, sum, runs.all_came, join, length-drop, take-append-drop)
 
       -- stopped behind its end
       module _ (behind : length rs < slots) where
@@ -215,7 +208,8 @@ module _ (w : Switch) where
             search (arith, rules, quiet_from, empty_is, square, take-append-drop n part.records, one.run)
 
         rests : RunsOn w slots there [] there
-        rests = grind (arith, common_steps, All-replicate, over, over_at)
+        unfolding arriving_from
+        rests = grind (arith, common_steps, All-replicate, over)
 
         kept_over : kept_on (nothing_kept w) 0 rs ≡ kept_on (kept_in at) slots []
         unfolding quiet

@@ -27,8 +27,7 @@ module _ {X : Type 0} (R : X → X → Type 0) (xs : List X) where
     neighbours_decide {r = true} answer decides = grind (arith, common_steps, next_pairs, decides, answer.each)
     neighbours_decide {r = false} answer decides =
         let failed = answer.each in
-        let d = (one_there xs failed.0 (omega (arith, failed.1))).0 in
-        let told = decides _ _ false (failed.2 d) in search (arith, rules)
+        search (arith, rules, decides _ _ false (failed.2 (one_there xs failed.0 (omega (arith, failed.1))).0))
 
 -- ## Lanes
 
@@ -133,9 +132,7 @@ module _ {X : Type 0} (input lane : X → ℕ) (R : X → X → Type 0) where
             | inl same ↦
                 let its : get_or xs k d ≡ here = grind (arith, common_steps, get_or_default) in
                 rw its (here, read_here, inl refl)
-            | inr before ↦
-                let it = are.each k d (omega arith) own in
-                search (arith, rules, cases_eq, get_or-set_other, read_here, test_there)
+            | inr before ↦ search (arith, rules, are.each k d, cases_eq, get_or-set_other, read_here, test_there)
           ];
         }
 
@@ -224,16 +221,12 @@ module _ {listed buffered : List Queued} {n thread now : ℕ} (e : Queued) {begu
     counted = grind (arith, common_steps, now_counted, get_or_default, filter_more, length-append);
     few = grind (arith, common_steps, known.few, at.ways);
     stand = λ i ahead c is.
-        let p : Queued → Bool = λ q. eqb q.key.input i in
         grind (arith, common_steps, now_counted, push_cases, known.stand i ahead c, append-nil, eqb-true, cases_Bool);
   }
 
   pub threads_stop : cushion ≤ now → (false ≡ true) ↔ SlackStands listed buffered
   threads_stop short =
       let here = get_or listed n e in
-      let its : Queued → Bool = λ q. eqb q.key.input here.key.input in
-      let own = own_at its listed n here (slice_get-get_or listed n e at.inside) (eq-eqb _ _ refl) in
-      let counted = now_counted in
-      let few = λ (stands : SlackStands listed buffered).
-      stands here.key.input (length (thread_in listed n here.key.input)) here own in
-      ((λ no. absurd (let P : ⊥ = cc in P)), (λ stands. absurd (let less = few stands in omega (arith, counted))))
+      let own = own_at (λ q. eqb q.key.input here.key.input) listed n here (slice_get-get_or listed n e at.inside) in
+      let few = λ (stands : SlackStands listed buffered). stands here.key.input in
+      search (arith, rules, now_counted, own, eq-eqb, few)

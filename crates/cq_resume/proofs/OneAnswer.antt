@@ -1,7 +1,7 @@
 -- Of a text there is one answer. A text of a state in range is that of no other such state, and each of its lines is
 -- allowed. So the text tells the state, whether that has the switch's shape, and which clauses hold of it; and of two
 -- clauses that are the first to fail neither is before the other.
-use Rattle.cq_resume.proofs.Terms.{◌≡◌, ◌≢◌, ℕ, zero, suc, List, refl, sym, ◌∙◌, arith, cases_lt, Clause, IsSound, HasShape, Switch, IsInRange, State, Taken, StateRefusal, rules}
+use Rattle.cq_resume.proofs.Terms.{◌≡◌, ◌≢◌, ℕ, List, refl, sym, ◌∙◌, arith, cases_lt, Clause, IsSound, HasShape, Switch, IsInRange, State, Taken, StateRefusal, rules}
 use Rattle.cq_resume.specs.Reading.{HasOtherShape, IsRead, IsReadExact, IsRefusal}
 use Rattle.cq_resume.specs.declared.refusal.StateRefusal.TheVariants as refusal
 use Rattle.cq_state.proofs.{OneReading.state_is_exact, OneText.have_one_text}
@@ -9,13 +9,12 @@ use Rattle.cq_state.specs.State.{state_lines, state_text}
 use Rattle.cq_state.specs.StateText.{IsStateFault}
 
 each_clause : (w : Switch) (s : State) → IsSound w s → (k : ℕ) → Clause w s k
-each_clause w s sound (suc (suc (suc (suc (suc (suc zero)))))) = sound.floors
 each_clause w s sound k = search rules
 
 module _ (w : Switch) (text : List ℕ) where
   no_fault : (s : State) (line : ℕ) → IsInRange s → state_text s ≡ text → IsStateFault text line → ⊥
   no_fault s line a e fault =
-      state_is_exact.never_both (state_lines s) text line (rw e at (have_one_text.allowed s a)) fault
+      search (rules, state_is_exact.never_both (state_lines s) text line, have_one_text.allowed s a)
 
   no_other : (s : State) → IsInRange s → state_text s ≡ text → HasShape w s → HasOtherShape w text → ⊥
   no_other s a e shape o = o.other (rw (have_one_text.one_state o.state s o.in_range a (o.spelled ∙ sym e)) shape)

@@ -1,8 +1,8 @@
 -- The schedule of captures: its cells are those of its inputs, input after input, and at each input packet comes after
 -- packet, each from its first cell to its last. A packet has a cell at least, its cells come one a slot, and the next
 -- one begins when it has ended, or later.
-use Rattle.cq_resume.proofs.Terms.{rules, ◌≡◌, ℕ, zero, suc, ◌+◌, ◌-◌, ◌<◌, List, ◌++◌, length, map, flat_map, refl, inl, inr, arith, common_steps, filter, range_with_len, Arrival, Scheduled, IsTraffic, is_from, flat_same, ArePackets, ComeBehind, ComesNext, IsLine, IsScheduleOf, AreTables, classes_of, ports_of, Tables, all_weaker, piece, ends_before, cells_above, Captured}
-use Rattle.cq_cells.specs.Schedule.{arrivals, arrivals_at, arrivals_of, cell_of, cells, packet_at, packets_of, start}
+use Rattle.cq_resume.proofs.Terms.{rules, ◌≡◌, ℕ, zero, suc, ◌+◌, ◌-◌, ◌<◌, List, ◌++◌, length, map, flat_map, refl, inl, inr, arith, common_steps, range_with_len, Arrival, Scheduled, IsTraffic, flat_same, ArePackets, ComeBehind, ComesNext, IsLine, IsScheduleOf, AreTables, classes_of, ports_of, Tables, all_weaker, piece, ends_before, cells_above, Captured}
+use Rattle.cq_cells.specs.Schedule.{arrivals, arrivals_at, arrivals_of, cell_of, cells, packet_at, start}
 use Rattle.cq_cells.proofs.Rising.{at_input, traffic_is}
 
 module _ (t : Tables) (captures : List (List Captured)) (input : ℕ) where
@@ -55,15 +55,6 @@ module _ (t : Tables) (captures : List (List Captured)) (input : ℕ) where
       let some = some_cells 0 in
       search (arith, rules, named_by, one_packet 0 (cells t captures input 0 - 1) (packets_from (0 + 1) m), come_behind)
 
-  pub input_is_line : IsLine (arrivals_at t captures input)
-  unfolding arrivals_at
-  input_is_line = line_of (length (packets_of captures input))
-
-by_input : (t : Tables) (captures : List (List Captured)) → AreTables t → length captures ≡ ports_of t.setup →
-    arrivals t captures ≡ flat_map (λ i. filter (is_from i) (arrivals t captures)) (range_with_len 0 (length captures))
-unfolding arrivals
-by_input t captures tables ports = grind (arith, common_steps, flat_same, at_input)
-
 -- what is known of the schedule of tables
 pub record IsKnown (t : Tables) (s : Scheduled) : Type 0 where
   pub ports : s.ports ≡ ports_of t.setup
@@ -71,4 +62,5 @@ pub record IsKnown (t : Tables) (s : Scheduled) : Type 0 where
   pub packets : ArePackets s.ports s.came
 
 pub schedule_known : (t : Tables) (s : Scheduled) → AreTables t → IsScheduleOf t s → IsKnown t s
-schedule_known t s tables is = search (arith, rules, traffic_is, by_input, at_input, input_is_line, all_weaker)
+unfolding arrivals arrivals_at
+schedule_known t s tables is = search (arith, rules, traffic_is, flat_same, at_input, line_of, all_weaker)

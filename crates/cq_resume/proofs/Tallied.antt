@@ -4,7 +4,8 @@
 -- The walk over the cells of one input ends with a mark exactly where each packet that has begun is named whole, or
 -- not at all and its output has a limit. Cells of one packet come one behind the other, so each is compared with the
 -- one before it. The mark is up where the last cell is not named, which is of the packet that began last.
-use Rattle.cq_resume.proofs.Terms.{common_steps, rules, ◌↔◌, ◌≡◌, ℕ, ◌<◌, ◌≤◌, eqb, ltb, Bool, true, false, cond, List, [], ◌∷◌, fold, Option, Some, refl, inl, inr, arith, None, ◌==◌, filter, not, and_from, and_parts, and_right, cases_Bool, cases_lt, eq-eqb, eqb-true, le-leb, le-ltb, lt-ltb, ltb-true, Arrival, latest, ArePackets, ComeBehind, IsLine, PacketsStand, coming, firsts_before, has_limit, has_name, is_left_out, mark_on, may_come, packet_before, Name, all_of_has, all_from_has, has_kept, kept_has, Has, any_alike}
+use Rattle.cq_resume.proofs.Terms.{common_steps, rules, ◌↔◌, ◌≡◌, ℕ, ◌<◌, ◌≤◌, eqb, ltb, Bool, true, false, cond, List, [], ◌∷◌, fold, Option, Some, refl, inr, arith, None, ◌==◌, filter, not, and_from, and_right, cases_Bool, cases_lt, eq-eqb, eqb-true, le-leb, le-ltb, lt-ltb, Arrival, latest, ArePackets, ComeBehind, IsLine, PacketsStand, coming, firsts_before, has_limit, has_name, is_left_out, mark_on, may_come, packet_before, Name, all_of_has, all_from_has, has_kept, kept_has, Has, any_alike}
+use Rattle.std.proofs.lemmas.Bool.Decides.{nat_tests}
 use Rattle.cq_resume.proofs.Coming.{is_between}
 
 -- whether a cell is the first of its packet
@@ -49,8 +50,7 @@ module _ (named : Arrival → Bool) (limited : ℕ → Bool) where
 
   pub line_stands : (line : List Arrival) (m : Bool) → IsLine line → mark_on named limited false line ≡ Some m →
       AsFirst line
-  line_stands [] m is ends = λ f b first. absurd first
-  line_stands (a ∷ line) m is ends = search (arith, rules, as_first_on a line m, one_step)
+  line_stands line m is ends = search (arith, rules, as_first_on, one_step)
 
   -- ## The last first cell
 
@@ -74,20 +74,14 @@ module _ (named : Arrival → Bool) (limited : ℕ → Bool) where
       mark_on named limited (not (named a)) line ≡ None → ⊥
   walk_ends all first_like f a [] behind among there first packet output same stops = let P : ⊥ = cc in P
   walk_ends all first_like f a (b ∷ line) behind among there first packet output same stops =
-      let on = λ (g : Arrival). walk_ends all first_like g b line behind.1 (λ c has. among c (inr has)) in
-      search (arith, rules, eq-eqb)
+      search (arith, rules, walk_ends all first_like f b line, walk_ends all first_like b b line, eq-eqb)
 
   pub line_ends : (line : List Arrival) → IsLine line → AsFirst line → mark_on named limited false line ≡ None → ⊥
-  line_ends [] is first_like stops = let P : ⊥ = cc in P
-  line_ends (a ∷ line) is first_like stops =
-      search (arith, rules, walk_ends (a ∷ line) first_like a a line is.1, eq-eqb)
+  line_ends line is first_like stops = search (arith, rules, walk_ends line first_like, eq-eqb)
 
 -- ## The cells of an input before a slot
 
 module _ (next : ℕ) where
-  is_late : (b : Arrival) → is_between 0 next b ≡ false → next ≤ b.slot
-  is_late b is = grind (arith, common_steps, and_from, le-leb, lt-ltb, cases_lt)
-
   -- behind a late one all are late
   none_behind : (b : Arrival) (line : List Arrival) → next ≤ b.slot → ComeBehind b line →
       filter (is_between 0 next) line ≡ []
@@ -97,7 +91,7 @@ module _ (next : ℕ) where
   early_behind : (a : Arrival) (line : List Arrival) → ComeBehind a line →
       ComeBehind a (filter (is_between 0 next) line)
   early_behind a [] behind = tt
-  early_behind a (b ∷ line) behind = grind (arith, common_steps, none_behind, is_late, early_behind b line)
+  early_behind a (b ∷ line) behind = grind (arith, nat_tests, none_behind b line, early_behind b line)
 
 -- the first cells before a slot are the first ones of the line
 firsts_are : (next i : ℕ) (came : List Arrival) → firsts_before i next came ≡ filter is_first (coming i 0 next came)
@@ -109,26 +103,24 @@ firsts_are next i (a ∷ came) = grind (arith, common_steps, le-leb, firsts_are 
 module _ (limits : List (Option ℕ)) (ports next : ℕ) (came : List Arrival) (names : List Name)
     (are : ArePackets ports came) where
   pub whole : (i : ℕ) → i < ports → IsLine (coming i 0 next came)
-  whole i inside = search (arith, rules, is_between, early_behind, none_behind, is_late)
+  whole i inside = search (arith, rules, is_between, early_behind, none_behind, and_from, le-leb, lt-ltb, cases_lt)
 
   -- what is among them
   line_has : (i : ℕ) (b : Arrival) → Has (coming i 0 next came) b ↔
       (Has came b × (b.cell.id.input ≡ i) × (b.slot < next))
-  line_has i b =
-      search (arith, rules, kept_has, is_between, eqb-true, ltb-true, and_parts, has_kept, eq-eqb, and_from, lt-ltb)
+  line_has i b = search (arith, rules, kept_has, is_between, nat_tests, has_kept)
 
   -- and what is of a packet
   packet_has : (a b : Arrival) → Has (packet_before came next a) b ↔
       (Has came b × (b.cell.id.input ≡ a.cell.id.input) × (b.cell.id.packet ≡ a.cell.id.packet) × (b.slot < next))
-  packet_has a b = search (arith, rules, kept_has, eqb-true, ltb-true, and_parts, has_kept, eq-eqb, and_from, lt-ltb)
+  packet_has a b = search (arith, rules, kept_has, nat_tests, has_kept)
 
   abbrev pub LineStands : ℕ → Type 0
   LineStands i = AsFirst (has_name names) (has_limit limits) (coming i 0 next came)
 
   -- where all inputs stand so do all packets
   pub packets_stand : ((i : ℕ) → i < ports → LineStands i) → PacketsStand limits next came names
-  packets_stand stand =
-      all_from_has _ came (λ a has begins early. let line = stand a.cell.id.input in
+  packets_stand stand = all_from_has _ came (λ a has begins early. let line = stand a.cell.id.input in
       search (arith, rules, line, packet_has a, cases_Bool (has_name names a), all_of_has, line_has, all_from_has))
 
   -- and the other way
@@ -150,9 +142,7 @@ module _ (limits : List (Option ℕ)) (ports next : ℕ) (came : List Arrival) (
       by [] is line ends = cc
       by (a ∷ rest) is line ends =
           let step = one_step (has_name names) (has_limit limits) false m a rest ends in
-          let its = last_first (has_name names) (has_limit limits) (a ∷ rest) a a rest m line.1 (λ c has. inr has)
-          (inl refl) line.0 (omega arith) refl step.1 in
+          let its = last_first (has_name names) (has_limit limits) (a ∷ rest) a a rest m line.1 in
           let g = fold later_one a (filter is_first rest) in
-          let there : Has (coming i 0 next came) g = rw is its.0 in
           let any = any_alike (has_name names) (has_name names g) (packet_before came next g) g in
-          grind (arith, common_steps, eq-eqb, any, packet_has g, line_has, stand g)
+          grind (arith, common_steps, its, step, eq-eqb, any, packet_has g, line_has, stand g)

@@ -2,7 +2,7 @@
 -- The cells of the lists stand in order of their inputs and those of the buffers in order of their outputs, and all of
 -- these are ports, so taken port by port they are the same. Each name arrives, so its cell is told by it, and a
 -- departure by the slot and the name of its cell.
-use Rattle.cq_resume.proofs.Terms.{common_steps, rules, ◌≡◌, ℕ, ◌+◌, ◌≤◌, List, [], ◌∷◌, length, map, flat_map, Option, Some, refl, arith, enumerate_from, filter_map, range_with_len, option_map, length-map, length-map-range_with_len, Cell, Queued, Scheduled, IsTraffic, departure_of, figures_told, frozen_told, input_told, machine_of, sent_told, AreTables, IsScheduleOf, IsSound, HasShape, Switch, Tables, arriving_cell, buffer_told, fabric_told, named_as, named_in, queued_of, switch_of, IsInRange, Named, Seen, Sent, State, Taken, all_from_has, has_left, has_right, has_image, Has, each_pair, looked_up, pairs_looked_up}
+use Rattle.cq_resume.proofs.Terms.{common_steps, rules, ◌≡◌, ℕ, ◌+◌, ◌≤◌, List, [], ◌∷◌, length, map, flat_map, Option, Some, refl, arith, enumerate_from, filter_map, range_with_len, option_map, length-map, length-map-range_with_len, Cell, Queued, Scheduled, IsTraffic, departure_of, figures_told, frozen_told, input_told, sent_told, AreTables, IsScheduleOf, IsSound, HasShape, Switch, Tables, arriving_cell, buffer_told, fabric_told, named_as, named_in, queued_of, switch_of, IsInRange, Named, Seen, Sent, State, Taken, all_from_has, has_left, has_right, has_image, Has, each_pair, looked_up, pairs_looked_up}
 use Rattle.std.proofs.lemmas.List.Folds.{flat_map-map}
 use Rattle.cq_resume.proofs.Cut.{ordered}
 use Rattle.cq_resume.proofs.GoesOn.{comes, lists_joined, of_traffic, its_output, some_cell}
@@ -62,5 +62,4 @@ module _ (w : Switch) (s : State) (in_range : IsInRange s) (shape : HasShape w s
 pub text_again : (t : Tables) (c : Scheduled) (text : List ℕ) (x : Taken) → AreTables t → IsScheduleOf t c →
     IsRead (switch_of t c) text x → text_of_taken (switch_of t c) x ≡ text
 text_again t c text x tables is read =
-    let many = length-map t.setup.kinds (λ kind. machine_of kind t.setup.classes) in
-    search (arith, rules, state_again (switch_of t c) read.state, schedule_known t c)
+    search (arith, rules, state_again (switch_of t c) read.state, schedule_known t c, length-map)

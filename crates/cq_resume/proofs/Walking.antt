@@ -59,5 +59,4 @@ module _ (input from next : ℕ) (came : List Arrival) {names : List Name} {limi
       after ≡ with_refused (cond left (cell ∷ []) []) now → Walked names limits all rest left first after
   walk_goes_on left after is not_told counted =
       let both = all_counted_both (cond left (cell ∷ []) []) in
-      let name = its_name in
-      grind (arith, common_steps, step, fits, both, splits)
+      grind (arith, common_steps, its_name, step, fits, both, splits)

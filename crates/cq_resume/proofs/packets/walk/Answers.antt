@@ -16,13 +16,10 @@ is_named-named-requires c = rw c.names_at-own.ensures (AllPairs-filter IsNameBef
 
 pub returns-then-not-may_come-clause-mark : goal.returns-then-not-may_come-clause-mark
 returns-then-not-may_come-clause-mark c =
-    let stops = walk_stops c.args.input c.arrivals.from c.args.next in
-    search (arith, rules, stops, c.arrivals.invariant, c.in-Some.ensures.some)
+    search (arith, rules, walk_stops, c.in-Some.ensures.some)
 
 pub arrivals-preserved : goal.arrivals-preserved
-arrivals-preserved c =
-    let goes_on = walk_goes_on c.args.input c.arrivals.from c.args.next in
-    search (arith, rules, goes_on, c.arrivals.invariant, c.in-Some.ensures.some)
+arrivals-preserved c = search (arith, rules, walk_goes_on, c.in-Some.ensures.some)
 
 pub returns-clause-mark : goal.returns-clause-mark
 returns-clause-mark c = rw c.in_default.ensures.none at c.arrivals.invariant.marks
