@@ -2,7 +2,7 @@
 -- first, and those of its phases are among the others.
 -- The lines of a log, phase by phase. They are in order, so where none is of an earlier phase those of this one
 -- stand at the front, in order of input, and the others are of later ones.
-use Rattle.cq_audit.proofs.Terms.{rules, ◌≡◌, ℕ, ◌+◌, ◌<◌, ◌≤◌, Bool, true, false, List, [], ◌∷◌, ◌++◌, refl, arith, ◌⊎◌, take, drop, ap, ⊎_elim, common_steps, AllByRecursion, filter, position_or_len, and_left, and_parts, and_right, cases_lt, cond_both, eq-eqb, eqb-true, le-ltb, lt-ltb, ltb-true, ne_eqb, cases_Bool, append-nil, append_cancel_left, filter-append, Transfer, AreInOrder, IsTransferBefore, AllBehind, NoneBefore, in_phase, is_at, AreParted, FirstIsLeast, before_slot, all_weaker, not, first_here, first_later, all_front, all_give, filter_all, filter_none, recursion_from_All}
+use Rattle.cq_audit.proofs.Terms.{rules, ◌≡◌, ℕ, ◌+◌, ◌<◌, ◌≤◌, Bool, true, false, List, [], ◌∷◌, ◌++◌, refl, arith, ◌⊎◌, take, drop, ap, ⊎_elim, common_steps, AllByRecursion, filter, position_or_len, and_left, and_parts, cases_lt, cond_both, eq-eqb, eqb-true, lt-ltb, ltb-true, ne_eqb, cases_Bool, append-nil, append_cancel_left, filter-append, Transfer, AreInOrder, IsTransferBefore, AllBehind, NoneBefore, in_phase, is_at, AreParted, FirstIsLeast, before_slot, all_weaker, not, first_here, first_later, all_front, all_give, filter_all, filter_none, recursion_from_All}
 use Rattle.std.proofs.lemmas.Bool.Decides.{nat_tests}
 
 -- ## What is kept of lines by a test
@@ -23,8 +23,7 @@ module _ (keep : Transfer → Bool) where
 module _ (slot : ℕ) where
   pub before_is : (xs ys : List Transfer) → AllByRecursion (λ t. t.slot < slot) xs →
       AllByRecursion (λ t. slot ≤ t.slot) ys → before_slot slot (xs ++ ys) ≡ xs
-  before_is xs ys all none =
-      grind (arith, common_steps, filter-append, filter_all, filter_none, append-nil, all_weaker, lt-ltb, le-ltb)
+  before_is xs ys all none = search (arith, rules, filter-append, filter_all, filter_none, all_weaker, nat_tests)
 
   -- so they are parted in one way
   pub one_parting : (xs ys us vs : List Transfer) → AllByRecursion (λ t. t.slot < slot) xs →
@@ -55,21 +54,16 @@ module _ (slot : ℕ) where
         in_phase slot phase (before_slot to note) ≡ in_phase slot phase note
     phase_before to note lt = grind (arith, common_steps, keeps_of_kept, and_parts, eqb-true, lt-ltb)
 
-  none_other : (phase own : ℕ) → (own ≡ phase → ⊥) → (xs : List Transfer) →
-      AllByRecursion (λ t. (t.slot ≡ slot) × (t.phase ≡ own)) xs → AllByRecursion (λ t. is_at slot phase t ≡ false) xs
-  none_other phase own ne = grind (arith, common_steps, all_weaker, and_right, ne_eqb)
-
   -- so the lines of the second phase are those behind the lines of the first
   pub second_behind : (xs ys : List Transfer) → AllByRecursion (λ t. (t.slot ≡ slot) × (t.phase ≡ 1)) xs →
       in_phase slot 2 (xs ++ ys) ≡ in_phase slot 2 ys
-  second_behind xs ys first = keeps_later (is_at slot 2) xs ys (none_other 2 1 (λ is. cc) xs first)
+  second_behind xs ys first = search (arith, rules, keeps_later, all_weaker, nat_tests)
 
   -- of the lines of the first phase and then those of the second
   pub of_two : (xs ys : List Transfer) → AllByRecursion (λ t. (t.slot ≡ slot) × (t.phase ≡ 1)) xs →
       AllByRecursion (λ t. (t.slot ≡ slot) × (t.phase ≡ 2)) ys →
       (in_phase slot 1 (xs ++ ys) ≡ xs) × (in_phase slot 2 (xs ++ ys) ≡ ys)
-  of_two xs ys first second =
-      search (arith, rules, filter-append, filter_all, filter_none, all_weaker, nat_tests, append-nil)
+  of_two xs ys first second = search (arith, rules, filter-append, filter_all, filter_none, all_weaker, nat_tests)
 
 -- ## Lines in order
 

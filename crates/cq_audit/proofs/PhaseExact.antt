@@ -53,8 +53,7 @@ module _ (lists : List (List Queued)) (slot phase : ℕ) (lines : List Transfer)
 
 one_fault : (lists : List (List Queued)) (lines : List Transfer) (f g : PhaseFault) → IsPhaseFault lists lines f →
     IsPhaseFault lists lines g → f ≡ g
-one_fault lists lines (WrongLine i) (WrongLine k) x y =
-    grind (arith, common_steps, y.least i, x.least k, cases_lt k i, cases_lt i k)
+one_fault lists lines (WrongLine i) (WrongLine k) x y = grind (arith, common_steps, y.least i, x.least k, cases_lt i k)
 one_fault lists lines (WrongLine i) (Blocking k l) x y = absurd (y.right i x.wrong)
 one_fault lists lines (Blocking i j) (WrongLine k) x y = absurd (x.right k y.wrong)
 one_fault lists lines (Blocking i j) (Blocking k l) x y = search (arith, rules)

@@ -189,8 +189,7 @@ pub record AreNew (n : ℕ) (q : Queues) (l : LimiterView) : Type 0 where
 module _ {n : ℕ} {q : Queues} {l : LimiterView} (new : AreNew n q l) (ranks : RanksView) where
   pub in_step_first : {ms : List Machine} → AreForOneSwitch ms → length ms ≡ n → length ranks.states ≡ n →
       IsInStep ms 0 (shown ranks q l)
-  in_step_first one ports long =
-      search (arith, rules, holds_first, empty_agree n ranks.states, length-replicate)
+  in_step_first one ports long = search (arith, rules, holds_first, empty_agree n ranks.states, length-replicate)
 
 -- ## After slots in which nothing happens
 
@@ -207,8 +206,7 @@ module _ (ms : List Machine) (slot to : ℕ) (ranks rested : RanksView) (q : Que
       (marked l.marks (fabric_of q rested.states))
   rested_run ports count many some is again =
       let run = rested_limited_run l.limits l.marks ms ports count slot (fabric_of q ranks.states) rested.states
-      empty in
-      search (arith, rules, (stable_limited_too ms l.limits).run, run)
+      empty in search (arith, rules, (stable_limited_too ms l.limits).run, run)
 
 -- ## What the slots go by
 

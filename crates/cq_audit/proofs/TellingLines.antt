@@ -120,10 +120,8 @@ module _ (ws : List Waiting) (lines : List Transfer) (n : ℕ) (d : Transfer) (m
       ToldBy (cells_of ws) (take (n + 1) lines) (with_pair m line.input line.output)
   right_at names free = rw (take_more lines n d inside) (record {
     size = search (arith, rules, length-set, had.size);
-    told = λ i.
-        grind (arith, common_steps, get_or-set_same, get_or-set_other, had, own_line, other_line, long, own, cases_eq);
-    right = λ i wrong.
-        search (arith, rules, own_line, other_line, free, told_before, had, had.right i, same_wrong, list, cases_eq);
+    told = λ i. grind (arith, common_steps, get_or-set_same, had, own_line, other_line, long, own, cases_eq);
+    right = λ i wrong. search (arith, rules, own_line, other_line, free, had, had.right i, same_wrong, list, cases_eq);
   })
 
 pub ruleset told_steps = (none_told, cells_at, can_join)

@@ -128,8 +128,7 @@ module _ (limits : List (Option ℕ)) (ms : List Machine) (came : List Arrival) 
           LimitedFabricRun IsStable limits ms slot (arriving_from came slot (suc k)) old rs end → IsSettled slot 2
       unfolding arriving_from transfers_of_run
       next_settled slot k old [] end reached same run = absurd run
-      next_settled slot k old (r ∷ rs) end reached same run =
-          search (arith, rules, phase_now, run_later, each_moved r.of_slot)
+      next_settled slot k old (r ∷ rs) end reached same run = search (rules, phase_now, run_later, each_moved r.of_slot)
 
       passed : (slot n : ℕ) (rs : List LimitedRecord) (end : Marked Fabric) → slot < n → Runs n rs end →
           moved rs ≡ before_slot n note → Going slot rs → IsSettled slot 2
@@ -177,5 +176,4 @@ module _ (limits : List (Option ℕ)) (ms : List Machine) (came : List Arrival) 
 
     pub one_whole_run : (rs ss : List LimitedRecord) (g h : Marked Fabric) → StableRun limits ms came start rs g →
         StableRun limits ms came start ss h → moved rs ≡ moved ss → (rs ≡ ss) × (g ≡ h)
-    one_whole_run rs ss g h w v same =
-        grind (arith, common_steps, not_longer, cases_lt, followed, one_stable_run, whole_run)
+    one_whole_run rs ss g h w v same = grind (arith, common_steps, not_longer, cases_lt, followed, one_stable_run)
