@@ -34,8 +34,7 @@ pub record GoesOn (w : Switch) (x : Frozen) : Type 0 where
 module _ (told : ℕ → List Queued) (many : ℕ) where
   of_told : (P : List Queued → Type 0) → P [] → (i : ℕ) → P (told i) →
       P (get_or (map told (range_with_len 0 many)) i [])
-  of_told P none i here =
-      grind (arith, common_steps, get_or-map-range_with_len, length-map-range_with_len, get_or_past, cases_lt)
+  of_told P none i here = grind (arith, common_steps, get_or-map-range_with_len, length-map-range_with_len, cases_lt)
 
 -- ## A name and its arrival
 
@@ -278,5 +277,4 @@ module _ (w : Switch) (s : State) (in_range : IsInRange s) (shape : HasShape w s
 
   pub goes_on : GoesOn w (frozen_told w s)
   unfolding frozen_told fabric_told figures_told refused_counts
-  goes_on =
-      search (arith, rules, its_parts, in_range.head, shape.ranks, same_outputs, its_lengths, few_kept, image_at)
+  goes_on = search (arith, rules, its_parts, in_range.head, shape.ranks, same_outputs, its_lengths, few_kept, image_at)

@@ -30,8 +30,7 @@ module _ (ms : List Machine) (n : ℕ) (marks : List Bool) where
   -- they add nothing
   pub kept_quiet : (k : Kept) (count slot : ℕ) (ranks : List (List ℕ)) →
       kept_on k slot (quiet_limited_slots ms count slot n ranks marks) ≡ k
-  kept_quiet k count slot ranks =
-      search (arith, rules, quiet_records, append-nil, none_counted, adds_nothing ms n count slot ranks)
+  kept_quiet k count slot ranks = search (rules, quiet_records, none_counted, adds_nothing ms n count slot ranks)
 
 -- ## From a slot on
 
@@ -232,8 +231,7 @@ module _ (w : Switch) where
 
     pub part_is_whole : (kept : Kept) → IsResumed w at kept → IsWhole w ranks kept
     part_is_whole kept resumed =
-        let n = length resumed.records in
-        search (arith, rules, whole_run, part_is_run, join n, ends (slots + n) 0 start resumed.end)
+        let n = length resumed.records in search (rules, part_is_run, join n, ends (slots + n) 0 start resumed.end)
 
     -- a fault that is met later is met from there
     pub part_fault : (fault : TagFault) → IsWholeFault w ranks fault → IsResumedFault w at fault

@@ -30,8 +30,7 @@ of_input i q = eqb q.key.input i
 
 all_found : (came : List Arrival) (next : ℕ) (names : List Named) (found : List Queued) →
     AreFound came next names found → filter_map (queued_of came) names ≡ found
-all_found came next names found zips =
-    search (arith, rules, same_mapped (IsTold came next) (queued_of came), map-id found)
+all_found came next names found zips = search (rules, same_mapped (IsTold came next) (queued_of came), map-id found)
 
 -- ## Names that stand for those of a state
 
@@ -55,8 +54,7 @@ module _ (w : Switch) (s : State) (names : List Name)
   pub tally_is : (x : Tally) → length w.limits ≡ s.head.ports → TalliesUp w.limits s.head.next w.came names x →
       IsTally w s x
   tally_is x many up =
-      let as_one : is_named (named_in s) ≡ has_name names = λ k a. same a k in
-      search (arith, rules, as_one)
+      let as_one : is_named (named_in s) ≡ has_name names = λ k a. same a k in search (arith, rules, as_one)
 
 -- ## Of the cells that were found
 

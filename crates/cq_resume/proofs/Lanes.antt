@@ -228,5 +228,4 @@ module _ {listed buffered : List Queued} {n thread now : ℕ} (e : Queued) {begu
   threads_stop short =
       let here = get_or listed n e in
       let own = own_at (λ q. eqb q.key.input here.key.input) listed n here (slice_get-get_or listed n e at.inside) in
-      let few = λ (stands : SlackStands listed buffered). stands here.key.input in
-      search (arith, rules, now_counted, own, eq-eqb, few)
+      let few = λ (stands : SlackStands listed buffered). stands here.key.input in search (rules, now_counted, own, few)

@@ -19,8 +19,7 @@ pub record Walked (names : List Name) (limits : List (Option ℕ)) (all left : L
 pub comes_from : (input from next : ℕ) (came : List Arrival) (a : Arrival) (rest : List Arrival) →
     coming input from next came ≡ a ∷ rest → Has came a × (a.cell.id.input ≡ input)
 comes_from input from next came a rest splits =
-    let among : Has (coming input from next came) a = rw splits (inl refl) in
-    search (arith, rules, kept_has, is_between, eqb-true)
+    let among : Has (coming input from next came) a = rw splits (inl refl) in search (rules, kept_has, eqb-true)
 
 module _ (input from next : ℕ) (came : List Arrival) {names : List Name} {limits : List (Option ℕ)}
     {all rest : List Arrival} {mark : Bool} {first now : List Refused}
@@ -58,5 +57,4 @@ module _ (input from next : ℕ) (came : List Arrival) {names : List Name} {limi
   pub walk_goes_on : (left : Bool) (after : List Refused) → may ≡ true → left ≡ not is_told →
       after ≡ with_refused (cond left (cell ∷ []) []) now → Walked names limits all rest left first after
   walk_goes_on left after is not_told counted =
-      let both = all_counted_both (cond left (cell ∷ []) []) in
-      grind (arith, common_steps, its_name, step, fits, both, splits)
+      let both = all_counted_both (cond left (cell ∷ []) []) in grind (arith, common_steps, its_name, step, fits, both)

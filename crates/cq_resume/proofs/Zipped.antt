@@ -167,8 +167,7 @@ pub named_where : (input slot : ℕ) (names : List Name) → AllPairs IsNameBefo
     IsSearchInRange r (length names) → IsBinarySearchResult (standing input slot) names r →
     is_ok r ≡ list_any (is_its input slot) names
 named_where input slot names order (Ok at) inside equal =
-    let one = (one_there names at inside).0 in
-    search (arith, rules, list_any_at (is_its input slot) names at one, same_place, equal one)
+    let one = (one_there names at inside).0 in search (rules, list_any_at (is_its input slot) names at one, equal one)
 named_where input slot names order (Err at) inside parted =
     let rising = not_falling IsNameBefore _ (no_later input slot) names order in
     search (arith, rules, list_any_none, parted rising, cases_lt, same_place, false_from_ne_true)
@@ -191,8 +190,7 @@ module _ (came : List Arrival) (s : State) where
       ((x : X) → Miss x → told_of came s.head.next (name x) ≡ None) → (xs : List X) →
       ((x : X) → Has xs x → Has (named_in s) (name x)) → (f : StateRefusal) →
       IsOnlyFor 1 ((x : X) × Has xs x × Miss x) f → IsOnlyFor 1 (AreArrivals came s → ⊥) f
-  missed name Miss give xs named f is =
-      search (arith, rules, all_has (CanBe came s.head.next) (named_in s), nat_tests)
+  missed name Miss give xs named f is = search (arith, rules, all_has (CanBe came s.head.next) (named_in s), nat_tests)
 
   -- names that belong to those of the state, and the same in another order
   module _ {told names : List Name} (same : IsPermutation told names)
