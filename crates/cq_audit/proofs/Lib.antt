@@ -1,16 +1,12 @@
 mod Terms
 pub mod LogLines
 pub mod OneDifference
-pub mod Mirrored
 pub mod Ahead
 pub mod TellingLines
-pub mod LinesMoved
 pub mod PhaseExact
 pub mod Crossings
 pub mod Following
-pub mod WholeFollowing
 pub mod Slots
-pub mod BySlot
 pub mod Skips
 pub mod Steps
 pub mod Opened

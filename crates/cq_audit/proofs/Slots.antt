@@ -7,7 +7,7 @@
 use Rattle.cq_audit.proofs.Terms.{common_steps, rules, ◌≡◌, ℕ, ◌+◌, ◌<◌, ◌≤◌, ◌^◌, Bool, List, ◌++◌, length, map, get_or, Option, Ok, Err, sym, ap, ◌∙◌, subst, arith, append_assoc, length-append, [], replicate, length-map, length-replicate, Cell, Queued, TagFault, Transfer, RoomView, Machine, class_count, AreForOneSwitch, admitted, marked, marks_after, marks_down, count_for, ranking, admitted_arrives, admitted_for_ports, list_of, SlotRecord, fabric_admission, LimitedFabricRun, Arrives, transfers_in, ComeApart, FitLists, Queues, fabric_of, admits_are, admitted_room, numbers_fit, still_holds, holds_first, IsPhaseFault, in_phase, CanCome, CanReplay, IsInStep, IsSlotFault, ReplayView, SlotReplayed, shown, SlotFault, all_weaker, no_arrivals, IsStable, IsEmptyFabric, quiet_limited_slots, empty_agree, fronts, ComeToPorts, LimiterView, RanksView, idled, length-told, by_marks, SendsAlike, HoldsFabric, AreRanked, BuffersHaveRoom, HaveArrived, HaveJudged, HaveMoved, HaveSent, stable_limited_too, rested_agrees, rested_limited_run, still_held, length-map-range_with_len, length-idle}
 use Rattle.cq_fabric.proofs.Slot.{alike as sends_alike, arrive as slot_arrives, can_cross_first, can_cross_second, come_apart, depart as slot_departs, few_cross, fill as slot_fills, fits_lists, held_before, is_slot, recorded}
 use Rattle.cq_audit.specs.SlotSteps.{CanGoBy, CanSend, HasGoneBy, HaveAllSent, HaveCome}
-use Rattle.cq_audit.proofs.BySlot.{second_behind}
+use Rattle.cq_audit.proofs.Following.{second_behind}
 
 -- ## Before a slot
 
@@ -138,9 +138,8 @@ module _ {M : List ℕ → Machine} {slot : ℕ} {cells : List (Option Cell)} {l
       pub second_fault : (f : SlotFault) → (f.phase ≡ 2) × IsPhaseFault q3.inputs (in_phase slot 2 behind) f.fault →
           IsSlotFault (map M v.fixed) slot cells lines v f
       second_fault f is =
-          let filled = slot_fills ranked arrived room moved1 have_sent in
           let gone = slot_departs ranked arrived room moved1 have_sent in
-          search (arith, rules, seen, ranked, arrived, arrives, second_behind)
+          search (arith, rules, seen, ranked, arrived, arrives, second_behind, slot_fills)
 
       module _ {rest : List Transfer} {q4 : Queues} {note2 : RoomView Transfer}
           (two : HasGoneBy slot 2 behind rest q3 q4 note1 note2) where

@@ -9,10 +9,9 @@
 -- more than arrives in all. Beside the fabric an ideal switch runs, with which it agrees. So where the whole run of
 -- that one meets no tag fault, the fabric meets none, and it goes on for no more slots than that one.
 use Rattle.cq_audit.proofs.Terms.{common_steps, rules, ◌≡◌, ℕ, ◌+◌, ◌-◌, ◌<◌, ◌≤◌, Bool, List, [], length, map, Option, Result, Err, arith, length-append, ◌*◌, zero, suc, ◌∷◌, ◌++◌, refl, append_assoc, IfErr, IsOk, OnOk, cases_lt, take_all, take-append-le, Arrival, arriving, end_of, enough, RoomView, Cell, Transfer, Machine, class_count, Marked, first_slots, arriving_from, ranking, IsStable, Fabric, IsEmptyFabric, LimitedFabricRun, empty_limited_fabric, fabric_admission, IsLimitedFault, LimitedFabricSlot, LimitedRecord, arrivals_for, refusal_of, AreInOrder, NoneBefore, CanReplay, HasRested, IsInStep, IsSlotFault, ReplayView, SlotReplayed, ports_in, IsMadeAs, IsReady, IsStill, RunEnds, Reaches, before_slot, AuditRefusal, Left, SlotFault, arriving_length, arriving_parts, quiet_limited_slots, transfers_of_run, AfterBy, run_length, first_more, quiet_slots, Ok, Some, TagFault, arrival_at, IsTraffic, is_from, is_to, number_of, count_for, whole_limited_run, empty_limited, input, reach, empty_list, empty_together, nothing_for, slots_fit, arrives_found, come_from, from_here, from_last, no_more_from, one_if, some_one, idled, all_go_on, transfers_one, quiet_transfers, limited_parts, run_fault, held_for, LimitedAgrees, LimitedRunsAlike, same_limited_fault, begin, same_limited_run, limited_lists_kept, limited_outputs_kept, come_for, for_here, for_last, no_more_to}
-use Rattle.cq_audit.proofs.BySlot.{before_is, phase_later, none_first, none_from, none_next}
+use Rattle.cq_audit.proofs.Following.{before_is, phase_later, none_first, none_from, none_next, one_stable_run}
 use Rattle.cq_audit.proofs.Skips.{all_late}
-use Rattle.cq_audit.proofs.WholeFollowing.{Going, Runs, all_before, moved, moved_parts}
-use Rattle.cq_audit.proofs.Following.{one_stable_run}
+use Rattle.cq_audit.proofs.AuditExact.{Going, Runs, all_before, moved, moved_parts}
 use Rattle.cq_ideal.proofs.LimitedEnds.{last, limited_ends, limited_not_more, limited_whole_fault}
 
 ok_from : {A E : Type 0} (x : Result A E) → IsOk x → (a : A) × (x ≡ Ok a)
@@ -27,9 +26,8 @@ module _ (limits : List (Option ℕ)) (ms : List Machine) (came : List Arrival) 
       × ((j : ℕ) → held_for j g.state ≤ held_for j f.state + come_for j (arriving_from came slot n))
   unfolding arriving_from
   grow (suc n) slot f g (r ∷ rs) run =
-      let rest = grow n (slot + 1) run.0 g rs run.2 in
       let kept = limited_lists_kept limits ms slot (arriving came slot) f run.0 r run.1 in
-      search (arith, rules, some_one, arrives_found, from_here, limited_outputs_kept, for_here, kept)
+      search (arith, rules, some_one, arrives_found, from_here, limited_outputs_kept, for_here, kept, grow n (slot + 1))
   grow n slot f g rs run = search (arith, rules)
 
   module _ (ports : ℕ) (ranks : List (List ℕ)) (slot : ℕ) (f : Marked Fabric) (rs : List LimitedRecord)
@@ -46,8 +44,7 @@ module _ (limits : List (Option ℕ)) (ms : List Machine) (came : List Arrival) 
     -- all
     pub output_is_short : (j : ℕ) → held_for j f.state + count_for j (arriving came slot) ≤ number_of (is_to j) came
     output_is_short j =
-        let grown = grow slot 0 (empty_limited_fabric ports ranks) f rs run in
-        grind (arith, common_steps, grown, empty_list, nothing_for, for_last, no_more_to j came (slot + 1))
+        grind (arith, common_steps, empty_list, nothing_for, for_last, no_more_to j came (slot + 1), grow)
 
     -- ## Beside the ideal switch
 

@@ -1,10 +1,23 @@
+-- Pairs that are told from both sides. One more pair is told from both, where its ends were free.
 -- The lines of a phase, told one after another. Their inputs rise, so where a line has its turn, those before it are of
 -- lesser inputs and those behind it of greater ones: it is the line of its input, and an output that is taken then is
 -- taken by a lesser input's line.
-use Rattle.cq_audit.proofs.Terms.{all_of_has, common_steps, rules, ◌≡◌, ◌≢◌, ℕ, ◌+◌, ◌<◌, ◌≤◌, ◌⊎◌, List, [], ◌∷◌, ◌++◌, length, get_or, take, drop, None, Some, refl, sym, ◌∙◌, arith, replicate, AllByRecursion, cases_eq, cond_both, eq-eqb, eqb-true, length-map, length-replicate, length-set, get_or-set_same, get_or-set_other, ext_get_or, get_or-map-range_with_len, length-map-range_with_len, take-append-drop, take_more, drop_more, find-append, all_back, all_weaker, Queued, Transfer, Waiting, cells_of, list_of, Partners, partner_of, with_pair, IsFreeOutput, nobody, IsOf, AreRight, IsFirstWrong, IsWrongLine, RiseByInput, first_id, line_of_input, output_told, told, get_or-map}
+use Rattle.cq_audit.proofs.Terms.{all_of_has, common_steps, rules, ◌≡◌, ◌≢◌, ℕ, ◌+◌, ◌<◌, ◌≤◌, ◌⊎◌, List, [], ◌∷◌, ◌++◌, length, get_or, take, drop, None, Some, refl, sym, ◌∙◌, arith, replicate, AllByRecursion, cases_eq, cond_both, eq-eqb, eqb-true, length-map, length-replicate, length-set, get_or-set_same, get_or-set_other, ext_get_or, get_or-map-range_with_len, length-map-range_with_len, take-append-drop, take_more, drop_more, find-append, all_back, all_weaker, Queued, Transfer, Waiting, cells_of, list_of, Partners, partner_of, with_pair, IsFreeOutput, nobody, IsOf, AreRight, IsFirstWrong, IsWrongLine, RiseByInput, first_id, line_of_input, output_told, told, get_or-map, none_unless}
 use Rattle.cq_base.proofs.Having.{has_there}
 use Rattle.std.proofs.lemmas.List.Folds.{find_at}
-use Rattle.cq_audit.specs.Pairs.{CanBeJoined}
+use Rattle.cq_audit.specs.Pairs.{CanBeJoined, AreMirrored}
+
+module _ (m w : Partners) (mirror : AreMirrored m w) where
+  pub free_there : (j : ℕ) → IsFreeOutput m j → partner_of w j ≡ None
+  free_there j free = none_unless (partner_of w j) (λ i is. free i (mirror.back i j is))
+
+  pub free_back : (i : ℕ) → partner_of m i ≡ None → IsFreeOutput w i
+  free_back i free j is = grind (arith, common_steps, mirror.back)
+
+pub joined_mirrored : (m w : Partners) (i j : ℕ) → AreMirrored m w → i < length m → j < length m →
+    partner_of m i ≡ None → IsFreeOutput m j → AreMirrored (with_pair m i j) (with_pair w j i)
+joined_mirrored m w i j mirror in_m in_w free_i free_j =
+    search (arith, rules, length-set, free_back, get_or-set_same, get_or-set_other, cases_eq)
 
 -- the list of an input that is one
 pub cells_at : (lists : List Waiting) (i : ℕ) (w : Waiting) → i < length lists → get_or lists i w ≡ w →

@@ -28,7 +28,7 @@ pub fn phases_are_exact()
 /// Of the stable runs over the same slots from one state, at most one has these transfers: in each phase they tell the
 /// matching. So it is with whole runs, which end by themselves, and a replay has no choice. It does nothing: its
 /// contract is the claim.
-#[tactic(auto, using(crate::proofs::Following::one_stable_run, crate::proofs::WholeFollowing::one_whole_run))]
+#[tactic(auto, using(crate::proofs::Following::one_stable_run, crate::proofs::AuditExact::one_whole_run))]
 pub fn transfers_tell_the_run()
     ensures slots { (limits : List (Option ℕ)) (ms : List Machine) (slot : ℕ) (traffic : List (List (Option Cell)))
         (f g h : Marked Fabric) (rs ss : List LimitedRecord) →

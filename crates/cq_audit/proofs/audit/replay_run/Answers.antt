@@ -1,5 +1,5 @@
 use Rattle.cq_audit.proofs.Terms.{rules, common_steps, ◌≤◌, ◌∙◌, arith, length-append, end_of, IsEmptyFabric}
-use Rattle.cq_audit.proofs.WholeFollowing.{moved}
+use Rattle.cq_audit.proofs.AuditExact.{moved}
 use Rattle.cq_audit.proofs.Steps.{Replaying, a_slot_left, at_end, at_fault, at_next, can_replay, not_over_past, past, replaying_first}
 use Rattle.cq_audit.proofs.audit.replay_run.Given as given
 use Rattle.cq_audit.proofs.audit.replay_run.Goals as goal

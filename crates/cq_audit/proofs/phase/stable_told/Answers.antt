@@ -1,5 +1,5 @@
 use Rattle.cq_audit.proofs.Terms.{arith, rules, length-map}
-use Rattle.cq_audit.proofs.LinesMoved.{judged_stable, told_size}
+use Rattle.cq_audit.proofs.PhaseExact.{judged_stable, told_size}
 use Rattle.cq_audit.proofs.phase.stable_told.Goals as goal
 
 pub first_blocking-requires : goal.first_blocking-requires
