@@ -2,13 +2,20 @@
 -- fabric that it tells of stands in order, no key is in it twice, and in each list, for each output and in each count
 -- there are no more cells than came, and none has more than there were slots. The lists, input by input, are all cells
 -- that wait at inputs, since these stand by input.
-use Rattle.cq_resume.proofs.Terms.{common_steps, rules, ◌≡◌, ◌≢◌, ℕ, ◌+◌, ◌<◌, ◌≤◌, ◌^◌, Bool, true, List, [], ◌∷◌, length, get_or, map, Option, Some, refl, ap, ◌∙◌, arith, length-append, ◌==◌, IsSome, filter, flat_map, flat_same, IsNamed, nat_lt, slice_get, AllByRecursion, enumerate_from, filter_map, range_with_len, option_map, cases_lt, eq-eqb, eqb-true, lt-ltb, get_or_past, length-map, filter-append, get_or-map-range_with_len, length-enumerate_from, length-map-range_with_len, Arrival, IsBefore, is_for, Cell, Departure, Queued, OutputFigures, IsTraffic, is_from, is_to, number_of, cells_refused, packets_refused, refused_at, refused_counts, Refused, Fabric, buffer, input, AreCountsOf, AreOwn, HasPorts, IsSoundFabric, fabric_in, departure_of, figures_told, frozen_told, sent_told, IsSound, HasShape, Switch, arriving_cell, buffer_told, fabric_told, is_ahead, key_of, list_told, named_in, output_in, output_of, queued_in, queued_of, IsInRange, Named, Sent, State, few_kept, InputFigures, Key, held_for, waiting_for, Apart, Early, all_before, differ_from, IsFabric, ListsKeepOrder, Frozen, AreSized, all_of_has, all_from_has, all_has, has_left, has_right, has_kept, kept_has, Has, AreApart, no_more, each_pair, pairs_left, pairs_cross, pairs_kept_with, looked_up, pairs_looked_up, kept_few, looked_few, image_at, numbers_few, EachPair}
+-- What was read is told again: what a sound state comes to tells that state, so its text is the text that was read.
+-- The cells of the lists stand in order of their inputs and those of the buffers in order of their outputs, and all of
+-- these are ports, so taken port by port they are the same. Each name arrives, so its cell is told by it, and a
+-- departure by the slot and the name of its cell.
+use Rattle.cq_resume.proofs.Terms.{common_steps, rules, ◌≡◌, ◌≢◌, ℕ, ◌+◌, ◌<◌, ◌≤◌, ◌^◌, Bool, true, List, [], ◌∷◌, length, get_or, map, Option, Some, refl, ap, ◌∙◌, arith, length-append, ◌==◌, IsSome, filter, flat_map, flat_same, IsNamed, nat_lt, slice_get, AllByRecursion, enumerate_from, filter_map, range_with_len, option_map, cases_lt, eq-eqb, eqb-true, lt-ltb, length-map, filter-append, get_or-map-range_with_len, length-enumerate_from, length-map-range_with_len, Arrival, IsBefore, is_for, Cell, Departure, Queued, OutputFigures, IsTraffic, is_from, is_to, number_of, cells_refused, packets_refused, refused_at, refused_counts, Refused, Fabric, buffer, input, AreCountsOf, AreOwn, HasPorts, IsSoundFabric, fabric_in, departure_of, figures_told, frozen_told, sent_told, IsSound, HasShape, Switch, arriving_cell, buffer_told, fabric_told, is_ahead, key_of, list_told, named_in, output_in, output_of, queued_in, queued_of, IsInRange, Named, Sent, State, few_kept, InputFigures, Key, held_for, waiting_for, Apart, Early, all_before, differ_from, IsFabric, ListsKeepOrder, Frozen, AreSized, all_of_has, all_from_has, all_has, has_left, has_right, has_kept, kept_has, Has, AreApart, no_more, each_pair, pairs_left, pairs_cross, pairs_kept_with, looked_up, pairs_looked_up, kept_few, looked_few, image_at, numbers_few, EachPair, Scheduled, input_told, AreTables, IsScheduleOf, Tables, named_as, switch_of, Seen, Taken, has_image}
 use Rattle.std.proofs.lemmas.List.{Elements.filter_map-append, Folds.flat_map-map}
 use Rattle.cq_resume.proofs.Cut.{ordered, rising_kept}
 pub use Rattle.cq_resume.proofs.Coming.{FoundAt, found_at}
 pub use Rattle.cq_resume.proofs.Zipped.{Differ, is_cell_of, sifted}
 use Rattle.cq_resume.specs.Sound.{IsBufferedBefore, IsSentBefore}
 use Rattle.cq_resume.specs.Finding.{IsBufferedBefore as IsFoundBefore}
+use Rattle.cq_resume.proofs.Scheduling.{schedule_known}
+use Rattle.cq_resume.specs.Reading.{IsRead, seen_as, sent_as, text_of_taken}
+unfoldable use Rattle.cq_resume.specs.Reading.{state_of}
 
 -- the arrivals before this slot
 abbrev pub came_before : ℕ → List Arrival → List Arrival
@@ -84,6 +91,18 @@ waiting_all : (j : ℕ) (lists : List (List Queued)) →
     waiting_for j lists ≡ length (filter (is_for j) (flat_map (λ l. l) lists))
 waiting_all j [] = refl
 waiting_all j (cells ∷ lists) = grind (arith, common_steps, filter-append, length-append, waiting_all j lists)
+
+-- ## What is looked up and told again
+
+told_again : {X Y : Type 0} (f : X → Option Y) (g : Y → X) (xs : List X) →
+    ((x : X) → Has xs x → option_map g (f x) ≡ Some x) → map g (filter_map f xs) ≡ xs
+told_again f g [] each = refl
+told_again f g (x ∷ xs) each = grind (arith, common_steps, told_again f g xs)
+
+seen_again : (s : State) (xs : List Seen) (a : ℕ) →
+    map seen_as (map (λ (at : ℕ × Seen). input_told s at.0 at.1) (enumerate_from a xs)) ≡ xs
+seen_again s [] a = refl
+seen_again s (x ∷ xs) a = grind (arith, common_steps, seen_again s xs (a + 1))
 
 -- ## The fabric that is told of
 
@@ -263,11 +282,10 @@ module _ (w : Switch) (s : State) (in_range : IsInRange s) (shape : HasShape w s
 
   output_counts : (j : ℕ) → length (filter (λ (d : Departure). d.output == j) (sent_told w.came s)) ≤ s.head.next
   output_counts j =
-      let told = kept_few (departure_of w.came) (λ (d : Departure). d.output == j) (sent_to j) in
       let timely = all_has (λ (d : Sent). (d.cell.slot ≤ d.slot) × (d.slot < s.head.next)) s.sent in
       let few = numbers_few (λ (d : Sent). d.slot) (filter (sent_to j) s.sent) s.head.next in
       let apart = pairs_kept_with (IsSentBefore w.came) (λ d e. d.slot ≢ e.slot) (sent_to j) in
-      search (arith, rules, told, few, apart, each_pair, all_from_has, timely, kept_has, eqb-true, eq-eqb)
+      search (arith, rules, few, apart, each_pair, all_from_has, timely, kept_has, eqb-true, eq-eqb, kept_few)
 
   -- ## Together
 
@@ -278,3 +296,37 @@ module _ (w : Switch) (s : State) (in_range : IsInRange s) (shape : HasShape w s
   pub goes_on : GoesOn w (frozen_told w s)
   unfolding frozen_told fabric_told figures_told refused_counts
   goes_on = search (arith, rules, its_parts, in_range.head, shape.ranks, same_outputs, its_lengths, few_kept, image_at)
+
+  -- ## Told again
+
+  arrives : (c : Named) → Has (named_in s) c → (cell : Cell) × (arriving_cell w.came c ≡ Some cell)
+  arrives c has = some_cell (arriving_cell w.came c) (comes c has).1
+
+  sent_again : map sent_as (sent_told w.came s) ≡ s.sent
+  sent_again = told_again (departure_of w.came) sent_as s.sent (λ d has.
+      grind (arith, common_steps, arrives d.cell, has_right, has_image (λ (e : Sent). e.cell) s.sent d))
+
+  names_again : (xs : List Named) → ((c : Named) → Has xs c → Has (named_in s) c) → map named_as (filter_map t xs) ≡ xs
+  names_again xs named = told_again t named_as xs (search (arith, rules, arrives, named))
+
+  buffers_again : map named_as (flat_map (λ l. l) (map (buffer_told w.came s) (range_with_len 0 s.head.ports)))
+      ≡ s.buffered
+  buffers_again =
+      let rising = pairs_looked_up t (IsBufferedBefore w.came) (λ q r. q.cell.output ≤ r.cell.output)
+      (search (arith, rules, its_output)) s.buffered (each_pair _ s.buffered sound.order.buffers) in
+      let all = ordered (λ (q : Queued). q.cell.output) (filter_map t s.buffered) s.head.ports rising
+      (all_from_has _ _ (search (arith, rules, looked_up, of_traffic, shape.head.ports))) in
+      search (arith, rules, names_again, has_left, has_right, flat_map-map)
+
+  pub state_again : state_of (frozen_told w s) (sent_told w.came s) s.moved w.t0 w.classes (length w.came) ≡ s
+  unfolding state_of frozen_told fabric_told figures_told
+  state_again =
+      let lists = names_again s.listed in
+      search (rules, lists_joined, lists, has_left, buffers_again, sent_again, seen_again, length-map-range_with_len)
+
+-- ## The text
+
+pub text_again : (t : Tables) (c : Scheduled) (text : List ℕ) (x : Taken) → AreTables t → IsScheduleOf t c →
+    IsRead (switch_of t c) text x → text_of_taken (switch_of t c) x ≡ text
+text_again t c text x tables is read =
+    search (arith, rules, state_again (switch_of t c) read.state, schedule_known t c, length-map)

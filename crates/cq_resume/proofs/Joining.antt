@@ -3,7 +3,7 @@
 -- and nothing comes, and the slots behind the end add nothing. A tag fault of the run comes behind the slots that were
 -- done, for these had none. A run that goes on to an end has a first slot at which it is over, maybe one of those that
 -- were done, and the whole run ends there.
-use Rattle.cq_resume.proofs.Terms.{common_steps, rules, ◌≡◌, ℕ, zero, suc, ◌+◌, ◌-◌, ◌<◌, ◌≤◌, Bool, List, [], ◌∷◌, ◌++◌, length, take, drop, Option, refl, ◌⊎◌, replicate, append_assoc, length-drop, arith, cases_lt, append-nil, length-map, map-append, take-append-drop, take_all, flat_map-append, All-replicate, end_of, Cell, arriving_from, refused_in, all_counted_both, none_counted, Fabric, IsEmptyFabric, empty_fabric, marked_in, Machine, Switch, Taken, no_arrivals, TagFault, no_arrivals_refuse_none, arriving_length, arriving_parts, quiet_from, IsLimitedFault, LimitedFabricSlot, LimitedRecord, admissions_in, slots_in, quiet_limited_slots, idled, idled_for, quiet_slots, GoOn, IsOneRun, RunBy, StopBy, all_go_on, departures_on, transfers_both, none_come, run_with, only_limited_run, parts, run_length, arriving, empty_is, adds_nothing, quiet_run, IsInputBest}
+use Rattle.cq_resume.proofs.Terms.{common_steps, rules, ◌≡◌, ℕ, zero, suc, ◌+◌, ◌-◌, ◌<◌, ◌≤◌, Bool, List, [], ◌∷◌, ◌++◌, length, take, drop, Option, refl, ◌⊎◌, replicate, append_assoc, length-drop, arith, cases_lt, length-map, map-append, take-append-drop, take_all, flat_map-append, All-replicate, end_of, Cell, arriving_from, refused_in, all_counted_both, none_counted, Fabric, IsEmptyFabric, empty_fabric, marked_in, Machine, Switch, Taken, no_arrivals, TagFault, no_arrivals_refuse_none, arriving_length, arriving_parts, quiet_from, IsLimitedFault, LimitedFabricSlot, LimitedRecord, admissions_in, slots_in, quiet_limited_slots, idled, idled_for, quiet_slots, GoOn, IsOneRun, RunBy, StopBy, all_go_on, departures_on, transfers_both, none_come, run_with, only_limited_run, parts, run_length, arriving, empty_is, adds_nothing, quiet_run, IsInputBest}
 use Rattle.cq_ideal.specs.Admission.{Marked, marked}
 use Rattle.cq_ideal.proofs.Ends.{none_waits, nothing_left}
 use Rattle.cq_ideal.proofs.Waiting.{waiting}
@@ -147,8 +147,7 @@ module _ (w : Switch) where
   unfolding arriving_from
   ends zero next start over [] run late empty = grind (arith, common_steps)
   ends (suc n) next start over (r ∷ rs) run late empty =
-      let rest = ends n (next + 1) run.0 over rs run.2 (omega arith) empty in
-      search (arith, rules, slot_ahead, over_or_not next start.state)
+      search (arith, rules, slot_ahead, over_or_not next start.state, ends n (next + 1) run.0 over)
   ends n next start over rs run late empty = absurd run
 
   -- ## A run that was stopped
@@ -164,9 +163,7 @@ module _ (w : Switch) where
     join : (n : ℕ) (rs : List LimitedRecord) (end : Marked Fabric) →
         RunBy Step slots (arriving_from w.came slots n) there rs end →
         RunBy Step 0 (arriving_from w.came 0 (slots + n)) start (part.records ++ rs) end
-    join n rs end run =
-        let first = on.run 0 (arriving_from w.came 0 slots) in
-        search (arith, rules, arriving_length, arriving_parts w.came 0 slots slots n, first)
+    join n rs end run = search (arith, rules, arriving_length, arriving_parts w.came 0 slots slots n, on.run)
 
     module _ (rs : List LimitedRecord) (end : Marked Fabric) (runs : RunsOn w 0 start rs end) where
       -- stopped no later than at its end
@@ -174,9 +171,8 @@ module _ (w : Switch) where
         rest : RunsOn w slots there (drop slots rs) end × (rs ≡ part.records ++ drop slots rs)
         rest =
             let past = goes_past 0 slots (length rs - slots) (length rs) slots start there end part.records rs in
-            let whole = whole_run 0 start end rs runs in
             let sum = λ (m : ℕ). take-add slots m rs in
-            search (arith, rules, past, take_all, sum, runs.all_came, join, length-drop, take-append-drop)
+            search (arith, rules, past, take_all, sum, runs.all_came, join, length-drop, take-append-drop, whole_run)
 
       -- stopped behind its end
       module _ (behind : length rs < slots) where

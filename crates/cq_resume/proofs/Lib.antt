@@ -11,5 +11,4 @@ pub mod Judging
 pub mod Scheduling
 pub mod Joining
 pub mod GoesOn
-pub mod ToldAgain
 pub mod OneAnswer

@@ -1,6 +1,6 @@
 use Rattle.cq_resume.proofs.Terms.{rules, arith}
 use Rattle.cq_resume.proofs.Scheduling.{schedule_known}
-use Rattle.cq_resume.proofs.ToldAgain.{text_again}
+use Rattle.cq_resume.proofs.GoesOn.{text_again}
 use Rattle.cq_resume.proofs.read.read_state.Goals as goal
 
 pub has_shape-requires-clause-few : goal.has_shape-requires-clause-few
