@@ -43,7 +43,7 @@ module _ (n : ℕ) (t : Tables) where
     start_same : (i k : ℕ) → start u cs i k ≡ start t cs i k
     unfolding start stamp_slot cells
     start_same i zero = refl
-    start_same i (suc k) = ap (λ (s : ℕ). max (stamp_slot t cs i (suc k)) (s + cells t cs i k)) (start_same i k)
+    start_same i (suc k) = cc (start_same i k)
 
     packet_same : (i k : ℕ) → arrivals_of u cs i k ≡ arrivals_of t cs i k
     unfolding cell_of cells route
@@ -79,18 +79,12 @@ module _ (n : ℕ) (t : Tables) where
         Follows (judged_of_given r one (rest r) m) (judged_of_given r other (rest r) m)
     both rest h = grind (arith, common_steps, then_both)
 
-    sends : (cs : List (List Captured)) (aim : Tables → List (List Captured) → List Departure → Aim) →
-        ((sent : List Departure) → Follows (Ok (aim t cs sent)) (Ok (aim u cs sent))) →
-        Follows (sent_of aim r t cs m) (sent_of aim r u cs m)
-    unfolding ideal_departures ran_ideal
-    sends cs aim h = grind (arith, common_steps, arrivals_same, then_both)
-
     follows : (command : Command) → Follows (judged r (over one command) m) (judged r (over other command) m)
-    unfolding check_line switched resumed
+    unfolding check_line switched resumed ideal_departures ran_ideal
     follows (Check old) = rw (first, second) (alike _)
-    follows (Ideal old) = both (rest_of asked.Ideal) (λ cs. search (rules, sends, outputs_same, alike))
-    follows (Run old) = both (rest_of asked.Run) (λ cs. sends cs Crossing (crossing cs))
-    follows (Audit old) = both (rest_of asked.Audit) (λ cs. search (rules, then_both, sends, auditing))
+    follows (Ideal old) = both (rest_of asked.Ideal) (λ cs. search (rules, outputs_same, arrivals_same, then_both, alike))
+    follows (Run old) = both (rest_of asked.Run) (λ cs. search (rules, arrivals_same, then_both, crossing))
+    follows (Audit old) = both (rest_of asked.Audit) (λ cs. search (rules, then_both, arrivals_same, auditing))
     follows (Part old slots state) =
         both (rest_of (asked.Part slots state)) (λ cs. search (arith, rules, aimed, arrivals_same))
     follows (Resume old state) = both (rest_of (asked.Resume state))

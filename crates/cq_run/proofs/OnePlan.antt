@@ -5,21 +5,13 @@ use Rattle.cq_resume.proofs.{Joining.one_part, Joining.one_resumed, OneAnswer.re
 use Rattle.cq_simulate.proofs.FabricLaws.{only_one}
 use Rattle.cq_run.specs.Parting.{switch_over}
 
-module _ (t : Tables) (cs : List (List Captured)) where
-  abbrev w : Switch
-  w = switch_over t cs
-
-  one_text : (slots : ℕ) (a b : List ℕ) → IsPartText t cs slots a → IsPartText t cs slots b → a ≡ b
-  one_text slots a b x y = let at = one_part.at w (openings_of t.setup) slots x.at y.at x.parted y.parted in cc
-
-  one_kept : (text : List ℕ) (k l : Kept) → IsResumedText t cs text k → IsResumedText t cs text l → k ≡ l
-  one_kept text k l x y =
-      let from : x.from ≡ y.from = (read_exact w).one_state text x.from y.from x.read y.read in
-      one_resumed.kept w x.from k l x.resumed (rw (← from) at y.resumed)
-
 pub one_plan : (aim : Aim) (a b : Plan) → Meets aim a → Meets aim b → a ≡ b
 one_plan (Crossing t cs sent) a b (rs, x, e) (ss, y, f) = cc (only_one t (arrivals t cs) rs ss x y)
 one_plan (Reporting t cs) a b (rs, x, e) (ss, y, f) = cc (only_one t (arrivals t cs) rs ss x y)
-one_plan (Parting t cs slots name) a b (p, x, e) (q, y, f) = cc (one_text t cs slots p q x y)
-one_plan (Resuming t cs text) a b (k, x, e) (l, y, f) = cc (one_kept t cs text k l x y)
+one_plan (Parting t cs slots name) a b (p, x, e) (q, y, f) =
+    let at = one_part.at (switch_over t cs) (openings_of t.setup) slots x.at y.at x.parted y.parted in cc
+one_plan (Resuming t cs text) a b (k, x, e) (l, y, f) =
+    let w = switch_over t cs in
+    let from : x.from ≡ y.from = (read_exact w).one_state text x.from y.from x.read y.read in
+    cc (one_resumed.kept w x.from k l x.resumed (rw (← from) at y.resumed))
 one_plan _ a b x y = cc
