@@ -19,10 +19,6 @@ apart_at : (config : List ℕ) (o : Option (List ℕ)) (t : Tables) →
 apart_at config None t h = absurd (let P : ⊥ = cc h in P)
 apart_at config (Some bytes) t h = names_apart bytes t (grind (arith, common_steps))
 
--- so no two names of its tables clash
-apart_in : (config : List ℕ) (m : Contents) (t : Tables) → tables_in config m ≡ Ok t → ArePairs (files_in t)
-apart_in config m t h = apart_at config (get m config) t h
-
 -- ## What was written
 
 module _ (t : Tables) (captures : List (List Captured)) (rs : List LimitedRecord) where
@@ -85,15 +81,15 @@ module _ (t : Tables) (captures : List (List Captured)) (rs : List LimitedRecord
 
       captures_left : captures_in r t left ≡ Ok captures
       captures_left = captures_same m left r t.limit_bytes 0 t.ports
-          (search (arith, rules, all_weaker, same_read, reads_unwritten, apart_in)) ∙ captured
+          (search (arith, rules, all_weaker, same_read, reads_unwritten, apart_at)) ∙ captured
 
       -- the last two stand there, and so the aim is met, and not denied
       audited_so : IsOkAnd (judged r (Audit config) left) (λ a.
           Meets a audited × ((refusal : Refusal) → Denies a refusal → ⊥))
       audited_so =
-          let unlike = trace_or_log t (apart_in config m t configured) in
-          let stand = last_two outputs m left t.trace _ t.log _ unlike written in
-          let ideally = ap sent_or_tag (sends_as_ideal t (arrivals t captures) rs traffic keeps.runs) in
+          let apart = apart_at config (get m config) t configured in
+          let stand = last_two outputs m left t.trace _ t.log _ (trace_or_log t apart) written in
+          let ideally = sends_as_ideal t (arrivals t captures) rs traffic keeps.runs in
           search (arith, rules, meets, never_denied, captures_left, text_is, all_back, stand, ideally, untouched)
 
 -- ## What `run` leaves
@@ -106,13 +102,6 @@ runs_audited r config m left plan is =
     (rw e.written at is.written) (rw e.written at is.configuration_stays) (rw e.written at is.short)
 
 -- ## What an audit comes to once the ideal run is there
-
--- where it has departures, each rank fits
-pub ranks_fit : (t : Tables) (came : List Arrival) (sent : List Departure) → ideal_departures t came ≡ Ok sent →
-    IsOk (whole_limited_run t.limits (machines_of t.setup) came
-    (empty_limited (ports_of t.setup) (openings_of t.setup)))
-unfolding ideal_departures ran_ideal
-ranks_fit t came sent e = search (arith, rules)
 
 module _ (t : Tables) (captures : List (List Captured)) (came : List Arrival) (trace log : List ℕ)
     (is : came ≡ arrivals t captures) (sent : List Departure) (departs : ideal_departures t came ≡ Ok sent)

@@ -60,8 +60,7 @@ stands_as same s = grind (arith, common_steps)
 pub stands_back : {A : Type 0} {whole rest : Contents → Result A Refusal} {p : Pace} {R S : List ℕ → Type 0}
     {old mid new : Space} {halt : Halt} → ((name : List ℕ) → R name → S name) → Stands whole rest old mid →
     Judges p rest R mid new (Err halt) → Judges p whole S old new (Err halt)
-stands_back {whole = whole} {rest = rest} {p = p} {R = R} {S = S} {old = old} {mid = mid} {new = new} i s h =
-    search (arith, rules, name_after)
+stands_back i s h = search (arith, rules, name_after)
 
 -- ## One after the other
 
@@ -74,7 +73,7 @@ both j f m = j m >>= (λ x. f x m)
 pub judges_then : {A B : Type 0} {j : Contents → Result A Refusal} (f : A → Contents → Result B Refusal) {p : Pace}
     {R S : List ℕ → Type 0} {old new : Space} {halt : Halt} → ((name : List ℕ) → R name → S name) →
     Judges p j R old new (Err halt) → Judges p (both j f) S old new (Err halt)
-judges_then {j = j} f {p} {R} {S} {old} {new} {halt} i h = search (arith, rules, name_after)
+judges_then f i h = search (arith, rules, name_after)
 
 -- once the first is accepted, what comes behind it is left
 pub comes_on : {A B : Type 0} {whole : Contents → Result B Refusal} (j : Contents → Result A Refusal)
@@ -90,11 +89,6 @@ stands_on {whole = whole} {j = j} f {x = x} s st h =
     grind (arith, common_steps, comes_on {whole = whole} j f x s)
 
 module _ {A : Type 0} {j : Contents → Result A Refusal} {p : Pace} {old new : Space} where
-  -- more may be said of names that are unread
-  pub judges_more : {R S : List ℕ → Type 0} {result : Result A Halt} → ((name : List ℕ) → R name → S name) →
-      Judges p j R old new result → Judges p j S old new result
-  judges_more i h = grind (arith, common_steps)
-
   -- what ends judging in turn ends it at either pace
   pub judges_at : {R : List ℕ → Type 0} {halt : Halt} → Judges InTurn j R old new (Err halt) →
       Judges p j R old new (Err halt)

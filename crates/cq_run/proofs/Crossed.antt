@@ -1,23 +1,7 @@
 -- The captures of the outputs, one after another: those that were made and those that are still to be made are all.
 -- Each is that which was built at its output.
-use Rattle.cq_run.proofs.Terms.{common_steps, rules, ◌≡◌, ◌<◌, ◌≤◌, ◌∙◌, ℕ, ◌+◌, List, [], ◌∷◌, ◌++◌, length, drop, get_or, refl, sym, append_assoc, arith, Result, Ok, drop_more, length-drop, Departure, TagFault, arrivals, Captured, AreTables, ports_of, PortRow, Tables, capture_out, captures_out, IsSwitched, sent_or_tag, Switched, ArePacked, HaveLeftOf, Arrival, t0_of, packets_of, IsRecorded, IsTraffic, LimitedRecord, under_names, classes_of, always_slack, best_in_each, slot_by_slot, IsFabricRun, IsKeptOf, unpacked_run, ideal_departures, PackedFabricRun, AreGiven, KeepsUp, IsCrossed, left_in_packets, Packing, each_packet_once}
-
--- a run that has no tag fault
-pub sent_ok : (sent : List Departure) (x : Result (List Departure) TagFault) → sent_or_tag x ≡ Ok sent → x ≡ Ok sent
-sent_ok sent x h = grind (arith, common_steps)
-
--- what the ideal switch sends leaves in whole packets
-pub switched_whole : {t : Tables} {captures : List (List Captured)} {s : Switched} → AreTables t →
-    length captures ≡ ports_of t.setup → IsSwitched t captures s → HaveLeftOf t captures s.sent.items s.t0
-switched_whole are many is = grind (arith, common_steps, left_in_packets)
-
--- one more capture under its name
-pub one_under : (rows : List PortRow) (k : ℕ) (writes all : List (List ℕ × List ℕ)) (row d : PortRow)
-    (more : List (List ℕ × List ℕ)) (left rest : List Packing) (place : Packing) → k < length rows →
-    row ≡ get_or rows k d → left ≡ place ∷ rest → more ≡ writes ++ (row.write, place.bytes.items) ∷ [] →
-    writes ++ under_names (drop k rows) left ≡ all → more ++ under_names (drop (k + 1) rows) rest ≡ all
-one_under rows k writes all row d more left rest place inside is first put made =
-    search (arith, rules, append_assoc, drop_more)
+use Rattle.cq_run.proofs.Terms.{IsResumedBy, Scheduled, schedule_of, IsRead, IsResumed, switch_of, resumed_counts, resumed_whole, kept_of, common_steps, rules, ◌≡◌, ◌<◌, ◌≤◌, ◌∙◌, ℕ, ◌+◌, List, [], ◌∷◌, ◌++◌, length, drop, get_or, refl, sym, append_assoc, arith, Result, Ok, drop_more, length-drop, Departure, TagFault, arrivals, Captured, AreTables, ports_of, PortRow, Tables, capture_out, captures_out, IsSwitched, sent_or_tag, Switched, ArePacked, HaveLeftOf, Arrival, t0_of, packets_of, IsRecorded, IsTraffic, LimitedRecord, under_names, classes_of, always_slack, best_in_each, slot_by_slot, IsFabricRun, IsKeptOf, unpacked_run, ideal_departures, PackedFabricRun, AreGiven, KeepsUp, IsCrossed, left_in_packets, Packing, each_packet_once}
+use Rattle.cq_resume.specs.declared.taken.Taken.{Taken}
 
 module _ (t : Tables) (captures : List (List Captured)) (sent : List Departure) where
   -- the captures that were built, from this output on
@@ -47,11 +31,6 @@ module _ (t : Tables) (captures : List (List Captured)) (sent : List Departure) 
 
 -- ## What is kept of a run of the crossbar switch, and the plan that is made of it
 
--- captures that can be read
-pub are_given : (t : Tables) (captures : List (List Captured)) → AreTables t → length captures ≡ ports_of t.setup →
-    ((i : ℕ) → i < length captures → IsRecorded (packets_of captures i)) → AreGiven t captures
-are_given t captures tables each recorded = record { tables = tables; each = each; recorded = recorded }
-
 -- the run of the definition keeps up
 pub keeps_up : (t : Tables) (captures : List (List Captured)) (rs : List LimitedRecord) → AreGiven t captures →
     IsTraffic (ports_of t.setup) (classes_of t.setup) (arrivals t captures) →
@@ -66,4 +45,17 @@ pub is_crossed : (t : Tables) (captures : List (List Captured)) (came : List Arr
     ideal_departures t came ≡ Ok run.sent.items →
     IsCrossed t captures (record { run = run; t0 = stamp })
 is_crossed t captures came run stamp given e s traffic kept sent =
-    grind (arith, common_steps, keeps_up, keeps_up t captures kept.records given)
+    search (arith, rules, keeps_up t captures kept.records given)
+
+-- and of one that goes on from a state: its cells leave in whole packets, and no output sent more of them than there
+-- were slots
+pub resumed_by : (t : Tables) (captures : List (List Captured)) (schedule : Scheduled) →
+    schedule ≡ schedule_of t captures → (text : List ℕ) (from : Taken) → IsRead (switch_of t schedule) text from →
+    (run : PackedFabricRun) → IsResumed (switch_of t schedule) from (kept_of (unpacked_run run)) →
+    AreGiven t captures → (stamp : ℕ) → stamp ≡ schedule.t0 →
+    IsResumedBy t captures text (record { run = run; t0 = stamp })
+resumed_by t captures schedule is text from read run resumed given stamp e =
+    let goes = rw is at resumed in
+    let from_it = rw is at read in
+    let whole = resumed_whole t captures from (kept_of (unpacked_run run)) in
+    let counts = resumed_counts t captures from (kept_of (unpacked_run run)) in search (arith, rules, whole, counts)

@@ -22,28 +22,17 @@ at space out s = record { files = space s; out = out }
 
 module _ {S : Type 0} {space : S → Space} {may_fail : Call → S → S → Type 0} {unbegun : S → S → Type 0}
     {pace : Pace} {command : Command} {old mid : S} (r : Reader) (out : Taken) where
-  pub judging_ends : {halt : Halt} → IsJudged space may_fail unbegun pace command old mid (Err halt) →
-      CommandEnds pace r (λ name. Fails space may_fail unbegun (Reads name) old mid) (λ _. Unit {0}) (Unit {0}) command
-      (at space out old) (at space out mid) (Err (Halted halt))
-  judging_ends {halt} h = grind (arith, common_steps, h.judges r)
-
-  module _ {plan : Plan} (judged : IsJudged space may_fail unbegun pace command old mid (Ok plan)) where
-    -- the plan is done
-    pub performed : {new : World} → IsDone plan (at space out mid) new →
-        CommandEnds pace r (λ _. Unit {0}) (λ _. Unit {0}) (Unit {0}) command (at space out old) new (Ok tt)
-    performed h = grind (arith, common_steps, judged.judges r, known_faults)
-
-    -- or cut short
-    pub cut_short : (keeps : S → S → Type 0) (new : S) (out_new : Taken) (T : Type 0) (unwritten : Unwritten) →
-        Lasts keeps → keeps old mid →
-        IsCut (λ name. Fails space may_fail keeps (Writes name) mid new) T plan (at space out mid)
-        (at space out_new new) unwritten →
-        CommandEnds pace r (λ _. Unit {0}) (λ name. Fails space may_fail keeps (Writes name) old new) T command
-        (at space out old) (at space out_new new) (Err (Cut unwritten))
-    cut_short keeps new out_new T unwritten lasts kept h =
-        let decides = judged.judges r in
-        let emulates = judged.emulates r in
-        grind (arith, common_steps, file_from, known_faults, fails_after)
+  -- a plan that is cut short
+  pub cut_short : {plan : Plan} → IsJudged space may_fail unbegun pace command old mid (Ok plan) →
+      (keeps : S → S → Type 0) (new : S) (out_new : Taken) (T : Type 0) (unwritten : Unwritten) →
+      Lasts keeps → keeps old mid →
+      IsCut (λ name. Fails space may_fail keeps (Writes name) mid new) T plan (at space out mid)
+      (at space out_new new) unwritten →
+      CommandEnds pace r (λ _. Unit {0}) (λ name. Fails space may_fail keeps (Writes name) old new) T command
+      (at space out old) (at space out_new new) (Err (Cut unwritten))
+  cut_short is keeps new out_new T unwritten lasts kept h =
+      let decides = is.judges r in
+      grind (arith, common_steps, file_from, known_faults, fails_after, is.emulates r)
 
 -- no writing was begun where the run halted, and the status tells whether it did
 pub halted_so : {P : Type 0} (end : Result (Unit {0}) Stop) {answer : Status} → answer ≡ status_of end →

@@ -9,7 +9,6 @@ pub mod Within
 pub mod Reached
 pub mod OnePort
 pub mod Ends
-pub mod Stopped
 pub mod TextRead
 pub mod NamesApart
 pub mod Left

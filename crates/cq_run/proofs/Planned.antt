@@ -1,9 +1,7 @@
 -- From one judgement after another to a plan that meets what is aimed at: for each command what is judged of what it
 -- reads, and a plan that it comes to.
 use Rattle.cq_run.proofs.Terms.{resumed_best, resumed_slack, parted_best, parted_slack, rules, arith, ◌≡◌, ◌∙◌, ℕ, List, [], ◌∷◌, refl, ap, Result, Ok, Err, IfOk, IfErr, IsOk, common_steps, Departure, soak_captures, soak_tables, Captured, Tables, Call, Contents, Space, Closed, Command, Ideal, Run, Soak, Pass, Audit, Part, Resume, Given, Refusal, Halt, Aim, Reporting, Meets, Exactly, Auditing, Resuming, IsGiven, IsPassage, AreRead, IsAudited, AreGiven, IsJudged, IsHaltOf, Judges, Pace, InTurn, Uncounted, Plan, known_to, Reader, ◌>>=◌, ideally_sent, capture_in, text_in, state_in, passed, audited, file_alone, IsCrossing, IsIdeal, IsPassing, plain_tables, AreTables, Lasts, trace_of, Audited, State, IsAuditHalted, IsAuditPassed, IsPartHalt, IsResumeHalt, IsResuming, IsPartText, written, recursion_from_All, IfSome_then}
-use Rattle.cq_run.proofs.Stopped.{taken_up}
 use Rattle.cq_run.proofs.Chain.{judges_computed, judges_computed_err, told_any}
-use Rattle.cq_run.proofs.Crossed.{sent_ok}
 use Rattle.cq_run.proofs.Reached.{computed_halts, computed_plans, given_so, Reached, begun, read_on, settled}
 use Rattle.cq_run.proofs.OnePort.{all_leave_is, none_limited}
 use Rattle.cq_run.proofs.Stays.{capture_stays, short_stays}
@@ -89,7 +87,6 @@ module _ (from to : List ℕ) (packets : List Captured) where
       capture_in r from 0 (plain_tables from to).limit_bytes m ≡ Ok packets → IsPassage r from to m plan
   unfolding plain_tables
   passage_at plan is r are m captured =
-      let sent = sent_ok is.sent _ is.is_sent in
       search (arith, rules, all_leave_is (plain_tables from to) packets, none_limited)
 
 module _ {S : Type 0} {space : S → Space} {keeps : S → S → Type 0}
@@ -142,7 +139,7 @@ module _ (given : Given) (trace log : List ℕ) where
     audit = passed.meets.log_is;
     stable = passed.stable;
     slack = passed.slack;
-    same = search (arith, rules, sent_ok);
+    same = search (arith, rules);
     sent = passed.meets.trace_is ∙ ap trace_of passed.departed;
     written = is;
   }
@@ -178,40 +175,24 @@ module _ {S : Type 0} {space : S → Space} {keeps : S → S → Type 0} {old s1
 
 -- ## Stopping a run and taking one up: the configuration, its captures, and then the text of a state
 
--- what is said of a run that stops, and of one that goes on
-module _ (t : Tables) (captures : List (List Captured)) (text : List ℕ) {r : Reader} {config state : List ℕ}
-    {m : Contents} {plan : Plan} where
-  stops_as : {slots : ℕ} → AreGiven t captures → AreRead r config m t captures → IsPartText t captures slots text →
-      plan ≡ file_alone state text → IsStopped r config slots state m plan
-  stops_as {slots} given read is written = record {
-    tables = t;
-    captures = captures;
-    read = read;
-    given = given;
-    text = text;
-    stopped = is;
-    input_best = parted_best t captures given.tables given.each slots is.at is.parted;
-    slack = parted_slack t captures given.tables given.each slots is.at is.parted;
-    written = written;
-  }
-
-  goes_as : AreRead r config m t captures → state_in state m ≡ Ok text → IsResuming t captures text plan →
-      IsTakenUp r config state m plan
-  goes_as read found is =
-      let goes = is.goes_on in
-      let can = taken_up goes.read in record {
-        tables = t;
-        captures = captures;
-        read = read;
-        given = is.given;
-        text = text;
-        found = search (arith, rules);
-        kept = is.kept;
-        goes_on = is.goes_on;
-        input_best = resumed_best t captures is.given.tables is.given.each goes.from is.kept can goes.resumed;
-        slack = resumed_slack t captures is.given.tables is.given.each goes.from is.kept can goes.resumed;
-        written = is.written;
-      }
+-- what is said of a run that goes on
+goes_as : (t : Tables) (captures : List (List Captured)) (text : List ℕ) {r : Reader} {config state : List ℕ}
+    {m : Contents} {plan : Plan} → AreRead r config m t captures → state_in state m ≡ Ok text →
+    IsResuming t captures text plan → IsTakenUp r config state m plan
+goes_as t captures text read found is =
+    let goes = is.goes_on in record {
+      tables = t;
+      captures = captures;
+      read = read;
+      given = is.given;
+      text = text;
+      found = search (arith, rules);
+      kept = is.kept;
+      goes_on = is.goes_on;
+      input_best = search (arith, rules, resumed_best t captures);
+      slack = search (arith, rules, resumed_slack t captures);
+      written = is.written;
+    }
 
 module _ {S : Type 0} {space : S → Space} {keeps : S → S → Type 0} {old now : S} {config : List ℕ} {given : Given}
     (is : IsGiven space keeps config old now given) (name : List ℕ) where
@@ -222,7 +203,17 @@ module _ {S : Type 0} {space : S → Space} {keeps : S → S → Type 0} {old no
       IsJudged space may_fail keeps InTurn (Part config slots name) old now result
   part_judged {slots = slots} (Ok plan) are (text, text_is, written) halted =
       settled (given_so (asked.Part slots name) is) (Ok plan) (_, refl, (text, text_is, written))
-      (rw written (refl, tt)) (λ r. search (arith, rules, IfSome_then, stops_as, is.read r))
+      (rw written (refl, tt)) (λ r. IfSome_then (space old).told (is.read r) (λ m read. record {
+        tables = given.tables;
+        captures = given.captures;
+        read = read;
+        given = are;
+        text = text;
+        stopped = text_is;
+        input_best = parted_best given.tables given.captures are.tables are.each slots text_is.at text_is.parted;
+        slack = parted_slack given.tables given.captures are.tables are.each slots text_is.at text_is.parted;
+        written = written;
+      }))
   part_judged {slots = slots} (Err halt) are text halted =
       settled (given_so (asked.Part slots name) is) (Err halt) (grind (arith, common_steps)) tt (λ r. tt)
 

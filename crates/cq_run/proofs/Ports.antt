@@ -18,12 +18,9 @@ module _ (r : Reader) (limit : ℕ) (rows : List PortRow) where
   abbrev pub left_from : ℕ → List Packets → Contents → Result (List Packets) Refusal
   left_from k made m = captures_from r limit k (drop k rows) m >>= (λ others. Ok (made ++ others))
 
-  all_left : (m : Contents) → captures_from r limit 0 rows m ≡ left_from 0 [] m
-  all_left m = grind (arith, common_steps)
-
   -- at first those of all ports
   pub first_left : {s : Space} → Stands (captures_from r limit 0 rows) (left_from 0 []) s s
-  first_left = stands_as all_left stands_first
+  first_left = grind (arith, common_steps)
 
   -- at last none
   pub none_left : (k : ℕ) (made : List Packets) → length rows ≤ k → (m : Contents) → left_from k made m ≡ Ok made
@@ -58,13 +55,6 @@ module _ (r : Reader) (input limit : ℕ) where
 module _ (r : Reader) (limit input : ℕ) (row : PortRow) (rows : List PortRow) where
   abbrev then_later : List Captured → Contents → Result (List (List Captured)) Refusal
   then_later packets m = captures_from r limit (input + 1) rows m >>= (λ others. Ok (packets ∷ others))
-
-  -- the first file could not be read, and no later one was
-  pub file_ends : {R : List ℕ → Type 0} {old new : Space} {halt : Halt} →
-      Halts InTurn (packets_at r input limit row.read) R old new halt → new.mode ≡ Closed → new.told ≡ old.told →
-      Judges Ahead (captures_from r limit input (row ∷ rows)) R old new (Err halt)
-  unfolding captures_from
-  file_ends h c t = search (arith, rules, judges_then)
 
 -- what failed since the first file was read failed since this call began, for no fault was counted before
 module _ {S : Type 0} (space : S → Space) {keeps : S → S → Type 0} {row : PortRow} {input limit : ℕ} {old mid : S}

@@ -22,8 +22,7 @@ puts_cut a b old new r err h = grind (arith, common_steps, front_of_longer a b)
 -- the first of two texts was put whole, and then the second was put
 puts_then : {E : Type 0} (a b : List ℕ) (old mid new : Taken) (r : Result (Unit {0}) E) →
     mid.bytes ≡ append_known old.bytes a → mid.faults ≡ old.faults → Puts b mid new r → Puts (a ++ b) old new r
-puts_then a b old mid new (Ok x) e l h = search (arith, rules, append_assoc)
-puts_then a b old mid new (Err f) e l h = grind (arith, common_steps, take-append-add a b h.bytes.0)
+puts_then a b old mid new r e l h = grind (arith, common_steps, take-append-add a b, append_assoc)
 
 -- ## A line, piece after piece
 

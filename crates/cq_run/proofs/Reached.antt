@@ -106,11 +106,9 @@ pub given_so : {S : Type 0} {space : S → Space} {keeps : S → S → Type 0} {
     Reached space keeps (command_asking config asked) old now (λ r. rest_of asked r given.tables given.captures)
 given_so {space = space} {config = config} {old = old} {given = given} asked is = record {
   knows = asks_known config asked;
-  stands = λ r. record {
-    comes = IfSome_then (space old).told (is.read r) (comes_so r config asked given.tables given.captures);
-    told = is.told;
-    uncounted = is.uncounted;
-  };
+  stands = λ r.
+      let comes = IfSome_then (space old).told (is.read r) (comes_so r config asked given.tables given.captures) in
+      search (arith, rules, comes);
   kept = is.kept;
   closed = is.closed;
 }
@@ -168,8 +166,7 @@ module _ {S : Type 0} {space : S → Space} {may_fail : Call → S → S → Typ
     closed = reached.closed;
     told = (reached.stands from_front).told;
   }
-  settled reached (Err (Unread name)) h names emulates = absurd h
-  settled reached (Err NoMemory) h names emulates = no_memory reached
+  settled reached (Err halt) h names emulates = grind (arith, common_steps, no_memory reached)
 
   -- judging ends in what is computed of one result
   module _ {A : Type 0} (w : Result A Refusal) (f : A → Aim)

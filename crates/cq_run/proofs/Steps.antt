@@ -1,6 +1,5 @@
 -- What the prover is given beside its own rules where functions are proved without an answer.
 use Rattle.cq_run.proofs.Terms.{left_in_packets}
-use Rattle.cq_run.proofs.Stopped.{part_long, same_state}
 use Rattle.cq_run.proofs.Reached.{exit_is, tables_end, no_memory}
 use Rattle.cq_run.proofs.Planned.{at_capture}
 
@@ -9,5 +8,3 @@ pub ruleset tables_steps = (exit_is, tables_end)
 pub ruleset capture_steps = (exit_is, no_memory, at_capture)
 
 pub ruleset crossed_steps = (exit_is, left_in_packets)
-
-pub ruleset parted_steps = (exit_is, part_long, same_state)

@@ -11,17 +11,10 @@ module _ (long : Refusal) (limit : ℕ) (name : List ℕ) where
       → IfSome told (λ m. short_in long limit name m ≡ Ok bytes)
   text_is told bytes short at = grind (arith, common_steps, le-ltb)
 
-  pub text_is_to_read : (told : Option Contents) (asked : List ℕ) → asked ≡ name →
-      IsToRead (short_in long limit name) told asked
-  text_is_to_read told asked a = grind (arith, common_steps, get-remove_same)
-
 pub configuration_long : (told : Option Contents) (name asked path : List ℕ) → asked ≡ name → path ≡ codes "-" →
     IfSome told (λ m. 1048576 < length (bytes_of m asked)) → IsRefused (tables_in name) told (Configuration 10 path)
 unfolding read_or_refused first
 configuration_long told name asked path a e h = search (arith, rules)
-
-pub configuration_is_to_read : (told : Option Contents) (name : List ℕ) → IsToRead (tables_in name) told name
-configuration_is_to_read told name = grind (arith, common_steps, get-remove_same)
 
 -- ## Captures are read in one way
 

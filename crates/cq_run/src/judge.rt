@@ -236,7 +236,7 @@ fn judge_captures<R: Threads + Sync, F: Files, G: Gate>(
 
 // What the ideal switch makes of these captures, one for each port, with all its bytes. The captures are given up on
 // the way.
-#[tactic(auto, using(crate::proofs::Crossed::switched_whole, crate::proofs::Reached::exit_is))]
+#[tactic(auto, using(crate::proofs::Steps::crossed_steps))]
 fn send_ideally<R: Threads + Sync>(
     rt: &R,
     alloc: Global,

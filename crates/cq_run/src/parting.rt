@@ -20,7 +20,7 @@ use std::thread::Threads;
 
 /// The text of the state in which the crossbar switch stands after so many slots with these captures, one for each
 /// port.
-#[tactic(auto, using(crate::proofs::Crossed::are_given, crate::proofs::Reached::exit_is))]
+#[tactic(auto, using(crate::proofs::Reached::exit_is))]
 pub fn part_by_crossbar<R: Threads + Sync, G: Gate>(
     rt: &R,
     alloc: Global,
@@ -47,7 +47,7 @@ pub fn part_by_crossbar<R: Threads + Sync, G: Gate>(
 }
 
 // The text of the state of a run that stopped, over a schedule of so many cells that begins at this stamp.
-#[tactic(auto, using(crate::proofs::Steps::parted_steps))]
+#[tactic(auto, using(crate::proofs::Reached::exit_is))]
 fn text_of_parted(
     alloc: Global,
     tables: &Tables,
@@ -80,7 +80,7 @@ fn text_of_parted(
 
 /// What the crossbar switch does with these captures, one for each port, where it goes on from the state of this text.
 /// What it did before stands ahead of it.
-#[tactic(auto, using(crate::proofs::Reached::exit_is, crate::proofs::Crossed::are_given))]
+#[tactic(auto, using(crate::proofs::Reached::exit_is))]
 pub fn resume_by_crossbar<R: Threads + Sync, G: Gate>(
     rt: &R,
     alloc: Global,
@@ -102,7 +102,7 @@ pub fn resume_by_crossbar<R: Threads + Sync, G: Gate>(
 }
 
 // What it does over the schedule of these captures.
-#[tactic(auto, using(crate::proofs::Reached::exit_is, crate::proofs::Stopped::taken_up))]
+#[tactic(auto, using(crate::proofs::Reached::exit_is))]
 fn resume_by_schedule<R: Threads + Sync, G: Gate>(
     rt: &R,
     alloc: Global,

@@ -1,6 +1,6 @@
-use Rattle.cq_run.proofs.Terms.{rules, ◌≡◌, [], Ok, arith, captures_from, nil_from_length, refl}
-use Rattle.cq_run.proofs.Chain.{judges_computed}
-use Rattle.cq_run.proofs.Ports.{file_ends, together}
+use Rattle.cq_run.proofs.Terms.{common_steps, rules, ◌≡◌, [], Ok, arith, captures_from, nil_from_length, refl}
+use Rattle.cq_run.proofs.Chain.{judges_computed, judges_then}
+use Rattle.cq_run.proofs.Ports.{together}
 use Rattle.cq_run.proofs.Reached.{exit_is}
 use Rattle.cq_run.proofs.ahead.+stream_from.Goals as goal
 
@@ -8,15 +8,14 @@ use Rattle.cq_run.proofs.ahead.+stream_from.Goals as goal
 
 pub returns-in-None-clause-judges : goal.returns-in-None-clause-judges
 unfolding captures_from
-returns-in-None-clause-judges g t c = λ r.
-    let none : c.args.rows.now ≡ [] = nil_from_length c.args.rows.now c.in-None.ensures.cases in
-    rw (none, c.of.ensures, c.new.ensures.items) (judges_computed {r = Ok []} c.requires.closed refl)
+returns-in-None-clause-judges g t c = λ r. grind (arith, common_steps, nil_from_length)
 
 -- ## What the readers and the rows before come to
 
 pub returns-in_err-begun-in-Some-clause-judges : goal.returns-in_err-begun-in-Some-clause-judges
+unfolding captures_from
 returns-in_err-begun-in-Some-clause-judges g t c =
-    λ r. search (arith, rules, exit_is, file_ends, c.in_err-begun-in-Some.ensures.halts r)
+    λ r. search (arith, rules, exit_is, judges_then, c.in_err-begun-in-Some.ensures.halts r)
 
 pub returns-in_ok-begun-in-Some-clause-judges : goal.returns-in_ok-begun-in-Some-clause-judges
 returns-in_ok-begun-in-Some-clause-judges g t c = λ r.

@@ -1,4 +1,4 @@
-use Rattle.cq_run.proofs.Stopped.{resumed_by}
+use Rattle.cq_run.proofs.Crossed.{resumed_by}
 use Rattle.cq_run.proofs.Terms.{refl}
 use Rattle.cq_run.proofs.parting.resume_by_schedule.Goals as goal
 

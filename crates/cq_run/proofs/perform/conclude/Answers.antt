@@ -1,10 +1,12 @@
-use Rattle.cq_run.proofs.Terms.{arith, rules}
-use Rattle.cq_run.proofs.Ends.{cut_short, judging_ends, performed}
+use Rattle.cq_run.proofs.Terms.{arith, common_steps, rules}
+use Rattle.cq_run.proofs.Ends.{cut_short}
+use Rattle.cq_run.proofs.Planned.{known_faults}
 use Rattle.cq_run.proofs.Reached.{exit_is}
 use Rattle.cq_run.proofs.perform.conclude.Goals as goal
 
 pub returns-in-Err-clause-ends : goal.returns-in-Err-clause-ends
-returns-in-Err-clause-ends g c = λ pace command start r is. rw c.from.ensures (judging_ends r _ (rw c.in-Err.is at is))
+returns-in-Err-clause-ends g c = λ pace command start r is.
+    let halted = rw c.in-Err.is at is in grind (arith, common_steps, halted.judges r)
 
 pub returns-in_err-perform-in-Ok-clause-ends : goal.returns-in_err-perform-in-Ok-clause-ends
 returns-in_err-perform-in-Ok-clause-ends g c = λ pace command start r is.
@@ -14,7 +16,7 @@ returns-in_err-perform-in-Ok-clause-ends g c = λ pace command start r is.
 
 pub returns-in_ok-perform-in-Ok-clause-ends : goal.returns-in_ok-perform-in-Ok-clause-ends
 returns-in_ok-perform-in-Ok-clause-ends g c = λ pace command start r is.
-    performed r _ (rw c.in-Ok.is at is) c.in_ok-perform-in-Ok.ensures.done
+    let planned = rw c.in-Ok.is at is in grind (arith, common_steps, planned.judges r, known_faults)
 
 pub returns-in-Err-clause-unbegun : goal.returns-in-Err-clause-unbegun
 returns-in-Err-clause-unbegun g c = λ start kept. search (arith, rules)

@@ -1,5 +1,6 @@
 use Rattle.cq_run.proofs.Terms.{rules, arith, ap, Err, ⊎_elim, common_steps, lt-ltb}
-use Rattle.cq_run.proofs.TextRead.{text_is, text_is_to_read}
+use Rattle.cq_run.proofs.Stays.{get-remove_same}
+use Rattle.cq_run.proofs.TextRead.{text_is}
 use Rattle.cq_run.proofs.reading.read_short.Goals as goal
 
 pub returns-in-Ok-clause-judges : goal.returns-in-Ok-clause-judges
@@ -11,7 +12,7 @@ returns-in-Err-Missing-clause-judges g c = grind (arith, common_steps, g.F.Files
 pub returns-in-Err-Fault-clause-judges : goal.returns-in-Err-Fault-clause-judges
 returns-in-Err-Fault-clause-judges g c =
     let why = rw c.text.ensures at (c.in-Err-Fault.ensures.why (ap Err c.in-Err-Fault.field-0-is)) in
-    search (arith, rules, g.F.Files.space, c.in-Err-Fault.ensures.whole.fault, why, text_is_to_read)
+    search (arith, rules, g.F.Files.space, c.in-Err-Fault.ensures.whole.fault, why, get-remove_same)
 
 pub returns-in-Err-Long-clause-judges : goal.returns-in-Err-Long-clause-judges
 returns-in-Err-Long-clause-judges g c = grind (arith, common_steps, lt-ltb, g.F.Files.space)

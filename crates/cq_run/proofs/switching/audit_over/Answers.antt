@@ -1,12 +1,13 @@
-use Rattle.cq_run.proofs.Terms.{arith, rules, recursion_from_All, common_steps, inl}
-use Rattle.cq_run.proofs.Audits.{both_passed, ranks_fit}
+use Rattle.cq_run.proofs.Terms.{ideal_departures, ran_ideal, arith, rules, recursion_from_All, common_steps, inl}
+use Rattle.cq_run.proofs.Audits.{both_passed}
 use Rattle.cq_run.proofs.Reached.{exit_is}
 use Rattle.cq_run.proofs.switching.audit_over.Goals as goal
 
 -- ## What judging the log asks for
 
 pub audit_log-requires : goal.audit_log-requires
-audit_log-requires c = search (arith, rules, recursion_from_All, ranks_fit, c.in_ok-text.ensures.text.1)
+unfolding ideal_departures ran_ideal
+audit_log-requires c = search (arith, rules, recursion_from_All, c.in_ok-text.ensures.text.1)
 
 -- ## A run that is refused
 
