@@ -24,10 +24,6 @@ record Follows (one other : Result Aim Refusal) : Type 0 where
 alike : (x : Result Aim Refusal) → Follows x x
 alike x = record { met = λ plan h. h; denied = λ refusal h. h; refused = λ refusal h. h }
 
-aimed : (a b : Aim) → ((plan : Plan) → Meets a plan → Meets b plan) →
-    ((refusal : Refusal) → Denies a refusal → Denies b refusal) → Follows (Ok a) (Ok b)
-aimed a b met denied = grind (arith, common_steps)
-
 then_both : {A : Type 0} (x : Result A Refusal) (f g : A → Result Aim Refusal) → ((a : A) → Follows (f a) (g a)) →
     Follows (x >>= f) (x >>= g)
 then_both x f g h = grind (arith, common_steps)
@@ -37,38 +33,10 @@ module _ (n : ℕ) (t : Tables) where
   abbrev u : Tables
   u = with_workers n t
 
-  module _ (cs : List (List Captured)) where
-    -- ## The same arrives
-
-    start_same : (i k : ℕ) → start u cs i k ≡ start t cs i k
-    unfolding start stamp_slot cells
-    start_same i zero = refl
-    start_same i (suc k) = cc (start_same i k)
-
-    packet_same : (i k : ℕ) → arrivals_of u cs i k ≡ arrivals_of t cs i k
-    unfolding cell_of cells route
-    packet_same i k = search (rules, start_same)
-
-    arrivals_same : arrivals u cs ≡ arrivals t cs
-    unfolding arrivals arrivals_at
-    arrivals_same = grind (arith, common_steps, flat_same, packet_same)
-
-    -- ## The same is sent and written
-
-    outputs_same : (sent : List Departure) (output : ℕ) (rows : List PortRow) →
-        captures_out u cs sent output rows ≡ captures_out t cs sent output rows
-    unfolding captures_out packets_out
-    outputs_same sent output rows = grind (arith, common_steps)
-
-    -- ## Each aim
-
-    crossing : (sent : List Departure) → Follows (Ok (Crossing t cs sent)) (Ok (Crossing u cs sent))
-    unfolding crossed
-    crossing sent = search (arith, rules, arrivals_same, outputs_same, sym)
-
-    auditing : (sent : List Departure) (trace log : List ℕ) →
-        Follows (Ok (Auditing t cs sent trace log)) (Ok (Auditing u cs sent trace log))
-    auditing sent trace log = grind (arith, common_steps, aimed, arrivals_same)
+  -- the same arrives
+  arrivals_same : (cs : List (List Captured)) → arrivals u cs ≡ arrivals t cs
+  unfolding arrivals arrivals_at cell_of cells route start stamp_slot
+  arrivals_same cs = refl
 
   -- ## Each command
 
@@ -80,15 +48,15 @@ module _ (n : ℕ) (t : Tables) where
     both rest h = grind (arith, common_steps, then_both)
 
     follows : (command : Command) → Follows (judged r (over one command) m) (judged r (over other command) m)
-    unfolding check_line switched resumed ideal_departures ran_ideal
+    unfolding check_line switched crossed resumed ideal_departures ran_ideal captures_out packets_out
     follows (Check old) = rw (first, second) (alike _)
-    follows (Ideal old) = both (rest_of asked.Ideal) (λ cs. search (rules, outputs_same, arrivals_same, then_both, alike))
-    follows (Run old) = both (rest_of asked.Run) (λ cs. search (rules, arrivals_same, then_both, crossing))
-    follows (Audit old) = both (rest_of asked.Audit) (λ cs. search (rules, then_both, arrivals_same, auditing))
+    follows (Ideal old) = both (rest_of asked.Ideal) (λ cs. search (rules, arrivals_same, then_both, alike))
+    follows (Run old) = both (rest_of asked.Run) (λ cs. search (arith, rules, arrivals_same, then_both, sym))
+    follows (Audit old) = both (rest_of asked.Audit) (λ cs. search (arith, rules, then_both, arrivals_same))
     follows (Part old slots state) =
-        both (rest_of (asked.Part slots state)) (λ cs. search (arith, rules, aimed, arrivals_same))
-    follows (Resume old state) = both (rest_of (asked.Resume state))
-        (λ cs. search (arith, rules, then_both, aimed, arrivals_same, outputs_same))
+        both (rest_of (asked.Part slots state)) (λ cs. search (arith, rules, arrivals_same))
+    follows (Resume old state) =
+        both (rest_of (asked.Resume state)) (λ cs. search (arith, rules, then_both, arrivals_same))
     follows _ = alike _
 
 -- ## Both ways

@@ -12,10 +12,6 @@ pub fails_after : {S : Type 0} {space : S → Space} {may_fail : Call → S → 
     keeps old mid → Fails space may_fail keeps kind mid new → Fails space may_fail keeps kind old new
 fails_after lasts same kept h = grind (arith, common_steps, lasts.both)
 
--- it is as before
-pub counts_same : (pace : Pace) (U : Type 0) (old new : ℕ) → new ≡ old → Uncounted pace U old new
-counts_same pace U old new e = grind (arith, common_steps)
-
 -- more may be said of a name that was unread
 pub name_after : (pace : Pace) (R S : List ℕ → Type 0) (old mid new : ℕ) → ((name : List ℕ) → R name → S name)
     → mid ≡ old → Uncounted pace (AnyName R) mid new → Uncounted pace (AnyName S) old new
@@ -85,8 +81,7 @@ comes_on j f x s m e h = record { same = cc; without = search (arith, rules, h.w
 pub stands_on : {A B : Type 0} {whole : Contents → Result B Refusal} {j : Contents → Result A Refusal}
     (f : A → Contents → Result B Refusal) {q : Pace} {Q : List ℕ → Type 0} {old mid new : Space} {x : A} → Stays j →
     Stands whole (both j f) old mid → Judges q j Q mid new (Ok x) → Stands whole (f x) old new
-stands_on {whole = whole} {j = j} f {x = x} s st h =
-    grind (arith, common_steps, comes_on {whole = whole} j f x s)
+stands_on {whole = whole} {j = j} f {x = x} s st h = search (arith, rules, comes_on {whole = whole} j f x s)
 
 module _ {A : Type 0} {j : Contents → Result A Refusal} {p : Pace} {old new : Space} where
   -- what ends judging in turn ends it at either pace
@@ -98,7 +93,7 @@ module _ {A : Type 0} {p : Pace} {r : Result A Refusal} {R : List ℕ → Type 0
   -- a computation that ends without an answer, where nothing was read
   pub judges_computed_err : {halt : Halt} → at.mode ≡ Closed → IsHaltOf r halt →
       Judges p (λ (m : Contents). r) R at at (Err halt)
-  judges_computed_err {halt} c h = search (arith, rules, counts_same)
+  judges_computed_err c h = grind (arith, common_steps)
 
   -- one that has an answer
   pub judges_computed : {x : A} → at.mode ≡ Closed → r ≡ Ok x → Judges p (λ (m : Contents). r) R at at (Ok x)

@@ -34,8 +34,8 @@ module _ (classes : ℕ) where
   one_comes : (inputs : ℕ) → suc inputs ≡ most_ports → (came : List Arrival) (t : ℕ) →
       AllByRecursion (IsInRange 1 classes) came → arriving came t ≡ arriving_at came t 0 ∷ replicate inputs None
   one_comes inputs many came t here =
-      let others = all_none (arriving_at came t) 1 inputs (λ k. none_there came t k here) in
-      grind (arith, common_steps, arriving_is came t (suc inputs) many)
+      let others = none_there came t in
+      grind (arith, common_steps, arriving_is came t (suc inputs) many, all_none (arriving_at came t), others)
 
   -- of cells one after another none comes before the first, nor with it
   none_before : (a : Arrival) (came : List Arrival) (t : ℕ) → t ≤ a.slot → IsInRange 1 classes a →
@@ -48,8 +48,7 @@ module _ (classes : ℕ) where
   unfolding found
   next_comes s [] here later = refl
   next_comes s (a ∷ came) here later =
-      let others = next_comes s came here.1 later.1 in
-      grind (arith, common_steps, le-leb, lt-leb, found_here, other_slot, none_before a came s)
+      grind (arith, common_steps, le-leb, lt-leb, found_here, other_slot, none_before a came, next_comes s came)
 
 -- ## One slot
 
@@ -60,8 +59,7 @@ alone ranks = record { lists = [] ∷ []; ranks = ranks }
 filled_one : (n : ℕ) (q : Queued) → q.cell.output ≡ 0 → filled (Some q ∷ replicate n None) ([] ∷ []) ≡ (q ∷ []) ∷ []
 unfolding filled
 filled_one n q out =
-    let none = nobody_left (replicate n None) ((q ∷ []) ∷ []) (λ k p at. cc (none_at n k, at)) in
-    grind (arith, common_steps, filled_next)
+    grind (arith, common_steps, filled_next, none_at, nobody_left (replicate n None) ((q ∷ []) ∷ []))
 
 -- what a departure says of its cell, as an arrival
 abbrev pub as_arrival : Departure → Arrival
@@ -73,21 +71,14 @@ pub record AreInSlot (came : List Arrival) (sent : List Departure) : Type 0 wher
   pub output : AllByRecursion (λ d. d.output ≡ 0) sent
 
 module _ (ms : List Machine) (slot : ℕ) (ranks : List (List ℕ)) where
-  sends_of : (came : List (Option Queued)) (rs : List (List ℕ)) (lists : List (List Queued)) (sent : Sent) →
-      filled came ([] ∷ []) ≡ lists
-      → ideal_sends ms (alone ranks) (Ok (record { came = came; ranks = rs })) ≡ Ok sent
-      → (sent.gone ≡ fronts lists) × (sent.after ≡ record { lists = rests lists; ranks = sent.after.ranks })
-  sends_of came rs lists sent is h = grind (arith, common_steps)
-
   -- the cell that comes, if one does, leaves
   slot_sent : (n : ℕ) (o : Option Cell) (sent : Sent) → AllByRecursion (λ cell. cell.output ≡ 0) (cell_listed o) →
       ideal_slot ms slot (o ∷ replicate n None) (alone ranks) ≡ Ok sent →
       AreInSlot (map (as_come slot) (cell_listed o)) (departures_in slot sent.gone)
       × (sent.after ≡ alone sent.after.ranks)
   unfolding departures_in ideal_slot
-  slot_sent n None sent out h =
-      grind (arith, common_steps, sends_of, nobody_left (replicate (suc n) None), none_at, ranked_none)
-  slot_sent n (Some cell) sent out h = search (arith, rules, sends_of, filled_one, ranked_none)
+  slot_sent n o sent out h =
+      search (arith, rules, nobody_left (replicate (suc n) None), none_at, ranked_none, filled_one)
 
 -- ## Slot after slot
 
@@ -126,8 +117,7 @@ sent_in_slot t came sent one none traffic h =
     let before = run_as_before t.limits ms ports ranks came none in
     let each = each_in_its_slot ms (classes_of t.setup) 63 refl came (rw one at traffic.in_range)
     (each_pair IsLater came traffic.one_by_one) (enough came) 0 (omega arith) ranks in
-    let all : to_come 0 came ≡ came = search (arith, rules, filter_all, all_weaker, le-leb, before_end came) in
-    search (arith, rules, same, before, each, all, all_slots)
+    search (arith, rules, same, before, each, all_slots, filter_all, all_weaker, le-leb, before_end came)
 
 -- ## Every packet leaves, once and in its place: with its last cell, which alone is marked, in its slot
 

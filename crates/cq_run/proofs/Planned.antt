@@ -40,15 +40,14 @@ module _ {S : Type 0} {space : S → Space} {may_fail : Call → S → S → Typ
       IfOk result (λ plan. plan.writes ≡ []) → IfOk result (λ _. IsOk (soak_sent seed ports slots)) →
       IfErr result (IsHaltOf (soak_sent seed ports slots)) →
       IsJudged space may_fail keeps InTurn (Soak seed ports slots) s s result
-  soak_judged (Ok plan) meets none is halts =
-      record {
-        judges = λ r. (soak_aim seed ports slots, meets, judges_computed closed (grind (arith, common_steps)));
-        kept = kept;
-        names = rw none tt;
-        emulates = λ r. told_any (space s).told _ (λ m. tt);
-        closed = closed;
-        told = refl;
-      }
+  soak_judged (Ok plan) meets none is halts = record {
+    judges = λ r. (soak_aim seed ports slots, meets, judges_computed closed (grind (arith, common_steps)));
+    kept = kept;
+    names = rw none tt;
+    emulates = λ r. search (arith, rules);
+    closed = closed;
+    told = refl;
+  }
   soak_judged (Err halt) meets none is halts = search (arith, rules, judges_computed_err)
 
 -- ## Judging a configuration, its captures, and then what the ideal switch sends of them

@@ -74,8 +74,7 @@ module _ {S : Type 0} (space : S → Space) {keeps : S → S → Type 0} {row : 
 
     first : (packets : List Captured) → MatchOption begun (packets ≡ []) (λ d. Spells (source d) packets) →
         Judges Ahead (packets_at r input limit row.read) Ever (space old) (space mid) (Ok packets)
-    first packets h =
-        grind (arith, common_steps, arrived r input limit (space old).told packets row.read begun b.decoding h)
+    first packets h = search (arith, rules, arrived r input limit (space old).told packets row.read begun b.decoding h)
 
     -- whatever the first and the later ones came to, with the first in front
     pub together : (first : Result (List Captured) Halt) (later result : Result (List (List Captured)) Halt) →
@@ -89,7 +88,6 @@ module _ {S : Type 0} (space : S → Space) {keeps : S → S → Type 0} {row : 
         let here = halted r input limit Ever (space old) (space new) halt row.read begun b.decoding halts in
         rw is (judges_then (then_later r limit input row rows) (λ name u. u)
         (search (arith, rules, name_after, ever, counts_of)))
-    together (Ok packets) (Err halt) result spelt halts g is =
+    together (Ok packets) later result spelt halts g is =
         let at = stands_on (then_later r limit input row rows) (packets_stay r input limit row.read) stands_first
-        (first packets spelt) in rw is (stands_back ever at (judges_then _ (λ name u. u) g))
-    together (Ok packets) (Ok others) result spelt halts g is = search (arith, rules, first packets spelt)
+        (first packets spelt) in search (arith, rules, stands_back, judges_then, ever, first packets spelt)

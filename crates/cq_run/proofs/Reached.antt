@@ -5,7 +5,7 @@ use Rattle.cq_run.proofs.Terms.{rules, arith, ◌≡◌, ◌⊎◌, ℕ, IsTrue,
 use Rattle.cq_run.specs.declared.denial.Denial.TheVariants.{LongLog, LongTrace}
 use Rattle.cq_run.specs.declared.judge.Asked.{Asked}
 use Rattle.cq_run.specs.declared.judge.Asked.TheVariants as asked
-use Rattle.cq_run.proofs.Chain.{ComesTo, Stands, both, comes_on, stands_back, stands_first, stands_on, judges_computed_err, judges_then, counts_same, judges_at, fails_after}
+use Rattle.cq_run.proofs.Chain.{ComesTo, Stands, both, comes_on, stands_back, stands_first, stands_on, judges_computed_err, judges_then, judges_at, fails_after}
 use Rattle.cq_run.proofs.TextRead.{from_front}
 use Rattle.cq_run.proofs.Stays.{Stays, captures_from_stay, tables_stay}
 
@@ -141,7 +141,7 @@ module _ {S : Type 0} {space : S → Space} {may_fail : Call → S → S → Typ
   pub no_memory : {rest : Reader → Contents → Result Aim Refusal} → Reached space keeps command old new rest →
       IsJudged space may_fail keeps p command old new (Err NoMemory)
   no_memory reached =
-      halted reached.knows (λ r. let at = reached.stands r in search (arith, rules, counts_same)) reached.kept
+      halted reached.knows (λ r. let at = reached.stands r in grind (arith, common_steps)) reached.kept
 
   -- what was read is judged
   pub settled : {v : Result Aim Refusal} → Reached space keeps command old new (λ r m. v) →

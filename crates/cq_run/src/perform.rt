@@ -9,6 +9,7 @@ use cq_space::{Files, Sink, WriteFault, put_all, write_whole};
 
 /// Performs what judging a command came to, and tells how the command ends. It leaves the file space closed, and takes
 /// no memory.
+#[tactic(auto, using(crate::proofs::Reached::exit_is))]
 pub fn conclude<F: Files, O: Sink>(
     files: &mut F,
     out: &mut O,

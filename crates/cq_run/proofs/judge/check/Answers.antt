@@ -4,9 +4,7 @@ use Rattle.cq_run.proofs.Stays.{tables_stay}
 use Rattle.cq_run.proofs.judge.check.Goals as goal
 
 pub returns-in_err-tables : goal.returns-in_err-tables
-returns-in_err-tables g c = rw (exit_is _ c.from_residual.ensures.1) (read_ends (λ r t m. Ok (Exactly (checked t)))
-    g.met.F.Files.lasts_unbegun (begun (λ s. refl) g.met.F.Files.lasts_unbegun c.requires)
-    c.read_configuration.ensures.kept (λ r. c.in_err-tables.ensures.judges) (λ name u. u))
+returns-in_err-tables g c = search (arith, rules, exit_is, read_ends, begun, g.met.F.Files.lasts_unbegun)
 
 pub returns : goal.returns
 returns g c = settled (read_on (λ r t m. Ok (Exactly (checked t))) g.met.F.Files.lasts_unbegun

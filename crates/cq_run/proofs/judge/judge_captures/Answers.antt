@@ -11,15 +11,9 @@ pub returns-in-Run : goal.returns-in-Run
 returns-in-Run g c = λ config start is. rw c.in-Run.is
     (run_judged is _ c.cross.ensures.crossing c.cross.ensures.refused)
 
-pub audit-work-requires-clause-captures : goal.audit-work-requires-clause-captures
-audit-work-requires-clause-captures g c κs within = rw c.as_slice.ensures c.requires.captures
-
 pub returns-in-Audit : goal.returns-in-Audit
 returns-in-Audit g c = λ config start is. rw c.in-Audit.is
     (c.audit-work.ensures config start (rw (← c.as_slice.ensures) at is))
-
-pub part-requires-clause-slots : goal.part-requires-clause-slots
-part-requires-clause-slots g c κs within = rw c.in-Part.is at c.requires.slots
 
 pub returns-in-Part : goal.returns-in-Part
 returns-in-Part g c = λ config start is. rw c.in-Part.is

@@ -1,6 +1,5 @@
-use Rattle.cq_run.proofs.Terms.{arith, common_steps, rules}
+use Rattle.cq_run.proofs.Terms.{arith, common_steps}
 use Rattle.cq_run.proofs.Ends.{cut_short}
-use Rattle.cq_run.proofs.Planned.{known_faults}
 use Rattle.cq_run.proofs.Reached.{exit_is}
 use Rattle.cq_run.proofs.perform.conclude.Goals as goal
 
@@ -16,10 +15,4 @@ returns-in_err-perform-in-Ok-clause-ends g c = λ pace command start r is.
 
 pub returns-in_ok-perform-in-Ok-clause-ends : goal.returns-in_ok-perform-in-Ok-clause-ends
 returns-in_ok-perform-in-Ok-clause-ends g c = λ pace command start r is.
-    let planned = rw c.in-Ok.is at is in grind (arith, common_steps, planned.judges r, known_faults)
-
-pub returns-in-Err-clause-unbegun : goal.returns-in-Err-clause-unbegun
-returns-in-Err-clause-unbegun g c = λ start kept. search (arith, rules)
-
-pub returns-in_err-perform-in-Ok-clause-unbegun : goal.returns-in_err-perform-in-Ok-clause-unbegun
-returns-in_err-perform-in-Ok-clause-unbegun g c = λ start kept. rw (exit_is _ c.from_residual.ensures.1) tt
+    let planned = rw c.in-Ok.is at is in grind (arith, common_steps, planned.judges r)
