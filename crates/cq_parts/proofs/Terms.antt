@@ -26,5 +26,5 @@ pub use Rattle.cq_stopped.proofs.{Together.read_runs_go_on, Together.stopped_run
 pub use Rattle.cq_stopped.specs.{Read.GoesOnAsRun, Read.IsReadAs, Read.kept_in_run}
 pub use Rattle.cq_traffic.proofs.ForPorts.{slots_fit}
 pub use Rattle.cq_simulate.specs.FabricRuns.{departures_in_run}
-pub use Rattle.cq_run.proofs.Left.{captures_same, tables_same, untouched}
+pub use Rattle.cq_run.proofs.Left.{captures_same, untouched}
 pub use Rattle.cq_run.specs.{Headline.AreGiven, Headline.IsEmulation, Headline.KeepsUp, Parting.IsPartText, Plan.Plan, declared.refusal.Refusal.Refusal}

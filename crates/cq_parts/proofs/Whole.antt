@@ -21,17 +21,6 @@ same_plan t captures rs = refl
 module _ (r : Reader) (config : List ℕ) (m : Contents) (t : Tables) (captures : List (List Captured))
     (configured : tables_in config m ≡ Ok t) (captured : captures_in r t m ≡ Ok captures) (given : AreGiven t captures)
   where
-    -- ## What `run` writes
-
-    -- it is what is written of a run over these tables and captures
-    record Ran (whole : Plan) : Type 0 where
-      records : List LimitedRecord
-      keeps_up : KeepsUp t captures records
-      written : whole ≡ resumed t captures (kept_in_run t records)
-
-    ran : (whole : Plan) → IsEmulation r config m whole → Ran whole
-    ran whole e = grind (arith, common_steps, same_plan)
-
     -- ## What was left
 
     module _ (slots : ℕ) (early : slots < 2 ^ 63) (text : List ℕ) (part : IsPartText t captures slots text) where
@@ -59,20 +48,18 @@ module _ (r : Reader) (config : List ℕ) (m : Contents) (t : Tables) (captures 
 
       met : (whole : Plan) → IsEmulation r config m whole → Meets aim whole
       met whole e =
-          let it = ran whole e in
-          let resumed = (goes part.at read_as.read).resumes it.records it.keeps_up.runs in search (rules, read_as)
+          let resumed = (goes part.at read_as.read).resumes e.records in
+          search (arith, rules, same_plan, resumed, read_as)
 
       only : (whole plan : Plan) → IsEmulation r config m whole → Meets aim plan → plan ≡ whole
       only whole plan e (kept, is, written) =
-          let it = ran whole e in
-          cc ((goes is.from is.read).run it.records kept it.keeps_up.runs is.resumed)
+          let one = (goes is.from is.read).run e.records kept in grind (arith, common_steps, same_plan, one)
 
       -- the run that goes on from there is one that keeps up
       writes : (plan : Plan) → Meets aim plan → IsEmulation r config m plan
       writes plan (kept, is, written) =
           let it = (goes is.from is.read).ends kept is.resumed in
-          let up = keeps_up t captures it.0 given (traffic_is t captures given.tables given.each) it.1 in
-          search (rules, configured, captured, same_plan)
+          search (rules, configured, captured, same_plan, traffic_is, keeps_up t captures it.0 given)
 
       -- the text itself is refused for nothing
       denied : (refusal : Refusal) → Denies aim refusal → judged r (Run config) m ≡ Err refusal
