@@ -2,14 +2,10 @@
 -- run the setup and the limits, and what is written the names of the files and the length of a slot. So the same
 -- arrives whatever that number is; and each verdict, each plan that meets it, and each reason that denies it, is made
 -- of what arrives and of these. Numbers can be exchanged, so it holds both ways.
-use Rattle.cq_run.proofs.Terms.{rules, arith, common_steps, ◌≡◌, ◌+◌, ℕ, zero, suc, List, refl, ap, sym, IsOkAnd, Result, Ok, Err, arrivals, arrivals_at, arrivals_of, cell_of, cells, Captured, Tables, Departure, PortRow, captures_out, crossed, resumed, switched, ideal_departures, ran_ideal, packets_out, Contents, Aim, Denies, Meets, Crossing, Auditing, Refusal, Plan, Reader, ◌>>=◌, judged, tables_in, judged_of_given, Command, Audit, Check, Ideal, Part, Resume, Run}
-use Rattle.std.specs.Prelude.{max}
-use Rattle.cq_cells.proofs.Ranges.{flat_same}
+use Rattle.cq_run.proofs.Terms.{Pass, Soak, rules, arith, common_steps, ◌≡◌, ℕ, List, refl, sym, IsOkAnd, Result, Ok, Err, arrivals, arrivals_at, cell_of, cells, Captured, Tables, captures_out, crossed, resumed, switched, ideal_departures, ran_ideal, packets_out, Contents, Aim, Denies, Meets, Refusal, Plan, Reader, ◌>>=◌, judged, tables_in, Command}
 use Rattle.cq_cells.specs.Schedule.{stamp_slot, start}
 use Rattle.cq_route.specs.Route.{route}
 use Rattle.cq_run.proofs.OnePlan.{one_plan}
-use Rattle.cq_run.proofs.Reached.{rest_of, sent_of}
-use Rattle.cq_run.specs.declared.judge.Asked.TheVariants as asked
 use Rattle.cq_run.specs.Plan.{check_line}
 use Rattle.cq_run.specs.Workers.{WorkersChangeNothing, over, with_workers}
 
@@ -42,22 +38,11 @@ module _ (n : ℕ) (t : Tables) where
 
   module _ (r : Reader) (m : Contents) (one other : List ℕ) (first : tables_in one m ≡ Ok t)
       (second : tables_in other m ≡ Ok u) where
-    both : (rest : Reader → Tables → List (List Captured) → Contents → Result Aim Refusal) →
-        ((cs : List (List Captured)) → Follows (rest r t cs m) (rest r u cs m)) →
-        Follows (judged_of_given r one (rest r) m) (judged_of_given r other (rest r) m)
-    both rest h = grind (arith, common_steps, then_both)
-
     follows : (command : Command) → Follows (judged r (over one command) m) (judged r (over other command) m)
     unfolding check_line switched crossed resumed ideal_departures ran_ideal captures_out packets_out
-    follows (Check old) = rw (first, second) (alike _)
-    follows (Ideal old) = both (rest_of asked.Ideal) (λ cs. search (rules, arrivals_same, then_both, alike))
-    follows (Run old) = both (rest_of asked.Run) (λ cs. search (arith, rules, arrivals_same, then_both, sym))
-    follows (Audit old) = both (rest_of asked.Audit) (λ cs. search (arith, rules, then_both, arrivals_same))
-    follows (Part old slots state) =
-        both (rest_of (asked.Part slots state)) (λ cs. search (arith, rules, arrivals_same))
-    follows (Resume old state) =
-        both (rest_of (asked.Resume state)) (λ cs. search (arith, rules, then_both, arrivals_same))
-    follows _ = alike _
+    follows (Pass from to) = alike _
+    follows (Soak seed ports slots) = alike _
+    follows _ = search (arith, rules, first, second, arrivals_same, then_both, alike, sym)
 
 -- ## Both ways
 

@@ -2,7 +2,7 @@
 -- written, so over what is left the same tables and captures are judged; the trace and the log stand there as they were
 -- written. The run with input-best matchings is a stable one, and its log is read as what it is spelt from. A yes that
 -- holds is never denied.
-use Rattle.cq_run.proofs.Terms.{rules, ◌≡◌, ◌≢◌, ◌≤◌, ◌^◌, ◌∙◌, ◌++◌, ℕ, List, [], ◌∷◌, length, Option, None, Some, refl, ap, arith, IfSome, IsOkAnd, Ok, IsOk, get, AllByRecursion, Arrival, log_of, trace_of, Departure, Transfer, short_is, small_cells, traffic_is, arrivals, IsTraffic, all_weaker, limited_not_more, LimitedRecord, slots_in, Captured, all_both, all_back, classes_of, ports_of, Tables, machines_of, openings_of, as_many_slots, sends_as_ideal, stable_limited_too, departures_in_run, ideal_departures, ran_ideal, Contents, files_in, read_or_refused, Audit, Denial, Refusal, Aim, Auditing, Denies, Meets, KeepsUp, audited, captures_out, crossed, Reader, ◌>>=◌, captures_in, found_or_missing, judged, read_or_refused_for, sent_or_tag, tables_in, all_replaced, common_steps, whole_limited_run, empty_limited, IsAuditPassed, audit_is_exact, stable_log, trace_is_exact, IsYes, transfers_of_run, empty_list, all_stable, stable_sends, stable_slack, longest_file}
+use Rattle.cq_run.proofs.Terms.{rules, ◌≡◌, ◌≢◌, ◌≤◌, ◌^◌, ◌∙◌, ◌++◌, ℕ, List, [], ◌∷◌, length, Option, None, Some, refl, arith, IfSome, IsOkAnd, Ok, get, AllByRecursion, Arrival, log_of, trace_of, Departure, Transfer, short_is, small_cells, traffic_is, arrivals, IsTraffic, all_weaker, limited_not_more, LimitedRecord, slots_in, Captured, all_both, all_back, classes_of, ports_of, Tables, machines_of, as_many_slots, sends_as_ideal, stable_limited_too, departures_in_run, ideal_departures, Contents, files_in, read_or_refused, Audit, Denial, Refusal, Aim, Auditing, Denies, Meets, KeepsUp, audited, captures_out, crossed, Reader, ◌>>=◌, captures_in, found_or_missing, judged, read_or_refused_for, tables_in, all_replaced, common_steps, IsAuditPassed, audit_is_exact, stable_log, trace_is_exact, IsYes, transfers_of_run, empty_list, all_stable, stable_sends, stable_slack, longest_file}
 use Rattle.cq_audit.specs.declared.refusal.AuditRefusal.TheVariants as of_log
 use Rattle.cq_run.specs.declared.denial.Denial.TheVariants as why
 use Rattle.cq_run.specs.Auditing.{IsDenied}

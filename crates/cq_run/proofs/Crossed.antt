@@ -1,6 +1,6 @@
 -- The captures of the outputs, one after another: those that were made and those that are still to be made are all.
 -- Each is that which was built at its output.
-use Rattle.cq_run.proofs.Terms.{IsResumedBy, Scheduled, schedule_of, IsRead, IsResumed, switch_of, resumed_counts, resumed_whole, kept_of, common_steps, rules, ◌≡◌, ◌<◌, ◌≤◌, ◌∙◌, ℕ, ◌+◌, List, [], ◌∷◌, ◌++◌, length, drop, get_or, refl, sym, append_assoc, arith, Result, Ok, drop_more, length-drop, Departure, TagFault, arrivals, Captured, AreTables, ports_of, PortRow, Tables, capture_out, captures_out, IsSwitched, sent_or_tag, Switched, ArePacked, HaveLeftOf, Arrival, t0_of, packets_of, IsRecorded, IsTraffic, LimitedRecord, under_names, classes_of, always_slack, best_in_each, slot_by_slot, IsFabricRun, IsKeptOf, unpacked_run, ideal_departures, PackedFabricRun, AreGiven, KeepsUp, IsCrossed, left_in_packets, Packing, each_packet_once}
+use Rattle.cq_run.proofs.Terms.{IsResumedBy, Scheduled, schedule_of, IsRead, IsResumed, switch_of, resumed_counts, resumed_whole, kept_of, common_steps, rules, ◌≡◌, ◌<◌, ◌≤◌, ◌∙◌, ℕ, ◌+◌, List, [], ◌∷◌, length, drop, get_or, refl, sym, arith, Ok, drop_more, length-drop, Departure, arrivals, Captured, ports_of, PortRow, Tables, capture_out, captures_out, ArePacked, Arrival, t0_of, IsTraffic, LimitedRecord, under_names, classes_of, always_slack, best_in_each, slot_by_slot, IsFabricRun, IsKeptOf, unpacked_run, ideal_departures, PackedFabricRun, AreGiven, KeepsUp, IsCrossed, Packing, each_packet_once}
 use Rattle.cq_resume.specs.declared.taken.Taken.{Taken}
 
 module _ (t : Tables) (captures : List (List Captured)) (sent : List Departure) where

@@ -2,7 +2,7 @@
 -- status says. Each end has one status, and what the end says of the verdict is what the status says of it, which the
 -- table of refusals tells case by case. Words are refused only where they are no command: no judgement of contents
 -- refuses them, since they are judged before any file is asked for.
-use Rattle.cq_run.proofs.Terms.{common_steps, arith, ◌≡◌, ◌↔◌, ℕ, List, rules, [], ◌∷◌, ◌≢◌, Result, Ok, Err, Option, None, Some, IfSome, Call, Fails, Lasts, Reads, Writes, Contents, Space, Command, Halt, IsJudged, Pace, Plan, known_to, known_by, Reader, Taken, World, IsCut, IsDone, IsCutAtFile, Rose, Words, Refused, Emulates, judged, judged_or_words, StatusCauses, Status, ◌+◌, PortRow, captures_from}
+use Rattle.cq_run.proofs.Terms.{common_steps, arith, ◌≡◌, ◌↔◌, ℕ, List, rules, [], ◌∷◌, ◌≢◌, Result, Ok, Err, Option, None, Some, IfSome, Call, Fails, Lasts, Writes, Contents, Space, Command, IsJudged, Pace, Plan, known_to, known_by, Reader, Taken, World, IsCut, IsDone, IsCutAtFile, Rose, Words, Refused, Emulates, judged, judged_or_words, StatusCauses, Status, ◌+◌, PortRow, captures_from}
 use Rattle.cq_run.specs.declared.stop.Stop.{Stop}
 use Rattle.cq_run.specs.declared.stop.Stop.TheVariants.{Cut, Halted}
 use Rattle.cq_run.specs.declared.stop.Unwritten.{Unwritten}

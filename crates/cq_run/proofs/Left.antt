@@ -1,6 +1,6 @@
 -- What stands under a name after files were written. A name that is none of theirs has what it had, and the last of a
 -- name stays.
-use Rattle.cq_run.proofs.Terms.{common_steps, arith, rules, ◌≡◌, ◌≢◌, ◌+◌, ◌++◌, ℕ, suc, List, [], ◌∷◌, Option, Some, refl, ap, IfSome, get, get-insert, AllByRecursion, nat_list_cmp_total, exact_bytes, tells_apart, Departure, Captured, PortRow, Tables, Contents, captures_out, Reader, captures_from, tables_in, all_replaced, get_same}
+use Rattle.cq_run.proofs.Terms.{common_steps, arith, rules, ◌≡◌, ◌≢◌, ◌+◌, ◌++◌, ℕ, suc, List, [], ◌∷◌, Some, refl, ap, IfSome, get, get-insert, AllByRecursion, nat_list_cmp_total, exact_bytes, tells_apart, Departure, Captured, PortRow, Tables, Contents, captures_out, Reader, captures_from, all_replaced, get_same}
 use Rattle.std.specs.FinMap.{insert}
 
 -- ## One name
@@ -31,17 +31,10 @@ outputs_named P t captures sent k (row ∷ rows) all = (all.0, outputs_named P t
 
 -- ## What is judged of contents that have the same under the names that are read
 
-module _ (m left : Contents) where
-  pub tables_same : (config : List ℕ) → get left config ≡ get m config → tables_in config left ≡ tables_in config m
-  tables_same config same = cc
-
-  -- the name, if there is one, has what it had
-  abbrev IsSame : Option (List ℕ) → Type 0
-  IsSame read = IfSome read (λ name. get left name ≡ get m name)
-
-  pub captures_same : (r : Reader) (limit input : ℕ) (rows : List PortRow) →
-      AllByRecursion (λ row. IsSame row.read) rows →
-      captures_from r limit input rows left ≡ captures_from r limit input rows m
-  unfolding captures_from
-  captures_same r limit input [] same = refl
-  captures_same r limit input (row ∷ rows) same = search (arith, rules, captures_same r limit (input + 1) rows same.1)
+pub captures_same : (m left : Contents) (r : Reader) (limit input : ℕ) (rows : List PortRow) →
+    AllByRecursion (λ row. IfSome row.read (λ name. get left name ≡ get m name)) rows →
+    captures_from r limit input rows left ≡ captures_from r limit input rows m
+unfolding captures_from
+captures_same m left r limit input [] same = refl
+captures_same m left r limit input (row ∷ rows) same =
+    search (arith, rules, captures_same m left r limit (input + 1) rows same.1)

@@ -1,6 +1,6 @@
 -- An aim is met by one plan. There is one whole run, one run up to a slot, one state with a given text, and from each
 -- state one run goes on; a plan is written of what such a run keeps.
-use Rattle.cq_run.proofs.Terms.{◌≡◌, ℕ, List, arrivals, Captured, Tables, Kept, openings_of, IsPartText, IsResumedText, Aim, Meets, Crossing, Reporting, Parting, Resuming, Plan, Switch}
+use Rattle.cq_run.proofs.Terms.{◌≡◌, arrivals, openings_of, Aim, Meets, Crossing, Reporting, Parting, Resuming, Plan}
 use Rattle.cq_resume.proofs.{Joining.one_part, Joining.one_resumed, OneAnswer.read_exact}
 use Rattle.cq_simulate.proofs.FabricLaws.{only_one}
 use Rattle.cq_run.specs.Parting.{switch_over}

@@ -9,7 +9,7 @@ use Rattle.cq_ideal.proofs.{Came.nobody_left, Resting.none_at, Waiting.filled_ne
 use Rattle.cq_ideal.proofs.FlowFound.{all_found, cell_listed, found, found_here, found_none, other_slot}
 use Rattle.cq_ideal.specs.Ending.{arriving_from}
 use Rattle.cq_ideal.specs.IdealRun.{Ran, departures_of, ideal_run}
-use Rattle.cq_ideal.specs.IdealSlot.{IdealState, Sent, departures_in, filled, fronts, ideal_sends, ideal_slot, rests}
+use Rattle.cq_ideal.specs.IdealSlot.{IdealState, Sent, departures_in, filled, ideal_slot}
 use Rattle.cq_simulate.proofs.Tallies.{filter_images}
 use Rattle.cq_simulate.specs.GoingOn.{to_come}
 

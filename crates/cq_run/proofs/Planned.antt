@@ -6,7 +6,7 @@ use Rattle.cq_run.proofs.Reached.{computed_halts, computed_plans, given_so, Reac
 use Rattle.cq_run.proofs.OnePort.{all_leave_is, none_limited}
 use Rattle.cq_run.proofs.Stays.{capture_stays, short_stays}
 use Rattle.cq_run.specs.declared.denial.Denial.TheVariants.{LongLog, LongTrace}
-use Rattle.cq_run.specs.Headline.{IsStopped, IsTakenUp}
+use Rattle.cq_run.specs.Headline.{IsTakenUp}
 use Rattle.cq_run.specs.declared.refusal.StateFault.TheVariants as stopped
 use Rattle.cq_run.specs.declared.judge.Asked.TheVariants as asked
 

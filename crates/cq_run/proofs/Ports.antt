@@ -2,9 +2,9 @@
 -- the rest are left, and what ends one of these ends the whole. Where files are read ahead, reading leaves
 -- contents as they are, so the first capture is judged as if nothing had come between. Where it ends the whole, the
 -- later inputs say nothing but what the count of faults may show.
-use Rattle.cq_run.proofs.Terms.{rules, ◌≡◌, ◌<◌, ℕ, ◌+◌, List, [], ◌∷◌, ◌++◌, ◌≤◌, append-nil, append_assoc, drop_all, drop_more, length, drop, get_or, arith, Result, Ok, Err, Option, Some, IfSome, IfOk, IfErr, MatchOption, common_steps, Contents, Space, Closed, Captured, PortRow, Refusal, Halt, Judges, Halts, InTurn, Ahead, AnyName, Uncounted, Reader, ◌>>=◌, packets_at, captures_from, Spells, Call, Fails, Lasts, Reads}
+use Rattle.cq_run.proofs.Terms.{rules, ◌≡◌, ◌<◌, ℕ, ◌+◌, List, [], ◌∷◌, ◌++◌, ◌≤◌, append-nil, append_assoc, drop_all, drop_more, length, drop, get_or, arith, Result, Ok, Err, Option, Some, IfSome, IfOk, IfErr, MatchOption, common_steps, Contents, Space, Closed, Captured, PortRow, Refusal, Halt, Judges, Halts, Ahead, AnyName, Uncounted, Reader, ◌>>=◌, packets_at, captures_from, Spells, Call, Fails, Lasts, Reads}
 use Rattle.cq_run.proofs.Stays.{packets_stay}
-use Rattle.cq_run.proofs.Chain.{Stands, both, stands_as, stands_back, stands_first, stands_on, judges_then, counts_of, name_after, fails_after, told_any}
+use Rattle.cq_run.proofs.Chain.{Stands, both, stands_back, stands_first, stands_on, judges_then, counts_of, name_after, fails_after, told_any}
 use Rattle.cq_run.specs.declared.decoding.Decoding.{Decoding}
 use Rattle.cq_run.specs.Decoding.{HasBegun, IsBegunFor, source}
 use Rattle.cq_run.specs.Input.{IsHaltFor, IsInFront}

@@ -1,7 +1,7 @@
 -- Texts that are put one after another. A text that was cut short after others were put whole is a front of all: what
 -- was taken before it has a known length, so the front's length is that and the piece's. A front of a text is a front
 -- of each longer text. So what comes of putting the pieces of a line that are left comes of putting the line.
-use Rattle.cq_run.proofs.Terms.{rules, ◌≡◌, ◌<◌, ◌≤◌, ℕ, ◌+◌, List, [], ◌∷◌, ◌++◌, length, take, drop, get_or, refl, arith, append_assoc, Result, Ok, Err, IsErr, common_steps, append_known, flat_map, append-nil, take_at, take-append-drop, drop_all, drop_more, take-append-add, Taken, Puts, joined, line, piece_text}
+use Rattle.cq_run.proofs.Terms.{◌≡◌, ◌<◌, ◌≤◌, ℕ, ◌+◌, List, [], ◌∷◌, ◌++◌, length, take, drop, get_or, refl, arith, append_assoc, Result, Ok, Err, IsErr, common_steps, append_known, flat_map, append-nil, take_at, take-append-drop, drop_all, drop_more, take-append-add, Taken, Puts, joined, line, piece_text}
 use Rattle.cq_run.specs.declared.say.Piece.{Piece}
 use Rattle.cq_space.specs.Whole.{PutsAll}
 use Rattle.cq_space.specs.declared.whole.WriteFault.{WriteFault}

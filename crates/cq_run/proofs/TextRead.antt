@@ -1,8 +1,7 @@
 -- What is told of a text, as the trace or the log of an audit or the state of a stopped run, from what was read under
 -- its name: its bytes, where they are not too many. The name that was asked for is the one that is to be read, or a
 -- copy of it.
-use Rattle.cq_run.proofs.Terms.{⊎_elim, rules, ◌≡◌, ◌<◌, ◌≤◌, ℕ, List, length, arith, codes, Option, Some, IfSome, Ok, le-ltb, get, Contents, bytes_of, Refusal, Configuration, IsRefused, IsToRead, short_in, tables_in, first, read_or_refused, common_steps, ◌∙◌, sym, slice_index, Captured, PcapRefusal, IsFaulty, Spells, Space, Halts, AnyName, Pace, Uncounted, Reader, halt_for, capture_in, file_in, spelt_or_faulty, fault_is_read, spelt_is_read}
-use Rattle.cq_run.proofs.Stays.{get-remove_same}
+use Rattle.cq_run.proofs.Terms.{⊎_elim, rules, ◌≡◌, ◌<◌, ◌≤◌, ℕ, List, length, arith, codes, Option, Some, IfSome, Ok, le-ltb, get, Contents, bytes_of, Refusal, Configuration, IsRefused, short_in, tables_in, first, read_or_refused, common_steps, ◌∙◌, sym, slice_index, Captured, PcapRefusal, IsFaulty, Spells, Space, Halts, AnyName, Pace, Uncounted, Reader, halt_for, capture_in, file_in, spelt_or_faulty, fault_is_read, spelt_is_read}
 use Rattle.cq_pcap.specs.Reading.{packets_of}
 
 module _ (long : Refusal) (limit : ℕ) (name : List ℕ) where

@@ -1,5 +1,5 @@
-use Rattle.cq_run.proofs.Terms.{common_steps, rules, ◌≡◌, [], Ok, arith, captures_from, nil_from_length, refl}
-use Rattle.cq_run.proofs.Chain.{judges_computed, judges_then}
+use Rattle.cq_run.proofs.Terms.{common_steps, rules, arith, captures_from, nil_from_length}
+use Rattle.cq_run.proofs.Chain.{judges_then}
 use Rattle.cq_run.proofs.Ports.{together}
 use Rattle.cq_run.proofs.Reached.{exit_is}
 use Rattle.cq_run.proofs.ahead.+stream_from.Goals as goal

@@ -1,5 +1,4 @@
-use Rattle.cq_run.proofs.Terms.{left_in_packets, arith, rules, ap, sym, ◌∙◌, ◌≡◌, ◌∷◌, [], length, List, Captured}
-use Rattle.cq_run.proofs.Crossed.{packed_under}
+use Rattle.cq_run.proofs.Terms.{left_in_packets, arith, rules, ◌≡◌, ◌∷◌, []}
 use Rattle.cq_run.proofs.judge.pass_on.Goals as goal
 
 pub build_passed-requires : goal.build_passed-requires
