@@ -1,6 +1,6 @@
 -- What `resume` reads of what `part` left: the configuration and the captures that `part` read, and the text that it
 -- wrote. And where it alone wrote, under a name of its own, these are there.
-use Rattle.cq_parts.proofs.Terms.{common_steps, le-ltb, rules, ◌≡◌, ◌≢◌, ℕ, List, [], ◌∷◌, length, ◌≤◌, Some, arith, subst, Ok, get, Captured, Tables, Contents, Resume, Resuming, Reader, captures_in, judged, tables_in, all_replaced, all_weaker, get_same, captures_same, untouched, Plan, longest_file}
+use Rattle.cq_parts.proofs.Terms.{common_steps, le-ltb, rules, ◌≡◌, ◌≢◌, ℕ, List, [], ◌∷◌, length, ◌≤◌, Some, arith, Ok, get, Captured, Tables, Contents, Resume, Resuming, Reader, captures_in, judged, tables_in, all_weaker, get_same, captures_same, untouched, longest_file}
 use Rattle.cq_parts.specs.Parts.{IsLeftByPart, IsWrittenByPart, PartLeavesTheRest}
 
 module _ (r : Reader) (config state : List ℕ) where

@@ -9,7 +9,7 @@ pub use Rattle.cq_laws.specs.LimitedFabric.{LimitedRecord}
 pub use Rattle.cq_resume.specs.Switch.{IsScheduleOf, Switch, switch_of}
 pub use Rattle.cq_words.specs.declared.command.Command.TheVariants.{Resume, Run}
 pub use Rattle.cq_run.specs.Aim.{Aim, Denies, Meets, Resuming}
-pub use Rattle.cq_run.specs.{Reader.Reader, Writing.all_replaced}
+pub use Rattle.cq_run.specs.{Reader.Reader}
 pub use Rattle.cq_run.specs.Verdict.{captures_in, judged, tables_in}
 pub use Rattle.cq_base.proofs.Each.{all_weaker}
 pub use Rattle.cq_base.specs.Limits.{longest_file}
@@ -27,4 +27,4 @@ pub use Rattle.cq_stopped.specs.{Read.GoesOnAsRun, Read.IsReadAs, Read.kept_in_r
 pub use Rattle.cq_traffic.proofs.ForPorts.{slots_fit}
 pub use Rattle.cq_simulate.specs.FabricRuns.{departures_in_run}
 pub use Rattle.cq_run.proofs.Left.{captures_same, untouched}
-pub use Rattle.cq_run.specs.{Headline.AreGiven, Headline.IsEmulation, Headline.KeepsUp, Parting.IsPartText, Plan.Plan, declared.refusal.Refusal.Refusal}
+pub use Rattle.cq_run.specs.{Headline.AreGiven, Headline.IsEmulation, Parting.IsPartText, Plan.Plan, declared.refusal.Refusal.Refusal}

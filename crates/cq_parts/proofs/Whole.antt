@@ -2,7 +2,7 @@
 -- What goes on from there keeps what the run keeps, and comes to an end where the run does (`read_runs_go_on`); both
 -- write the same of it. A tag fault that is met from there is one of the whole run, and so that of the ideal switch,
 -- for which `run` is refused.
-use Rattle.cq_parts.proofs.Terms.{common_steps, arith, rules, ◌≡◌, ◌<◌, ◌^◌, ℕ, List, refl, subst, Ok, Err, Scheduled, schedule_of, LimitedRecord, Captured, IsScheduleOf, Switch, switch_of, Tables, Contents, Run, Aim, Denies, Meets, Resuming, Reader, captures_in, judged, tables_in, IsRead, Taken, departures_in_run, read_runs_go_on, stopped_runs_are_read, GoesOnAsRun, IsReadAs, kept_in_run, traffic_is, AreGiven, IsEmulation, KeepsUp, IsPartText, Plan, Refusal}
+use Rattle.cq_parts.proofs.Terms.{common_steps, arith, rules, ◌≡◌, ◌<◌, ◌^◌, ℕ, List, refl, subst, Ok, Err, Scheduled, schedule_of, LimitedRecord, Captured, IsScheduleOf, Switch, switch_of, Tables, Contents, Run, Aim, Denies, Meets, Resuming, Reader, captures_in, judged, tables_in, IsRead, Taken, departures_in_run, read_runs_go_on, stopped_runs_are_read, GoesOnAsRun, IsReadAs, kept_in_run, traffic_is, AreGiven, IsEmulation, IsPartText, Plan, Refusal}
 use Rattle.cq_resume.specs.declared.refusal.StateRefusal.TheVariants as of_state
 use Rattle.cq_run.proofs.Crossed.{keeps_up}
 use Rattle.cq_run.specs.Plan.{crossed, resumed}
