@@ -118,11 +118,7 @@ fn file(alloc: Global) -> Result<PortRow, NoMemory> {
 fn three_files(alloc: Global) -> Result<Vec<PortRow>, NoMemory>
     ensures { IfOk result (λ files. length files.items ≡ 3) }
 {
-    let mut files = Vec::new(alloc);
-    'files: for _ in 0..3u16 {
-        files.push(file(alloc)?)?;
-    }
-    Ok(files)
+    Ok(Vec::from_array(alloc, [file(alloc)?, file(alloc)?, file(alloc)?])?)
 }
 
 // Three ports, the first of which has this limit.
