@@ -55,7 +55,5 @@ pub resumed_by : (t : Tables) (captures : List (List Captured)) (schedule : Sche
     AreGiven t captures → (stamp : ℕ) → stamp ≡ schedule.t0 →
     IsResumedBy t captures text (record { run = run; t0 = stamp })
 resumed_by t captures schedule is text from read run resumed given stamp e =
-    let goes = rw is at resumed in
-    let from_it = rw is at read in
     let whole = resumed_whole t captures from (kept_of (unpacked_run run)) in
     let counts = resumed_counts t captures from (kept_of (unpacked_run run)) in search (arith, rules, whole, counts)

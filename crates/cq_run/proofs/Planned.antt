@@ -1,13 +1,12 @@
 -- From one judgement after another to a plan that meets what is aimed at: for each command what is judged of what it
 -- reads, and a plan that it comes to.
-use Rattle.cq_run.proofs.Terms.{resumed_best, resumed_slack, parted_best, parted_slack, rules, arith, ◌≡◌, ◌∙◌, ℕ, List, [], ◌∷◌, refl, ap, Result, Ok, Err, IfOk, IfErr, IsOk, common_steps, Departure, soak_captures, soak_tables, Captured, Tables, Call, Contents, Space, Closed, Command, Ideal, Run, Soak, Pass, Audit, Part, Resume, Given, Refusal, Halt, Aim, Reporting, Meets, Exactly, Auditing, Resuming, IsGiven, IsPassage, AreRead, IsAudited, AreGiven, IsJudged, IsHaltOf, Judges, Pace, InTurn, Uncounted, Plan, known_to, Reader, ◌>>=◌, ideally_sent, capture_in, text_in, state_in, passed, audited, file_alone, IsCrossing, IsIdeal, IsPassing, plain_tables, AreTables, Lasts, trace_of, Audited, State, IsAuditHalted, IsAuditPassed, IsPartHalt, IsResumeHalt, IsResuming, IsPartText, written, recursion_from_All, IfSome_then}
+use Rattle.cq_run.proofs.Terms.{resumed_best, resumed_slack, parted_best, parted_slack, rules, arith, ◌≡◌, ◌∙◌, ℕ, List, [], ◌∷◌, refl, ap, Result, Ok, Err, IfOk, IfErr, IsOk, common_steps, soak_captures, soak_tables, Captured, Tables, Call, Contents, Space, Closed, Command, Ideal, Run, Soak, Pass, Audit, Part, Resume, Given, Refusal, Halt, Aim, Reporting, Meets, Exactly, Auditing, IsGiven, IsPassage, AreRead, IsAudited, AreGiven, IsJudged, IsHaltOf, Judges, Pace, InTurn, Uncounted, Plan, known_to, Reader, ◌>>=◌, ideally_sent, capture_in, text_in, state_in, passed, audited, file_alone, IsCrossing, IsIdeal, IsPassing, plain_tables, AreTables, Lasts, trace_of, IsAuditHalted, IsAuditPassed, IsPartHalt, IsResumeHalt, IsResuming, IsPartText, written, recursion_from_All, IfSome_then}
 use Rattle.cq_run.proofs.Chain.{judges_computed, judges_computed_err, told_any}
-use Rattle.cq_run.proofs.Reached.{computed_halts, computed_plans, given_so, Reached, begun, read_on, settled}
+use Rattle.cq_run.proofs.Reached.{computed_halts, computed_plans, given_so, Reached, begun, read_on, sent_of, settled}
 use Rattle.cq_run.proofs.OnePort.{all_leave_is, none_limited}
 use Rattle.cq_run.proofs.Stays.{capture_stays, short_stays}
 use Rattle.cq_run.specs.declared.denial.Denial.TheVariants.{LongLog, LongTrace}
 use Rattle.cq_run.specs.Headline.{IsTakenUp}
-use Rattle.cq_run.specs.declared.refusal.StateFault.TheVariants as stopped
 use Rattle.cq_run.specs.declared.judge.Asked.TheVariants as asked
 
 -- what a command knows of a file space has its count of faults
@@ -27,21 +26,18 @@ judged_as space may_fail keeps p command x old new result e h = rw e h
 
 -- ## Judging made traffic
 
-abbrev soak_aim : (seed ports slots : ℕ) → Aim
-soak_aim seed ports slots = Reporting (soak_tables ports) (soak_captures seed ports slots)
-
-abbrev soak_sent : (seed ports slots : ℕ) → Result (List Departure) Refusal
-soak_sent seed ports slots = ideally_sent (soak_tables ports) (soak_captures seed ports slots)
-
 module _ {S : Type 0} {space : S → Space} {may_fail : Call → S → S → Type 0} {keeps : S → S → Type 0}
     {seed ports slots : ℕ} {s : S} (closed : (space s).mode ≡ Closed) (kept : keeps s s) where
   -- nothing is read: the run is computed
-  pub soak_judged : (result : Result Plan Halt) → IfOk result (Meets (soak_aim seed ports slots)) →
-      IfOk result (λ plan. plan.writes ≡ []) → IfOk result (λ _. IsOk (soak_sent seed ports slots)) →
-      IfErr result (IsHaltOf (soak_sent seed ports slots)) →
+  pub soak_judged : (result : Result Plan Halt) →
+      IfOk result (Meets (Reporting (soak_tables ports) (soak_captures seed ports slots))) →
+      IfOk result (λ plan. plan.writes ≡ []) →
+      IfOk result (λ _. IsOk (ideally_sent (soak_tables ports) (soak_captures seed ports slots))) →
+      IfErr result (IsHaltOf (ideally_sent (soak_tables ports) (soak_captures seed ports slots))) →
       IsJudged space may_fail keeps InTurn (Soak seed ports slots) s s result
   soak_judged (Ok plan) meets none is halts = record {
-    judges = λ r. (soak_aim seed ports slots, meets, judges_computed closed (grind (arith, common_steps)));
+    judges = λ r. (Reporting (soak_tables ports) (soak_captures seed ports slots), meets,
+        judges_computed closed (grind (arith, common_steps)));
     kept = kept;
     names = rw none tt;
     emulates = λ r. search (arith, rules);
@@ -100,8 +96,7 @@ module _ {S : Type 0} {space : S → Space} {keeps : S → S → Type 0}
       Judges InTurn (capture_in r from 0 (plain_tables from to).limit_bytes) R (space old) (space new) (Ok packets))
     where
       at_packets : Reached space keeps (Pass from to) old new (λ r m. passing_of from to packets)
-      at_packets = read_on (λ r packets m. passing_of from to packets) lasts at_capture kept
-          (λ r. capture_stays r from 0 (plain_tables from to).limit_bytes) h
+      at_packets = read_on _ lasts at_capture kept (λ r. capture_stays r from 0 _) h
 
       pub passing_judged : {may_fail : Call → S → S → Type 0} (result : Result Plan Halt) →
           IfOk result (IsPassing (plain_tables from to) packets to) →
@@ -113,13 +108,6 @@ module _ {S : Type 0} {space : S → Space} {keeps : S → S → Type 0}
       passing_judged (Err halt) is refused = computed_halts _ _ at_packets halt refused
 
 -- ## An audit: the configuration, its captures, the trace, the log, and then the ideal run
-
--- what is judged once all is read, and from each name on
-abbrev pub last : Tables → List (List Captured) → List ℕ → List ℕ → Result Aim Refusal
-last t captures trace log = ideally_sent t captures >>= (λ sent. Ok (Auditing t captures sent trace log))
-
-abbrev pub from_log : Tables → List (List Captured) → List ℕ → Contents → Result Aim Refusal
-from_log t captures trace m = text_in LongLog t.log m >>= (λ log. last t captures trace log)
 
 module _ (given : Given) (trace log : List ℕ) where
   -- what a yes says
@@ -148,16 +136,16 @@ module _ {S : Type 0} {space : S → Space} {keeps : S → S → Type 0} {old s1
     {Q : List ℕ → Type 0} {trace : List ℕ}
     (traced : Judges InTurn (text_in LongTrace given.tables.trace) Q (space s1) (space s2) (Ok trace)) where
   -- the log is left
-  pub at_log : Reached space keeps (Audit config) old s2 (λ r. from_log given.tables given.captures trace)
-  at_log = read_on (λ r. from_log given.tables given.captures) lasts (given_so asked.Audit is) kept
-      (λ r. short_stays (Audited LongTrace) _ given.tables.trace) (λ r. traced)
+  pub at_log : Reached space keeps (Audit config) old s2 (λ r m. text_in LongLog given.tables.log m >>= (λ log.
+      sent_of (λ v c sent. Auditing v c sent trace log) r given.tables given.captures m))
+  at_log = read_on _ lasts (given_so asked.Audit is) kept (λ r. short_stays _ _ given.tables.trace) (λ r. traced)
 
   module _ {s3 : S} (kept_on : keeps s2 s3) {T : List ℕ → Type 0} {log : List ℕ}
       (logged : Judges InTurn (text_in LongLog given.tables.log) T (space s2) (space s3) (Ok log)) where
     -- the ideal run is left
-    at_last : Reached space keeps (Audit config) old s3 (λ r m. last given.tables given.captures trace log)
-    at_last = read_on (λ r log m. last given.tables given.captures trace log) lasts at_log kept_on
-        (λ r. short_stays (Audited LongLog) _ given.tables.log) (λ r. logged)
+    at_last : Reached space keeps (Audit config) old s3
+        (λ r. sent_of (λ v c sent. Auditing v c sent trace log) r given.tables given.captures)
+    at_last = read_on _ lasts at_log kept_on (λ r. short_stays _ _ given.tables.log) (λ r. logged)
 
     -- where an audit passes neither the log nor the trace is denied
     pub audit_judged : {may_fail : Call → S → S → Type 0} (result : Result Plan Halt) →
@@ -166,9 +154,7 @@ module _ {S : Type 0} {space : S → Space} {keeps : S → S → Type 0} {old s1
         IsJudged space may_fail keeps InTurn (Audit config) old s3 result
     audit_judged (Ok plan) passed written halted =
         computed_plans _ _ at_last passed.ideally (passed.meets, written) (rw written tt)
-        (λ r. let trace_is = rw is.told at traced.ok in
-        let log_is = rw (traced.told, is.told) at logged.ok in
-        grind (arith, common_steps, is.read r, emulates_at given trace log r config plan passed written))
+        (λ r. grind (arith, common_steps, is.read r, emulates_at given trace log r config plan passed written))
     audit_judged (Err halt) passed written halted =
         settled at_last (Err halt) (grind (arith, common_steps)) tt (λ r. tt)
 
@@ -224,7 +210,6 @@ module _ {S : Type 0} {space : S → Space} {keeps : S → S → Type 0} {old no
         IfErr result (IsResumeHalt given.tables given.captures text) →
         IsJudged space may_fail keeps InTurn (Resume config name) old new result
     resume_judged result met refused =
-        let at = read_on (λ r text m. Ok (Resuming given.tables given.captures text)) lasts
-        (given_so (asked.Resume name) is) kept (λ r. short_stays (State stopped.Long) _ name) (λ r. read) in
+        let at = read_on _ lasts (given_so (asked.Resume name) is) kept (λ r. short_stays _ _ name) (λ r. read) in
         settled at result (grind (arith, common_steps)) (grind (arith, common_steps, recursion_from_All))
         (λ r. let found = rw is.told at read.ok in grind (arith, common_steps, goes_as, is.read r))

@@ -200,8 +200,8 @@ module _ {S : Type 0} {space : S → Space} {may_fail : Call → S → S → Typ
       (Err halt)) → keeps mid new → IsJudged space may_fail keeps p (command_asking config asked) old new (Err halt)
   captures_end {t = t} lasts read kept h kept_on = halted (asks_known config asked) (λ r. rw (asks config asked r)
       (stands_back (λ name u. (asks_any config asked name, fails_after lasts read.uncounted kept u))
-      (stands_on (λ t. both (captures_in r t) (rest_of asked r t)) (tables_stay config) stands_first read)
-      (judges_then (rest_of asked r t) (λ name u. u) (h r)))) (lasts.both old _ new kept kept_on)
+      (stands_on _ (tables_stay config) stands_first read)
+      (judges_then _ (λ name u. u) (h r)))) (lasts.both old _ new kept kept_on)
 
 -- both are there
 pub given_read : {S : Type 0} {space : S → Space} {keeps : S → S → Type 0} {config : List ℕ} {old mid new : S}

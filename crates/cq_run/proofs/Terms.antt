@@ -47,7 +47,7 @@ pub use Rattle.cq_run.specs.Parting.{IsPartText}
 pub use Rattle.cq_run.specs.Passing.{all_leave, as_it_leaves}
 pub use Rattle.cq_run.specs.Pieces.{joined, piece_text}
 pub use Rattle.cq_run.specs.Planning.{Decides, IsWithinRange, known_by, known_to}
-pub use Rattle.cq_run.specs.Plan.{audited, capture_out, checked, passed, file_alone}
+pub use Rattle.cq_run.specs.Plan.{audited, capture_out, passed, file_alone}
 unfoldable pub use Rattle.cq_run.specs.Plan.{captures_out, crossed, resumed, switched}
 pub use Rattle.cq_run.specs.Refusals.{meaning_of}
 pub use Rattle.cq_run.specs.Switching.{IsCrossed, IsCrossing, IsIdeal, IsPassing, halt_for, under_names}
@@ -55,7 +55,7 @@ pub use Rattle.cq_run.specs.Verdict.{MayRead, MayWrite, capture_in, captures_in,
 unfoldable pub use Rattle.cq_run.specs.Verdict.{captures_from}
 pub use Rattle.cq_run.specs.World.{Taken, World, taken_by}
 pub use Rattle.cq_run.specs.{declared.denial.Denial.Denial, declared.refusal.Refusal.Refusal, declared.stop.Halt.Halt}
-pub use Rattle.cq_run.specs.declared.refusal.Refusal.TheVariants.{Audit as Audited, Configuration, Missing, State, Words}
+pub use Rattle.cq_run.specs.declared.refusal.Refusal.TheVariants.{Configuration, Missing, Words}
 pub use Rattle.cq_run.specs.declared.stop.Halt.TheVariants.{NoMemory, Refused, Unread}
 pub use Rattle.cq_run.specs.Terms.{IsAuditHalted, IsAuditPassed, IsCut, IsCutAtFile, IsDone, IsJudged, Plan, Reader, SameReader, Spells, StatusCauses, all_replaced, log_of, soak_captures, soak_tables, taken, trace_of}
 pub use Rattle.cq_base.proofs.Each.{all_back, all_both, all_weaker}
