@@ -1,7 +1,7 @@
 -- A switch of one port sends each cell in the slot in which it comes. Cells come one after another, at most one in a
 -- slot. So no cell waits when a slot begins; the cell that comes is alone in the one list, and leaves.
 -- The departures are the arrivals, and every packet leaves with its last cell, which alone is marked as last.
-use Rattle.cq_run.proofs.Terms.{common_steps, ◌≡◌, ℕ, zero, suc, ◌+◌, ◌≤◌, Bool, List, [], ◌∷◌, map, replicate, Option, Some, None, Ok, refl, sym, arith, rules, ◌-◌, ◌*◌, flat_map, ◌==◌, append-nil, AllByRecursion, range_with_len, filter, cases_eq, eq-eqb, Arrival, arriving, arriving_at, end_of, enough, Departure, filter-append, arrivals, arrivals_at, arrivals_of, cell_of, cells, t0_of, packet_at, start, IsInRange, IsLater, IsTraffic, traffic_is, all_weaker, run_as_before, same_sent, Captured, AreTables, classes_of, ports_of, Tables, machines_of, openings_of, ideal_departures, ran_ideal, ends_packet_at, leaving, packets_out, all_leave, as_it_leaves, ne_eqb, Cell, Queued, Machine, arriving_is, first_slot, ranked_none, NoLimits, all_slots, before_end, OutPacket, one_is, most_ports, EachPair, all_both, ◌++◌, length, ap}
+use Rattle.cq_run.proofs.Terms.{common_steps, ◌≡◌, ℕ, zero, suc, ◌+◌, ◌≤◌, Bool, List, [], ◌∷◌, map, replicate, Option, Some, None, Ok, refl, sym, arith, rules, ◌-◌, ◌*◌, flat_map, ◌==◌, append-nil, AllByRecursion, range_with_len, filter, cases_eq, eq-eqb, Arrival, arriving, arriving_at, end_of, enough, Departure, filter-append, arrivals, arrivals_at, arrivals_of, cell_of, cells, t0_of, packet_at, start, IsInRange, IsLater, IsTraffic, traffic_is, all_weaker, run_as_before, same_sent, Captured, AreTables, classes_of, ports_of, Tables, machines_of, openings_of, ideal_departures, ran_ideal, ends_packet_at, leaving, packets_out, all_leave, as_it_leaves, ne_eqb, Cell, Queued, Machine, arriving_is, first_slot, ranked_none, NoLimits, all_slots, before_end, OutPacket, one_is, most_ports, EachPair, all_both, ◌++◌, length}
 use Rattle.cq_base.proofs.{Each.filter_all, Each.filter_none, Pooled.each_pair}
 use Rattle.cq_base.proofs.Library.{filter_agree, le-leb, lt-leb, map-append}
 use Rattle.cq_cells.proofs.Pieces.{cells_above}
@@ -148,8 +148,7 @@ module _ (t : Tables) (captures : List (List Captured)) where
       let some = cells_above (length (packet_at captures 0 k).body) t.cell_bytes in
       let marked : (i : ℕ) → (arrival_of k i).cell.last ≡ (i == n - 1) =
       search (arith, rules, cases_eq, eq-eqb, ne_eqb) in
-      let one = one_is (n - 1) 0 n (omega arith) (omega arith) in
-      rw (filter_images, filter_agree _ _ marked) (ap (λ is. map (arrival_of k) is) one)
+      simp (filter_images, filter_agree _ _ marked, one_is (n - 1) 0 n (omega arith) (omega arith))
 
 module _ (t : Tables) (packets : List Captured) where
   abbrev one : List (List Captured)

@@ -36,8 +36,11 @@ module _ {S : Type 0} {space : S → Space} {may_fail : Call → S → S → Typ
       IfErr result (IsHaltOf (ideally_sent (soak_tables ports) (soak_captures seed ports slots))) →
       IsJudged space may_fail keeps InTurn (Soak seed ports slots) s s result
   soak_judged (Ok plan) meets none is halts = record {
-    judges = λ r. (Reporting (soak_tables ports) (soak_captures seed ports slots), meets,
-        judges_computed closed (grind (arith, common_steps)));
+    judges = λ r. (
+      Reporting (soak_tables ports) (soak_captures seed ports slots),
+      meets,
+      judges_computed closed (grind (arith, common_steps)),
+    );
     kept = kept;
     names = rw none tt;
     emulates = λ r. search (arith, rules);

@@ -131,11 +131,9 @@ module _ {S : Type 0} {space : S → Space} {may_fail : Call → S → S → Typ
       ((r : Reader) → Judges p (j r) R (space mid) (space new) (Err halt)) →
       ((name : List ℕ) → R name → MayRead command name × Fails space may_fail keeps (Reads name) mid new) →
       IsJudged space may_fail keeps p command old new (Err halt)
-  read_ends {mid = mid} f lasts reached kept {R} {halt} h i =
-      let since : (name : List ℕ) → R name → Failed space may_fail keeps command old new name =
-      search (arith, rules, fails_after, (reached.stands from_front).uncounted) in
-      halted reached.knows (λ r. stands_back since (reached.stands r) (judges_then (f r) (λ name u. u) (h r)))
-      (lasts.both old mid new reached.kept kept)
+  read_ends f lasts reached kept h i = halted reached.knows (λ r. stands_back
+      (λ name u. (search (arith, rules, i, fails_after, (reached.stands from_front).uncounted))) (reached.stands r)
+      (judges_then (f r) (λ name u. u) (h r))) (search (rules, lasts.both, reached.kept))
 
   -- memory runs out
   pub no_memory : {rest : Reader → Contents → Result Aim Refusal} → Reached space keeps command old new rest →
