@@ -35,18 +35,15 @@ module _ {S : Type 0} {space : S → Space} {may_fail : Call → S → S → Typ
       IfOk result (λ _. IsOk (ideally_sent (soak_tables ports) (soak_captures seed ports slots))) →
       IfErr result (IsHaltOf (ideally_sent (soak_tables ports) (soak_captures seed ports slots))) →
       IsJudged space may_fail keeps InTurn (Soak seed ports slots) s s result
-  soak_judged (Ok plan) meets none is halts = record {
-    judges = λ r. (
-      Reporting (soak_tables ports) (soak_captures seed ports slots),
-      meets,
-      judges_computed closed (grind (arith, common_steps)),
-    );
-    kept = kept;
-    names = rw none tt;
-    emulates = λ r. search (arith, rules);
-    closed = closed;
-    told = refl;
-  }
+  soak_judged (Ok plan) meets none is halts =
+      let aim = Reporting (soak_tables ports) (soak_captures seed ports slots) in record {
+        judges = λ r. (aim, meets, judges_computed closed (grind (arith, common_steps)));
+        kept = kept;
+        names = rw none tt;
+        emulates = λ r. search (arith, rules);
+        closed = closed;
+        told = refl;
+      }
   soak_judged (Err halt) meets none is halts = search (arith, rules, judges_computed_err)
 
 -- ## Judging a configuration, its captures, and then what the ideal switch sends of them
