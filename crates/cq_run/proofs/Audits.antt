@@ -13,6 +13,7 @@ use Rattle.cq_run.proofs.TextRead.{text_is}
 
 -- ## The configuration was accepted
 
+-- so no two names of its tables clash
 apart_at : (config : List ℕ) (o : Option (List ℕ)) (t : Tables) →
     (found_or_missing config o >>= (λ (bytes : List ℕ). read_or_refused_for (read_or_refused bytes))) ≡ Ok t →
     ArePairs (files_in t)

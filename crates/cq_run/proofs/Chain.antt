@@ -17,7 +17,7 @@ pub name_after : (pace : Pace) (R S : List ℕ → Type 0) (old mid new : ℕ) �
     → mid ≡ old → Uncounted pace (AnyName R) mid new → Uncounted pace (AnyName S) old new
 name_after pace R S old mid new i e h = grind (arith, common_steps)
 
--- what judging ahead came to tells it
+-- what judging ahead came to tells the count of faults
 pub counts_of : {A : Type 0} (j : Contents → Result A Refusal) (R : List ℕ → Type 0) (old new : Space)
     (result : Result A Halt) → Judges Ahead j R old new result → Uncounted Ahead (AnyName R) old.faults new.faults
 counts_of j R old new result h = grind (arith, common_steps)
