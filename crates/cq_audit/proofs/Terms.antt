@@ -52,11 +52,11 @@ pub use Rattle.cq_audit.specs.Terms.{AreInOrder, Cell, Comes, FirstIsLeast, IsLo
 pub use Rattle.cq_base.proofs.Each.{all_both, all_front, all_weaker, all_back, all_give, all_made, filter_all, filter_none}
 pub use Rattle.cq_base.specs.declared.cell.CellId.{CellId}
 pub use Rattle.cq_scfq.specs.Discipline.{machine_from}
-pub use Rattle.cq_ideal.proofs.{FlowFound.all_found, LimitedParts.limited_parts, LimitedRuns.run_fault, Resting.length-idle, Sending.length-told, Slot.by_marks}
+pub use Rattle.cq_ideal.proofs.{FlowCount.all_found, LimitedParts.limited_parts, LimitedRuns.run_fault, Resting.length-idle, Sending.length-told, Slot.by_marks}
 pub use Rattle.cq_ideal.specs.{IdealSlot.fronts, Limiter.ComeToPorts, Limiter.LimiterView, Parts.RanksView}
 pub use Rattle.cq_lines.specs.{Lines.ending, Lines.BeginsWith}
 pub use Rattle.cq_lines.proofs.{Spelling.one_number, Walk.ending_ends, Walk.one_ending}
-pub use Rattle.cq_laws.proofs.{Came.came_from, Held.nothing_for, InputBest.stable_limited_too, Joined.all_go_on, KeptParts.transfers_both, KeptParts.transfers_one, LimitedSlots.same_limited_fault, LimitedWhole.begin, LimitedWhole.same_limited_run, QuietSlots.quiet_transfers, Rises.sender}
+pub use Rattle.cq_laws.proofs.{Came.came_from, Held.nothing_for, InputBest.stable_limited_too, Parted.all_go_on, Parted.transfers_both, Parted.transfers_one, LimitedSlots.same_limited_fault, LimitedWhole.begin, LimitedWhole.same_limited_run, QuietSlots.quiet_transfers, AfterTransfer.sender}
 pub use Rattle.cq_laws.specs.{Agreement.SendsAlike, Holding.held_for, LimitedAgreement.LimitedAgrees, LimitedAgreement.LimitedRunsAlike, Quiet.idled}
 pub use Rattle.cq_fabric.specs.Held.{HoldsFabric}
 pub use Rattle.cq_fabric.proofs.{Kept.limited_lists_kept, Kept.limited_outputs_kept, Known.AreRanked, Known.BuffersHaveRoom, Known.HaveArrived, Known.HaveJudged, Known.HaveMoved, Known.HaveSent, Rested.rested_agrees, Rested.rested_limited_run, Rested.still_held}
@@ -64,4 +64,4 @@ pub use Rattle.cq_traffic.specs.{Rooms.rooms_of, Stretch.IsQuietUntil}
 pub use Rattle.cq_traffic.proofs.{ToOutputs.come_for, ToOutputs.for_here, ToOutputs.for_last, ToOutputs.no_more_to}
 pub use Rattle.cq_base.proofs.{Having.all_from_has, Having.all_of_has, Pooled.looked_up, Pooled.pairs_looked_up, Pooled.pairs_joined}
 pub use Rattle.cq_base.specs.Items.{EachPair, Has}
-pub use Rattle.cq_laws.proofs.{AfterArrivals.came_or_was, Members.from_first, Members.was_waiting}
+pub use Rattle.cq_laws.proofs.{AfterTransfer.came_or_was, Sound.from_first, Sound.was_waiting}

@@ -27,7 +27,7 @@ pub use Rattle.cq_laws.specs.Measures.{either_by, no_figures}
 unfoldable pub use Rattle.cq_laws.specs.Measures.{figures_after, input_after, output_after, proposals_in, slack_on_arrival, slacks}
 pub use Rattle.cq_laws.specs.Phases.{came_to}
 pub use Rattle.cq_laws.specs.{Agreement.SendsAlike, Places.NoKeyTwice, Places.Waiting, declared.frozen.Frozen.Frozen}
-pub use Rattle.cq_laws.proofs.{IdealOf.agrees_of, LeastRun.more_at_first, LeastSlack.by_arrivals, LeastSlack.more_after, QuietSlots.empty_is}
+pub use Rattle.cq_laws.proofs.{IdealOf.agrees_of, LeastSlack.more_at_first, LeastSlack.by_arrivals, LeastSlack.more_after, QuietSlots.empty_is}
 pub use Rattle.cq_fabric.proofs.Changed.{IsChangedTo, at-by_place, length-by_place, next_changed, next_kept, still_few}
 pub use Rattle.cq_fabric.proofs.Known.{AreRanked, BuffersHaveRoom, HaveArrived, HaveJudged, HaveMoved, HaveSent, ListsHaveRoom}
 pub use Rattle.cq_fabric.proofs.Limits.{admits_are, admitted_room, held_at, held_long, holds_first, numbers_fit, still_holds}

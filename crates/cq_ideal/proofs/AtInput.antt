@@ -1,14 +1,137 @@
+-- Each cell stands at the place of the input that its id names, in each slot of a run, and among the admitted ones
+-- too. So of the cells that are refused in a slot only the one at the place of an input is of that input, and it is
+-- refused where the mark is up.
+-- The cells that arrive at an input from a slot on, slot by slot, are its arrivals of these slots in their order. In a
+-- slot the input's place shows what is found there; and the arrivals at one input rise in their slots, so where the
+-- first is taken off the list every later slot shows the same.
 -- What arrives in the slots of a run, slot by slot, is what was to arrive, in its order: the cells that come to an
 -- input, and those of a flow. At the place of the flow's input stand all its cells of a slot, so they are among the
 -- cells that come to the input.
-use Rattle.cq_ideal.proofs.Terms.{filter_all, all_from_has, le-ltb, rules, common_steps, ◌≡◌, ℕ, zero, suc, ◌+◌, ◌<◌, List, [], ◌∷◌, Option, refl, ⊎_elim, arith, AllByRecursion, cases_lt, get_or_past, unwrap_or-slice_get, Cell, Arrival, enough, traffic_of, arrival_at, RiseByInput, came_in_flow, came_at, cells_at, most_ports, all_weaker, IsRunnable, IsForSwitch, Machine}
-use Rattle.cq_ideal.proofs.Ends.{all_slots}
-use Rattle.cq_ideal.proofs.FlowFound.{cell_listed, found, found_none, length-arriving, listed_same}
-use Rattle.cq_ideal.proofs.FlowRank.{present}
+use Rattle.cq_ideal.proofs.Terms.{filter_all, all_from_has, le-ltb, rules, common_steps, ◌≡◌, ℕ, zero, suc, ◌+◌, ◌<◌, List, [], ◌∷◌, Option, refl, ⊎_elim, arith, AllByRecursion, cases_lt, get_or_past, unwrap_or-slice_get, Cell, Arrival, enough, traffic_of, arrival_at, RiseByInput, came_in_flow, came_at, cells_at, most_ports, all_weaker, IsRunnable, IsForSwitch, Machine, ◌≤◌, not, ◌++◌, Bool, None, map, ◌==◌, nat_lt, filter, cond_both, cases_eq, eq-eqb, lt-ltb, get_or-map-range_with_len, arriving, arriving_at, end_of, all_by, arriving_from, all_made, Some, range_with_len, and_parts, eqb-true, cond-true, filter-append, Admission, admitted, mark_at, refused, where_up, refused_in, AreJudged}
+use Rattle.cq_ideal.proofs.Parted.{all_slots}
+use Rattle.cq_ideal.proofs.FlowCount.{cell_listed, found, found_none, length-arriving, listed_same, before_end, found_here, listed, other_input, other_slot}
+use Rattle.cq_ideal.proofs.FlowStands.{present, is_of_flow, of_flow}
 use Rattle.cq_ideal.proofs.FlowRun.{flow_came}
-use Rattle.cq_ideal.proofs.FlowStands.{is_of_flow, of_flow}
-use Rattle.cq_ideal.proofs.RestAtInput.{IsShown, comes_shown, is_shown}
-use Rattle.cq_ideal.proofs.Standing.{StandAt, all_stand}
+use Rattle.cq_ideal.proofs.Admitted.{its_marks}
+use Rattle.cq_ideal.proofs.Packets.{refused_here}
+
+-- each cell stands at the place of its input, from this input on
+abbrev pub StandAt : ℕ → List (Option Cell) → Type 0
+StandAt a [] = Unit {0}
+StandAt a (None ∷ cells) = StandAt (a + 1) cells
+StandAt a (Some cell ∷ cells) = (cell.id.input ≡ a) × StandAt (a + 1) cells
+
+pub still_stand : (a : ℕ) (marks : List Bool) (cells : List (Option Cell)) → StandAt a cells →
+    StandAt a (admitted marks cells)
+still_stand a [] cells at = at
+still_stand a (mark ∷ marks) cells at = grind (arith, common_steps, still_stand (a + 1) marks)
+
+-- ## In a run
+
+own_place : (t a : ℕ) (cells : List (Option Cell)) (came : List Arrival) → StandAt (a + 1) cells →
+    StandAt a (arriving_at came t a ∷ cells)
+own_place t a cells [] at = at
+own_place t a cells (x ∷ came) at = grind (arith, common_steps, eqb-true, and_parts, own_place t a cells came at)
+
+stand_arriving : (came : List Arrival) (t a n : ℕ) → StandAt a (map (arriving_at came t) (range_with_len a n))
+stand_arriving came t a zero = tt
+stand_arriving came t a (suc n) = own_place t a _ came (stand_arriving came t (a + 1) n)
+
+pub stand_in : (came : List Arrival) (a n : ℕ) → AllByRecursion (StandAt 0) (map (arriving came) (range_with_len a n))
+unfolding arriving
+stand_in came a n = all_made _ (arriving came) a n (λ t _ _. stand_arriving came t 0 most_ports)
+
+pub all_stand : (came : List Arrival) → AllByRecursion (StandAt 0) (traffic_of came)
+unfolding traffic_of
+all_stand came = stand_in came 0 (enough came)
+
+-- ## What is refused at an input
+
+module _ (i : ℕ) where
+  -- the cells of this input
+  abbrev pub of_input : List Cell → List Cell
+  of_input cells = filter (λ cell. cell.id.input == i) cells
+
+  none_refused_past : (a : ℕ) (marks : List Bool) (cells : List (Option Cell)) → StandAt a cells → i < a →
+      of_input (refused marks cells) ≡ []
+  none_refused_past a [] cells at lt = refl
+  none_refused_past a (mark ∷ marks) cells at lt = grind (arith, common_steps, refused, none_refused_past (a + 1) marks)
+
+  refused_at_place : (a k : ℕ) (marks : List Bool) (cells : List (Option Cell)) → StandAt a cells → i ≡ a + k →
+      of_input (refused marks cells) ≡ cell_listed (where_up (mark_at marks k) (arrival_at cells k))
+  refused_at_place a k [] cells at e = refl
+  refused_at_place a zero marks cells at e = search (arith, rules, none_refused_past, cond-true, of_input, refused, eq-eqb)
+  refused_at_place a (suc k) marks cells at e = grind (arith, common_steps, refused_at_place (a + 1) k)
+
+  pub refused_are : (limits : List (Option ℕ)) (marks : List Bool) (traffic : List (List (Option Cell)))
+      (admissions : List Admission) → AreJudged limits marks traffic admissions → AllByRecursion (StandAt 0) traffic →
+      of_input (refused_in admissions) ≡ refused_here limits i traffic admissions
+  refused_are limits marks [] admissions judged at = grind (arith, common_steps)
+  refused_are limits marks (cells ∷ traffic) [] judged at = absurd judged
+  refused_are limits marks (cells ∷ traffic) (a ∷ admissions) judged at =
+      let is = its_marks limits marks cells a judged.0 in
+      let rest = refused_are limits a.marks traffic admissions judged.1 at.1 in
+      grind (arith, common_steps, filter-append, refused_at_place 0 i a.marks cells, listed, rest)
+
+-- ## The arrivals at an input
+
+-- the arrivals at input i
+abbrev pub line_at : ℕ → List Arrival → List Arrival
+line_at i came = filter (λ a. a.cell.id.input == i) came
+
+-- whether the arrival is not before this slot
+abbrev pub is_from_on : ℕ → Arrival → Bool
+is_from_on from a = not (nat_lt a.slot from)
+
+abbrev pub rest_of : ℕ → List Arrival → List Arrival
+rest_of from line = filter (is_from_on from) line
+
+abbrev pub cells_of : List Arrival → List Cell
+cells_of line = map (λ (a : Arrival). a.cell) line
+
+-- where all that is still to come at the input is later, nothing is found earlier
+no_earlier : (i : ℕ) (a : Arrival) (came : List Arrival) (t : ℕ) →
+    AllByRecursion (λ b. b.cell.id.input ≡ i → a.slot < b.slot) came → t < a.slot + 1 → found came t i ≡ []
+no_earlier i a came t later l = grind (arith, common_steps, found_none came t i, all_weaker)
+
+later_on : (i : ℕ) (a : Arrival) (came : List Arrival) → RiseByInput (a ∷ came) → a.cell.id.input ≡ i →
+    AllByRecursion (λ b. b.cell.id.input ≡ i → a.slot < b.slot) came
+later_on i a came rise same = let later = λ (t : ℕ). rise zero (suc t) a in search (arith, rules, all_by, later)
+
+-- of the line of an input, what is found in a slot stands in front of what is later
+found_first : (i t : ℕ) (came : List Arrival) → RiseByInput came →
+    cells_of (rest_of t (line_at i came)) ≡ found came t i ++ cells_of (rest_of (t + 1) (line_at i came))
+unfolding found
+found_first i t [] rise = refl
+found_first i t (a ∷ came) rise =
+    let rest = found_first i t came (λ s t x y at_s at_t l. rise (suc s) (suc t) x y at_s at_t (omega arith)) in
+    let none = λ (same : a.cell.id.input ≡ i). no_earlier i a came t (later_on i a came rise same) in
+    grind (arith, common_steps, other_input, other_slot, found_here, cases_lt, cases_eq, eq-eqb, lt-ltb, le-ltb, none)
+
+all_past : (i t : ℕ) (came : List Arrival) → AllByRecursion (λ a. a.slot < t) came → rest_of t (line_at i came) ≡ []
+all_past i t [] before = refl
+all_past i t (a ∷ came) before = grind (arith, common_steps, cond_both, lt-ltb, all_past i t came before.1)
+
+-- the place of the input shows what arrives there, in each slot
+abbrev pub IsShown : List Arrival → ℕ → Type 0
+IsShown came i = (t : ℕ) → arrival_at (arriving came t) i ≡ arriving_at came t i
+
+pub is_shown : (i : ℕ) → i < most_ports → (came : List Arrival) → IsShown came i
+unfolding arriving
+is_shown i inside came t =
+    let at = get_or-map-range_with_len (arriving_at came t) 0 most_ports i i None inside (omega arith) in
+    search (rules, unwrap_or-slice_get, at)
+
+pub comes_shown : (i : ℕ) (came : List Arrival) → IsShown came i → (from slots : ℕ) → RiseByInput came →
+    end_of came ≤ from + slots → cells_at i (arriving_from came from slots) ≡ cells_of (rest_of from (line_at i came))
+unfolding arriving_from found
+comes_shown i came shown from zero rise all = grind (arith, common_steps, all_past i, before_end came, all_weaker)
+comes_shown i came shown from (suc n) rise all =
+    search (arith, rules, found_first, listed, cell_listed, comes_shown i came shown (from + 1) n rise)
+
+pub comes_from : (i : ℕ) → i < most_ports → (came : List Arrival) (from slots : ℕ) → RiseByInput came →
+    end_of came ≤ from + slots → cells_at i (arriving_from came from slots) ≡ cells_of (rest_of from (line_at i came))
+comes_from i inside came = comes_shown i came (is_shown i inside came)
 
 -- ## The cells that come to an input
 

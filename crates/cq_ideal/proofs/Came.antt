@@ -5,7 +5,7 @@
 -- the others. The definition puts them all into the lists; the code puts one after another: putting the first cell,
 -- and then the others, is putting them all, and where a list has room for all of them it has for each in turn.
 use Rattle.cq_ideal.proofs.Terms.{rules, ◌≡◌, ℕ, zero, suc, ◌+◌, List, [], ◌∷◌, length, get_or, Option, Some, None, Result, Ok, arith, length-set, common_steps, same_Some, Cell, Queued, TagFault, arrival_at, Machine, CameToPorts, Ranking, ranking, after_input, AreForPorts, ◌≤◌, replicate, refl, ◌<◌, AllByRecursion, append_assoc, cond_both, cases_lt, other_key_newest, filled, put_all, rests, AllArrivedBefore, HaveOwnKeys, all_put, get_or-map, get_or_past, ◌++◌, map, set, take, drop, Err, get_or-set_other, ext_get_or, get_or-drop, length-drop, length-replicate, take-append-drop, take_more_set, unwrap_or-slice_get, RanksView, after_inputs, length-map, drop_more, CanPut, QueuesView, FitTogether, HaveRoomFor, with_came, length_put, all_weaker, most_ports}
-use Rattle.cq_ideal.proofs.FlowRank.{after_input_ok, fits_ok}
+use Rattle.cq_ideal.proofs.FlowStands.{after_input_ok, fits_ok}
 use Rattle.cq_ideal.proofs.Waiting.{filled_at, filled_next, length-filled, filled_none, one_put}
 use Rattle.cq_ideal.proofs.Changed.{same_at}
 

@@ -7,7 +7,7 @@ use Rattle.cq_ideal.proofs.Terms.{rules, ◌≡◌, ◌≢◌, ℕ, zero, suc, �
 use Rattle.cq_ideal.specs.Taking.{HasJudged}
 use Rattle.cq_ideal.proofs.Refusals.{count_both, zero_from}
 use Rattle.cq_ideal.proofs.Changed.{at_place, changed_to, next_place}
-use Rattle.cq_ideal.proofs.FlowFound.{cell_listed}
+use Rattle.cq_ideal.proofs.FlowCount.{cell_listed}
 use Rattle.cq_ideal.proofs.Came.{from_input, none_beyond}
 
 -- ## One cell

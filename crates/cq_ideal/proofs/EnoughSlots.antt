@@ -5,12 +5,11 @@
 -- as many slots.
 use Rattle.cq_ideal.proofs.Terms.{◌≡◌, ℕ, zero, suc, ◌≤◌, Bool, List, [], ◌∷◌, length, drop, Option, refl, ap, arith, ◌+◌, replicate, Result, Ok, common_steps, IfOk, Cell, Arrival, traffic_of, arriving, enough, Machine, Admission, admitted, admitted_in, empty_limited, limited_run, AreJudged, TagFault, no_arrivals, IdealState, IsEmptyIdeal, Ran, ideal_run, empty_ideal, most_ports, rules, All-replicate}
 use Rattle.cq_ideal.proofs.Admitted.{its_marks}
-use Rattle.cq_ideal.proofs.Ends.{none_waits, nothing_left}
+use Rattle.cq_ideal.proofs.Parted.{none_waits, nothing_left, first_slot}
 use Rattle.cq_ideal.proofs.FlowCount.{none_arrive, come_count-traffic_of, length-traffic_of, quiet_at_end}
-use Rattle.cq_ideal.proofs.FlowRank.{present, only_ok}
+use Rattle.cq_ideal.proofs.FlowStands.{present, only_ok}
 use Rattle.cq_ideal.proofs.FlowRun.{come_count}
 use Rattle.cq_ideal.proofs.LimitedRuns.{is_run_of, judged}
-use Rattle.cq_ideal.proofs.Parted.{first_slot}
 use Rattle.cq_ideal.proofs.Waiting.{counted, waiting}
 
 -- Where after some slot nothing comes any more, and as many slots follow as cells came in all, each of these takes

@@ -3,9 +3,9 @@
 -- empty. And what came in the slots is the flow's arrivals in their order. At what is no port nothing leaves, and
 -- nothing comes for it.
 use Rattle.cq_ideal.proofs.Terms.{all_made, common_steps, ◌≡◌, ℕ, ◌<◌, ◌≤◌, List, [], ◌∷◌, length, map, Option, Ok, refl, ⊎_elim, arith, slice_index_or, All, AllByRecursion, range_with_len, cases_lt, ne_eqb, and_left, cond-false, append-nil, length-replicate, get_or-replicate, get_or_past, Cell, Queued, Arrival, arriving, enough, traffic_of, Machine, machine_at, IsEmptyIdeal, Ran, ideal_run, empty_ideal, departures_of, left_in_flow, came_in_flow, IsForSwitch, IsRunnable, FlowsLeaveAsTheyCame, all_weaker, most_ports, rules}
-use Rattle.cq_ideal.proofs.FlowRank.{present, AreOfClasses}
+use Rattle.cq_ideal.proofs.FlowStands.{present, AreOfClasses}
 use Rattle.cq_ideal.proofs.FlowRun.{flow_came, passed, no_port}
-use Rattle.cq_ideal.proofs.FlowFound.{all_found, all_present, arriving_is}
+use Rattle.cq_ideal.proofs.FlowCount.{all_found, all_present, arriving_is}
 use Rattle.cq_ideal.proofs.AtInput.{came_in_order}
 use Rattle.cq_ideal.proofs.EnoughSlots.{empty_at_end}
 

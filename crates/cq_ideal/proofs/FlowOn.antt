@@ -5,13 +5,11 @@
 -- what leaves of a flow is what came of it, but for the packets that were refused, with all their cells.
 use Rattle.cq_ideal.proofs.Terms.{arith, rules, ◌≡◌, ◌∙◌, ℕ, ◌<◌, Bool, List, [], ◌∷◌, ◌++◌, length, filter, Option, Ok, refl, ap, common_steps, slice_index_or, AllByRecursion, append-nil, Cell, KeepsLaws, Machine, machine_at, Admission, Marked, admission, admitted, admitted_in, mark_at, left_in_flow, departures_of, IdealState, IsEmptyIdeal, LimitedRan, limited_run, AreJudged, AreOfPackets, cells_at, not, Arrival, traffic_of, IsRunnable, came_in_flow, empty_limited, refused_in}
 use Rattle.cq_ideal.proofs.FlowLaw.{empty_at, classes, left_as_came, none_came}
-use Rattle.cq_ideal.proofs.AtInput.{came_in_order, comes_at_input}
-use Rattle.cq_ideal.proofs.FlowRank.{AreOfClasses, present}
+use Rattle.cq_ideal.proofs.AtInput.{came_in_order, comes_at_input, StandAt, still_stand, all_stand, of_input, refused_are}
+use Rattle.cq_ideal.proofs.FlowStands.{AreOfClasses, present, Stands, of_flow, shown}
 use Rattle.cq_ideal.proofs.FlowRun.{flow_came, passed}
-use Rattle.cq_ideal.proofs.FlowStands.{Stands, of_flow, shown}
 use Rattle.cq_ideal.proofs.LimitedRuns.{is_run_of, judged}
 use Rattle.cq_ideal.proofs.Packets.{TakenOrRefused, refused_here, taken_or_refused}
-use Rattle.cq_ideal.proofs.Standing.{StandAt, still_stand, all_stand, of_input, refused_are}
 use Rattle.cq_ideal.specs.LimitedFlows.{FlowsLeaveInPackets, LeaveInPackets}
 use Rattle.cq_ideal.proofs.EnoughSlots.{limited_empty_at_end}
 

@@ -1,7 +1,7 @@
 -- The slots of departures: no departure of a run is behind its slots. And in the slot of the last arrival a cell comes.
 use Rattle.cq_ideal.proofs.Terms.{rules, ◌≡◌, ℕ, ◌+◌, ◌<◌, ◌≤◌, List, [], ◌∷◌, ◌++◌, length, Option, Some, ⊎_elim, arith, common_steps, max, AllByRecursion, cases_eq, cases_lt, eq-eqb, Arrival, arriving, end_of, Cell, Departure, Queued, Machine, slots_of, IsForSwitch, count_for, departures_of, departures_from, departures_in, arrival_at, most_ports}
-use Rattle.cq_ideal.proofs.RestAtInput.{is_shown}
-use Rattle.cq_ideal.proofs.FlowFound.{found, found_here, listed_same, other_slot}
+use Rattle.cq_ideal.proofs.AtInput.{is_shown}
+use Rattle.cq_ideal.proofs.FlowCount.{found, found_here, listed_same, other_slot}
 
 -- ## The slots of departures
 

@@ -5,15 +5,10 @@ pub mod Came
 pub mod Admitted
 pub mod LimitedRuns
 pub mod Packets
-pub mod Standing
 pub mod EnoughSlots
 pub mod FlowCount
-pub mod FlowFound
 pub mod FlowLaw
-pub mod FlowPut
-pub mod FlowRank
 pub mod FlowRun
-pub mod FlowSlot
 pub mod FlowStands
 pub mod AtInput
 pub mod Refusals
@@ -22,7 +17,6 @@ pub mod Sending
 pub mod Slot
 pub mod Waiting
 pub mod Parted
-pub mod Ends
 pub mod LastSlot
 pub mod Resting
 pub mod LimitedParts
@@ -30,4 +24,3 @@ pub mod LimitedEnds
 pub mod LimitedLast
 pub mod EachLeaves
 pub mod FlowOn
-pub mod RestAtInput

@@ -2,11 +2,10 @@
 -- so there is a least number of slots after which no cell is to come and none waits, and from there on the slots send
 -- nothing. A switch without limits is one with limits that refuses nothing, so its run ends where that one's does.
 use Rattle.cq_ideal.proofs.Terms.{rules, ◌≡◌, ℕ, ◌+◌, ◌-◌, ◌<◌, ◌≤◌, Bool, true, false, List, [], ◌++◌, length, Option, Result, Ok, Err, refl, sym, ap, ◌∙◌, subst, arith, common_steps, flat_map-append, IsOkAnd, position_or_len, range_with_len, cases_lt, append-nil, get_or-range_with_len, length-range_with_len, fails_before_first, passes_at_first, prefix_len-le-length, Arrival, Cell, end_of, enough, traffic_of, TagFault, Machine, Marked, NoLimits, marked, marks_down, IdealEnds, arriving_from, first_slots, is_over, slots_of_run, whole_ideal_run, IsEmptyIdeal, Ran, departures_of, departures_ran, empty_ideal, ideal_run, IdealState, LimitedIdealEnds, departures_limited, slots_of_limited_run, whole_limited_run, LimitedRan, empty_limited, limited_run, unlimited, refused_in, and_from, le-leb, list_all-from_AllPass, eq-eqb}
-use Rattle.cq_ideal.proofs.Ends.{all_slots, none_waits, over_from_test}
+use Rattle.cq_ideal.proofs.Parted.{all_slots, none_waits, over_from_test, arriving_length, arriving_parts, departures_append, sends_long}
 use Rattle.cq_ideal.proofs.EnoughSlots.{no_more, limited_empty_at_end}
 use Rattle.cq_ideal.proofs.LimitedParts.{limited_going_on, limited_parts, limited_stays_empty}
 use Rattle.cq_ideal.proofs.LimitedRuns.{as_limited, is_run_of, judged, none_refused_in, none_refused_ran, run_of_all, run_of_none}
-use Rattle.cq_ideal.proofs.Parted.{arriving_length, arriving_parts, departures_append, sends_long}
 
 -- the run without what is said of limits
 abbrev pub state_ran : LimitedRan → Ran

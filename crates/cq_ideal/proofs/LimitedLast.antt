@@ -3,12 +3,11 @@
 -- one departs in it. Without limits a cell departs in the slot of the last arrival too, so the last departure is in the
 -- last slot.
 use Rattle.cq_ideal.proofs.Terms.{common_steps, rules, ◌≡◌, ℕ, zero, suc, ◌+◌, ◌-◌, ◌<◌, ◌≤◌, List, [], ◌∷◌, length, Option, Ok, sym, ap, ◌∙◌, ⊎_elim, arith, max, slice_index_or, count_for, AllByRecursion, cases_lt, length-replicate, Arrival, arriving, end_of, Cell, Queued, Machine, admitted_in, arriving_from, first_slots, slots_of, slots_of_run, whole_ideal_run, IsForSwitch, Ran, departures_of, empty_ideal, ideal_run, IdealState, departures_in, slots_of_limited_run, whole_limited_run, LimitedRan, empty_limited}
-use Rattle.cq_ideal.proofs.Ends.{nothing_left}
-use Rattle.cq_ideal.proofs.FlowRank.{only_ok}
+use Rattle.cq_ideal.proofs.Parted.{nothing_left, arriving_here, arriving_length, departures_append, first_slot}
+use Rattle.cq_ideal.proofs.FlowStands.{only_ok}
 use Rattle.cq_ideal.proofs.LastSlot.{comes, counted_in, slots_in, slots_of-append, slots_within}
 use Rattle.cq_ideal.proofs.LimitedEnds.{at_ok, cut_at, gone_long, limited_over_at_end, limited_test, not_before, run_to, slots_as_before, state_ran, whole_as}
 use Rattle.cq_ideal.proofs.LimitedRuns.{is_run_of}
-use Rattle.cq_ideal.proofs.Parted.{arriving_here, arriving_length, departures_append, first_slot}
 use Rattle.cq_ideal.proofs.Waiting.{counted, waiting}
 
 -- ## One slot

@@ -3,8 +3,7 @@
 use Rattle.cq_ideal.proofs.Terms.{◌≡◌, ℕ, ◌+◌, ◌≤◌, Bool, List, [], ◌∷◌, ◌++◌, length, replicate, Option, Result, Ok, Err, refl, arith, zero, suc, None, no_arrivals, Arrival, end_of, Cell, Queued, TagFault, Machine, Admission, Marked, marked, nothing_refused, arriving_from, departures_of, empty_ideal, IdealState, departures_from, departures_in, LimitedRan, limited_run, nothing_came, refused_in, common_steps, rules}
 use Rattle.cq_ideal.proofs.LimitedRuns.{goes_on, rest_refuses_none}
 use Rattle.cq_ideal.proofs.Resting.{all_empty, idle_run}
-use Rattle.cq_ideal.proofs.Ends.{nothing_left}
-use Rattle.cq_ideal.proofs.Parted.{quiet_from}
+use Rattle.cq_ideal.proofs.Parted.{nothing_left, quiet_from}
 use Rattle.cq_ideal.proofs.Waiting.{waiting}
 
 -- a run, with what came of the slots before it

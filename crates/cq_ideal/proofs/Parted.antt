@@ -1,9 +1,36 @@
+-- When a run of the ideal switch is over: no cell is to come, and none waits.
 -- What arrives in some slots and in those behind them, and what is sent in these. The first slot of a run, and the
 -- run behind it.
-use Rattle.cq_ideal.proofs.Terms.{rules, ◌≡◌, ℕ, zero, suc, ◌+◌, ◌≤◌, List, [], ◌∷◌, ◌++◌, length, replicate, Option, Result, Ok, Err, refl, ap, arith, append_assoc, common_steps, length-map-range_with_len, Arrival, arriving, end_of, no_arrivals, Cell, Queued, TagFault, Machine, arriving_from, Ran, departures_of, ideal_run, then_ran, IdealState, Sent}
+use Rattle.cq_ideal.proofs.Terms.{rules, ◌≡◌, ℕ, zero, suc, ◌+◌, ◌≤◌, List, [], ◌∷◌, ◌++◌, length, replicate, Option, Result, Ok, Err, refl, ap, arith, append_assoc, common_steps, length-map-range_with_len, Arrival, arriving, end_of, no_arrivals, Cell, Queued, TagFault, Machine, arriving_from, Ran, departures_of, ideal_run, then_ran, IdealState, Sent, true, All, and_parts, eqb-true, leb-true, nil_from_length, enough, traffic_of, first_slots, is_over, IsEmptyIdeal}
 use Rattle.cq_ideal.proofs.FlowCount.{none_arrive}
-use Rattle.cq_ideal.proofs.FlowRank.{only_ok}
+use Rattle.cq_ideal.proofs.FlowStands.{only_ok}
 pub use Rattle.cq_ideal.proofs.FlowRun.{FirstSlot, first_slot}
+use Rattle.cq_ideal.proofs.Waiting.{waiting}
+
+-- ## Nothing waits
+
+pub none_waits : (lists : List (List Queued)) → All (λ cells. cells ≡ []) lists → waiting lists ≡ 0
+unfolding waiting
+none_waits [] all = refl
+none_waits (xs ∷ lists) all = grind (arith, common_steps, all zero xs, none_waits lists, λ (k : ℕ). all (suc k))
+
+pub nothing_left : (lists : List (List Queued)) → waiting lists ≡ 0 → All (λ cells. cells ≡ []) lists
+unfolding waiting
+nothing_left [] none k d inside = absurd (omega arith)
+nothing_left (xs ∷ lists) none k d inside = grind (arith, common_steps, nil_from_length, nothing_left lists)
+
+-- ## The test
+
+-- what the test says of a run
+pub over_from_test : (came : List Arrival) (n : ℕ) (ran : Ran) → is_over came n (Ok ran) ≡ true →
+    (end_of came ≤ n) × IsEmptyIdeal ran.after
+over_from_test came n ran e = grind (arith, common_steps, and_parts, leb-true, nil_from_length, eqb-true)
+
+-- ## As many slots as are enough
+
+pub all_slots : (came : List Arrival) → first_slots came (enough came) ≡ traffic_of came
+unfolding arriving_from traffic_of
+all_slots came = refl
 
 -- ## What arrives
 

@@ -3,7 +3,7 @@
 -- sends one cell. So what waits and what is sent are together what waited and what arrived, and unless nothing waits
 -- after the slot fewer cells wait than waited and arrived.
 use Rattle.cq_ideal.proofs.Terms.{common_steps, rules, ◌≡◌, ◌≢◌, ℕ, zero, suc, ◌+◌, ◌-◌, ◌<◌, ◌≤◌, cond, List, [], ◌∷◌, length, map, Option, Some, None, Result, Ok, refl, arith, is_some, slice_index_or, cases_eq, length-map, ext_get_or, get_or-map-range_with_len, length-map-range_with_len, Cell, Queued, TagFault, put, is_for, Machine, count_for, Ranking, ranking, count_to, IdealState, Sent, put_all, filled, fronts, rests, all_told, ideal_sends, ideal_slot, departures_from, departures_in, length_put, set, with_cell, with_came, list_at, cases_Bool, eqb-true, eq-eqb, get_or-set_same, get_or-set_other, length-set}
-use Rattle.cq_ideal.proofs.FlowRank.{after_input_ok, fits_ok, only_ok, present}
+use Rattle.cq_ideal.proofs.FlowStands.{after_input_ok, fits_ok, only_ok, present}
 
 -- ## Numbers that are added over a range
 

@@ -1,14 +1,116 @@
+-- How far a slack falls. An arriving cell goes in at its cushion or ahead of it; no other cell of the list goes back
+-- by more than a place, and no buffer changes. A departure takes one cell from a buffer, so it lowers each cushion by
+-- one at most, and no input thread changes.
+-- What arrivals keep. The cells that come have the slot that begins, which no older cell has, and the inputs at which
+-- they come, which all differ: so no key is twice. Each older cell for the same output in the list has slack 1 at
+-- least, so where it is more urgent than the new cell it stands below the new cell's cushion: so the insertion keeps
+-- the order. And the cells for each output are those that were there and those that came for it.
+-- What departures keep: they take the first cell out of each buffer, and nothing else changes.
+-- Partners of a matching: an output has an input whose partner it is, or none. And the first cell for an output in a
+-- list is no less urgent than any other for it.
 -- What the transfer of a stable matching does. It leaves a cell at an input only where the input gave a cell that
 -- stood ahead of it, or its output got a cell that is more urgent: else the input and the output would be a pair that
 -- blocks. So its input thread falls or its cushion rises, and neither ever goes the other way. It follows that the
 -- most urgent cell for an output is never left: it would have slack 1, so a cushion, so a more urgent cell for the
 -- same output. And each cell is where it was or has crossed to its output, and the first cell for an output that a
 -- list gave is in it no more: so no key is twice, and the cells for each output stay the same.
-use Rattle.cq_laws.proofs.Terms.{rules, ◌≡◌, ◌≢◌, ℕ, suc, ◌+◌, ◌<◌, ◌≤◌, ◌⊎◌, ◌↔◌, List, Option, Some, None, refl, sym, ap, ◌∙◌, inl, inr, ⊎_elim, arith, common_steps, slice_get, eq-eqb, same_Some, cushion_of, Queued, Fabric, input, buffer, IsAmong, IsFabric, ListsKeepOrder, Transfers, EachRises, HasSlack, put, KeepsOrder, is_for, first_for, place_for, without_first, key_laws, first_le, each_pair_left, IsListed, place_in, outputs_of, partner_of, depth, HasBetterInput, IsOutputOrder, AreOrdersOf, orders_of, list_taken, HasFor, IsMostUrgentFor, has_there, stands_at, Partners, IsStable}
-use Rattle.cq_laws.proofs.Members.{from_first, first_at, first_of, left_at, left_or_first, among_put, rising_put, was_waiting}
-use Rattle.cq_laws.proofs.Cushions.{cushion_grows, cushion_grows_by_one, cushion_has}
-use Rattle.cq_laws.proofs.Sound.{same_cell, Apart, Sound, one_in_order, orders_are}
-use Rattle.cq_laws.proofs.Rises.{first_least, is_partner, sender}
+use Rattle.cq_laws.proofs.Terms.{rules, ◌≡◌, ◌≢◌, ℕ, suc, ◌+◌, ◌<◌, ◌≤◌, ◌⊎◌, ◌↔◌, List, Option, Some, None, refl, sym, ap, ◌∙◌, inl, inr, ⊎_elim, arith, common_steps, slice_get, eq-eqb, same_Some, cushion_of, Queued, Fabric, input, buffer, IsAmong, IsFabric, ListsKeepOrder, Transfers, EachRises, HasSlack, put, KeepsOrder, is_for, first_for, place_for, without_first, key_laws, first_le, each_pair_left, IsListed, place_in, outputs_of, partner_of, depth, HasBetterInput, IsOutputOrder, AreOrdersOf, orders_of, list_taken, HasFor, IsMostUrgentFor, has_there, stands_at, Partners, IsStable, zero, [], ◌∷◌, cases_lt, cases_eq, eqb-true, IsBefore, each_pair_at, length, Key, Cell, Machine, came_to, list_arrived, Arrives, keeps_order_arrival, all_from_has, drop, Departs, rests, list_of, ArrivesWithSlack, Falls, EachFalls, EachArrivesOrFalls, length-map, IsRising, take-append-drop, has_right}
+use Rattle.cq_laws.proofs.Sound.{from_first, first_at, first_of, left_at, left_or_first, among_put, rising_put, was_waiting, same_cell, Apart, Sound, one_in_order, orders_are, among_insert, insert_has, inserted_at}
+use Rattle.cq_laws.proofs.Cushions.{cushion_grows, cushion_grows_by_one, cushion_has, cushion_rises, cushion_cons}
+
+module _ (ms : List Machine) (slot : ℕ) (cells : List (Option Cell)) (came : List (Option Queued)) (old new : Fabric)
+    (arrive : Arrives ms slot cells came old new) where
+  fall : (i t : ℕ) (c : Queued) (q : Option Queued) → came_to came i ≡ q →
+      slice_get (list_arrived old q (input old i)) t ≡ Some c →
+      ArrivesWithSlack came new i t c ⊎ Falls 1 old new i t c
+  fall i t c q e at = search (arith, rules, arrive.buffers, inserted_at)
+
+  pub arrivals_fall : EachArrivesOrFalls came old new
+  arrivals_fall i t c at = fall i t c (came_to came i) refl (ap (λ xs. slice_get xs t) (sym (arrive.lists i)) ∙ at)
+
+pub rest_of : (lists : List (List Queued)) (j : ℕ) → list_of (rests lists) j ≡ drop 1 (list_of lists j)
+rest_of (xs ∷ lists) (suc j) = rest_of lists j
+rest_of lists j = refl
+
+pub departures_fall : (ms : List Machine) (gone : List (Option Queued)) (old new : Fabric) → Departs ms gone old new →
+    EachFalls 1 old new
+departures_fall ms gone old new depart i t c at = search (arith, rules, rest_of, cushion_cons)
+
+-- the cells that came have this slot, their input, and an output of the switch
+pub record Keyed (slot ports : ℕ) (came : List (Option Queued)) : Type 0 where
+  pub slot_is : (k : ℕ) (q : Queued) → came_to came k ≡ Some q → q.key.slot ≡ slot
+  pub input_is : (k : ℕ) (q : Queued) → came_to came k ≡ Some q → q.key.input ≡ k
+  pub outputs : (k : ℕ) (q : Queued) → came_to came k ≡ Some q → q.cell.output < ports
+
+-- a cell in a list after a cell may have come was there or is the one that came
+pub came_or_was : (f : Fabric) (came : Option Queued) (xs : List Queued) (c : Queued) →
+    IsAmong c (list_arrived f came xs) → (came ≡ Some c) ⊎ IsAmong c xs
+came_or_was f came xs c has = grind (arith, common_steps, among_insert)
+
+-- a cell for output j came
+abbrev pub CameFor : List (Option Queued) → ℕ → Queued → Type 0
+CameFor came j c = (k : ℕ) × (came_to came k ≡ Some c) × (c.cell.output ≡ j)
+
+module _ (ms : List Machine) (slot : ℕ) (cells : List (Option Cell)) (came : List (Option Queued)) (old new : Fabric)
+    (arrive : Arrives ms slot cells came old new) (keyed : Keyed slot (length old.inputs) came) where
+  pub arrived_fabric : IsFabric old → IsFabric new
+  arrived_fabric fabric = search (rules, fabric.outputs, among_insert, fabric.own)
+
+  module _ (sound : Sound slot old) (slack : HasSlack 1 old) where
+    -- a cell that came has the key of no older one
+    new_old : (k : ℕ) (q d : Queued) → came_to came k ≡ Some q → d.key.slot < slot → q.key ≢ d.key
+    new_old k q d e lt same = let s = keyed.slot_is k q e in let t = ap (λ (x : Key). x.slot) same in omega arith
+
+    ordered : (i : ℕ) (q : Option Queued) → came_to came i ≡ q → KeepsOrder (list_arrived old q (input old i))
+    ordered i None e = sound.order i
+    ordered i (Some n) e = keeps_order_arrival (cushion_of old n) n (input old i) (sound.order i)
+        (all_from_has _ (input old i) (λ x k. grind (arith, new_old i n x e, sound.early.waiting i x k)))
+        (λ s x at out lt. search (arith, rules, cushion_rises x.key n.key (buffer old x.cell.output) lt))
+
+    pub arrived_sound : Sound (slot + 1) new
+    arrived_sound = search (arith, rules, same_Some, new_old, arrived_fabric, among_insert, ordered)
+
+    pub arrived_slack : HasSlack 0 new
+    arrived_slack i t c at = grind (arith, common_steps, arrivals_fall ms slot cells came old new arrive i t c at)
+
+    pub arrived_has : (j : ℕ) (c : Queued) → HasFor new j c ↔ (HasFor old j c ⊎ CameFor came j c)
+    arrived_has j c = search (arith, rules, among_insert, insert_has)
+
+pub rising_rest : (xs : List Queued) → IsRising xs → IsRising (drop 1 xs)
+rising_rest [] r = tt
+rising_rest (x ∷ xs) r = r.1
+
+module _ (ms : List Machine) (gone : List (Option Queued)) (slot : ℕ) (old new : Fabric)
+    (depart : Departs ms gone old new) where
+  pub sent_buffer : (j : ℕ) → buffer new j ≡ drop 1 (buffer old j)
+  sent_buffer j = ap (λ b. list_of b j) depart.buffers ∙ rest_of old.buffers j
+
+  was_crossed : (j : ℕ) (c : Queued) → IsAmong c (buffer new j) → IsAmong c (buffer old j)
+  was_crossed j c h = grind (arith, common_steps, sent_buffer j, has_right, take-append-drop 1 (buffer old j))
+
+  pub sent_fabric : IsFabric old → IsFabric new
+  sent_fabric fabric = search (rules, length-map, fabric.outputs, fabric.own, was_crossed, sent_buffer, rising_rest)
+
+  pub sent_sound : Sound slot old → Sound slot new
+  sent_sound sound = search (arith, rules, sent_fabric, was_crossed)
+
+  pub sent_slack : (n : ℕ) → HasSlack (1 + n) old → HasSlack n new
+  sent_slack n slack i t c at = grind (arith, common_steps, departures_fall ms gone old new depart i t c at)
+
+pub is_partner : (x : Option ℕ) (j : ℕ) → (x ≡ Some j) ⊎ (x ≢ Some j)
+is_partner o j = search (arith, rules, cases_eq, same_Some)
+
+-- an output has an input whose partner it is, or none
+pub sender : (m : Partners) (j : ℕ) → ((i : ℕ) × (partner_of m i ≡ Some j)) ⊎ ((i : ℕ) → partner_of m i ≢ Some j)
+sender [] j = inr (λ i e. cc)
+sender (x ∷ m) j = ⊎_elim (λ e. inl (zero, e)) (λ ne. ⊎_elim (λ r. inl (suc r.0, r.1))
+    (λ none. inr (λ i e. grind (arith, none, ne))) (sender m j)) (is_partner x j)
+
+-- the first cell for an output is no less urgent than any other for it
+pub first_least : (j : ℕ) (xs : List Queued) (s : ℕ) (c f : Queued) → KeepsOrder xs → slice_get xs s ≡ Some c →
+    c.cell.output ≡ j → first_for j xs ≡ Some f → (f ≡ c) ⊎ IsBefore f c
+first_least j xs s c f order at out is =
+    search (arith, rules, first_at (is_for j) xs f is, first_le, eq-eqb, each_pair_at, eqb-true, cases_lt, same_Some)
 
 -- ## Lists without a first cell
 

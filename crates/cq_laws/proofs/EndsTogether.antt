@@ -6,9 +6,8 @@ use Rattle.cq_laws.proofs.Terms.{cases_lt, ⊎_elim, common_steps, rules, ◌≡
 use Rattle.cq_base.specs.Arriving.{Arrival, enough, traffic_of}
 use Rattle.cq_laws.proofs.AddingUp.{figures_fold, fold-max}
 use Rattle.cq_laws.proofs.InputBest.{stable_too}
-use Rattle.cq_laws.proofs.KeptParts.{departures_on, transfers_both}
+use Rattle.cq_laws.proofs.Parted.{departures_on, transfers_both, ends_with, Reach, fewer_fit, reach, run_length, run_of_whole}
 use Rattle.cq_laws.proofs.OneRun.{only_run}
-use Rattle.cq_laws.proofs.Parted.{ends_with, Reach, fewer_fit, reach, run_length, run_of_whole}
 use Rattle.cq_laws.proofs.QuietSlots.{adds_nothing, empty_is, quiet_run}
 use Rattle.cq_laws.proofs.WholeRuns.{empty_agree, empty_together, same_run, same_stop, traffic_for_empty}
 

@@ -4,8 +4,7 @@
 -- same members. So the lists made of the cells that the fabric has for each output rise and have these cells: that is
 -- agreement. And two lists that rise and have the same members are one list.
 use Rattle.cq_laws.proofs.Terms.{flat_map, common_steps, rules, ◌≡◌, ◌↔◌, ◌≢◌, ℕ, List, [], ◌∷◌, length, sym, ◌∙◌, ⊎_elim, arith, zero, suc, filter, cases_lt, eqb-true, eq-eqb, ext_get_or, get_or_past, get_or-map-range_with_len, length-map-range_with_len, Queued, IdealState, Agrees, Fabric, IsAmong, IsFabric, buffer, ListsKeepOrder, IsBefore, IsRising, KeysDiffer, KeepsOrder, is_for, list_of, IsSoundFabric, ideal_of, in_order, cells_for, HasFor, has_cases, has_left, has_right, has_kept, kept_has, all_of_has, none_had, all_from_has, same_pairs, pairs_joined, pairs_kept_with}
-use Rattle.cq_laws.proofs.Members.{among_put, rising_put}
-use Rattle.cq_laws.proofs.Sound.{apart_from, not_before_itself, Apart, never_both}
+use Rattle.cq_laws.proofs.Sound.{among_put, rising_put, apart_from, not_before_itself, Apart, never_both}
 
 -- ## Lists whose keys differ
 

@@ -2,11 +2,14 @@
 -- slack rises at two matchings, falls by one at most at the departures between them, and by one at most at the next
 -- arrivals. So it never falls, and each cell that waits has more slack than the least so far. After arrivals it has
 -- no less, so that of all slacks then only those of the cells that have arrived can be the least.
-use Rattle.cq_laws.proofs.Terms.{has_there, stands_at, common_steps, rules, ◌≡◌, ℕ, zero, suc, ◌+◌, ◌-◌, ◌<◌, ◌≤◌, ◌⊎◌, Bool, true, false, List, [], ◌∷◌, length, map, Option, Some, None, refl, inl, ⊎_elim, arith, ◌==◌, min, fold, insert, slice_get, AllByRecursion, enumerate_from, position_or_len, reduce, option_map, cases_lt, eq-eqb, ne_eqb, length-map, get_or_past, length-enumerate_from, same_Some, slice_get-get_or, Cell, Queued, Figures, place_of_arrival, Machine, AreForPorts, IdealState, IsStable, Fabric, input, cushion_of, came_to, Arrives, EachArrivesOr, EachRises, SlotRecord, FabricSlot, Agrees, InputFigures, first_here, first_later, slacks, either_by, input_after, figures_after, slack_on_arrival, all_from_has, Has, Falls, least_slack, HasMoreSlack}
+-- The least slack of a whole run, slot by slot.
+use Rattle.cq_laws.proofs.Terms.{has_there, stands_at, common_steps, rules, ◌≡◌, ℕ, zero, suc, ◌+◌, ◌-◌, ◌<◌, ◌≤◌, ◌⊎◌, Bool, true, false, List, [], ◌∷◌, length, map, Option, Some, None, refl, inl, ⊎_elim, arith, ◌==◌, min, fold, insert, slice_get, AllByRecursion, enumerate_from, position_or_len, reduce, option_map, cases_lt, eq-eqb, ne_eqb, length-map, get_or_past, length-enumerate_from, same_Some, slice_get-get_or, Cell, Queued, Figures, place_of_arrival, Machine, AreForPorts, IdealState, IsStable, Fabric, input, cushion_of, came_to, Arrives, EachArrivesOr, EachRises, SlotRecord, FabricSlot, Agrees, InputFigures, first_here, first_later, slacks, either_by, input_after, figures_after, slack_on_arrival, all_from_has, Has, Falls, least_slack, HasMoreSlack, option_and_then, filter_map, replicate, cons_option, length-replicate, empty_fabric, FabricRun, empty_ideal, figures_of, no_figures}
 use Rattle.std.proofs.lemmas.List.Edits.{get_or-insert_at, length-insert}
-use Rattle.cq_laws.proofs.Falls.{arrivals_fall, departures_fall}
+use Rattle.cq_laws.proofs.AfterTransfer.{arrivals_fall, departures_fall}
 use Rattle.cq_laws.proofs.Sound.{one_in_order}
-use Rattle.cq_laws.proofs.OneSlot.{keyed, old_sound, arrived, first, second, slack_arrived, ports_kept}
+use Rattle.cq_laws.proofs.OneSlot.{keyed, old_sound, arrived, first, second, slack_arrived, ports_kept, same_slot}
+use Rattle.cq_laws.proofs.AddingUp.{reduce-append, figures_fold}
+use Rattle.cq_laws.proofs.WholeRuns.{empty_agree, no_place, traffic_for_empty}
 
 -- ## Least numbers
 
@@ -148,3 +151,41 @@ module _ (ms : List Machine) (slot class_count : ℕ) (cells : List (Option Cell
               let new = new_least (least_slack x i) (slacks r.arrived i) _ (slack_listed r.arrived i _ c rise.stood) in
               search (arith, rules, least_after, get_or_past, cases_lt) fits 4000;
         }
+
+reduce-cons : (o : Option ℕ) (xs : List ℕ) → reduce min (cons_option o xs) ≡ either_by min o (reduce min xs)
+reduce-cons None xs = refl
+reduce-cons (Some n) xs = reduce-append min (λ a b c. omega arith) (n ∷ []) xs
+
+module _ (ms : List Machine) (class_count : ℕ) where
+  least_run : (slot : ℕ) (traffic : List (List (Option Cell))) (f g : Fabric) (ideal : IdealState)
+      (rs : List SlotRecord) (x : Figures) (i : ℕ) → Agrees slot f ideal →
+      AllByRecursion (AreForPorts (length f.inputs) class_count) traffic → FabricRun IsStable ms slot traffic f rs g →
+      HasMoreSlack x f → i < length x.inputs →
+      least_slack (fold figures_after x rs) i
+      ≡ either_by min (least_slack x i) (reduce min (filter_map (slack_on_arrival i) rs))
+  least_run slot [] f g ideal [] x i agrees come run has inside = search (arith, rules)
+  least_run slot (cells ∷ traffic) f g ideal (r ∷ rs) x i agrees come run has inside =
+      let more = more_after ms slot class_count cells f run.0 ideal r agrees come.0 run.1 x has.ports in
+      let one = same_slot ms slot class_count cells f run.0 ideal r agrees come.0 run.1 in
+      search (arith, rules, least_after, by_arrivals, reduce-cons, least_run (slot + 1) traffic run.0)
+  least_run slot traffic f g ideal rs x i agrees come run has inside = absurd run
+
+-- before the first slot no input has a least slack, and no cell waits
+no_least : (n i : ℕ) →
+    option_and_then (λ (y : InputFigures). y.slack) (slice_get
+    (replicate n (record { cells = 0; longest = 0; slack = None })) i) ≡ None
+no_least (suc n) (suc i) = no_least n i
+no_least n i = refl
+
+pub more_at_first : (ports : ℕ) (ranks : List (List ℕ)) → HasMoreSlack (no_figures ports) (empty_fabric ports ranks)
+more_at_first ports ranks = grind (arith, common_steps, length-replicate, no_place)
+
+pub least_of_run : (ms : List Machine) (ports class_count : ℕ) (ranks : List (List ℕ))
+    (traffic : List (List (Option Cell))) (rs : List SlotRecord) (g : Fabric) (i : ℕ) →
+    AllByRecursion (AreForPorts ports class_count) traffic →
+    FabricRun IsStable ms 0 traffic (empty_fabric ports ranks) rs g → i < ports →
+    least_slack (figures_of ports rs) i ≡ reduce min (filter_map (slack_on_arrival i) rs)
+least_of_run ms ports class_count ranks traffic rs g i come run inside =
+    let start = empty_fabric ports ranks in
+    let all = least_run ms class_count 0 traffic start g (empty_ideal ports ranks) rs (no_figures ports) i in
+    search (arith, rules, figures_fold, all, empty_agree, traffic_for_empty, more_at_first, no_least, length-replicate)

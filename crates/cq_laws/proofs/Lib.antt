@@ -1,12 +1,7 @@
 mod Terms
-pub mod Members
 pub mod Cushions
-pub mod Falls
-pub mod Rises
 pub mod Sound
-pub mod AfterArrivals
 pub mod AfterTransfer
-pub mod AfterDepartures
 pub mod Came
 pub mod IdealLists
 pub mod OneSlot
@@ -21,12 +16,9 @@ pub mod ActingAlike
 pub mod OneRun
 pub mod AddingUp
 pub mod LeastSlack
-pub mod LeastRun
 pub mod QuietSlots
-pub mod Joined
 pub mod WorkedRun
 pub mod Parted
-pub mod KeptParts
 pub mod EndsTogether
 pub mod Entered
 pub mod Told

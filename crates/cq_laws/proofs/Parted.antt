@@ -1,6 +1,30 @@
+-- A run from where another ended goes on with it, whatever a slot is.
 -- A run in parts: its first slots are a run, and where that ended the others go on. So a run over many slots passes
 -- through the end of each shorter one, and two whole runs of which each slot leaves no choice are one.
-use Rattle.cq_laws.proofs.Terms.{common_steps, rules, ◌≡◌, ℕ, suc, ◌+◌, ◌-◌, ◌<◌, ◌≤◌, List, [], ◌∷◌, ◌++◌, length, drop, Option, refl, ap, arith, AllByRecursion, cases_lt, take_all, Arrival, end_of, Cell, IsEnd, arriving_from, first_slots, arriving_length, arriving_parts, AfterBy, HasParts, RunBy, WholeBy, all_front}
+-- What is kept of a run is kept of its parts: the departures and the transfers of two runs on end are those of the
+-- first and then those of the second.
+use Rattle.cq_laws.proofs.Terms.{common_steps, rules, ◌≡◌, ℕ, suc, ◌+◌, ◌-◌, ◌<◌, ◌≤◌, List, [], ◌∷◌, ◌++◌, length, drop, Option, refl, ap, arith, AllByRecursion, cases_lt, take_all, Arrival, end_of, Cell, IsEnd, arriving_from, first_slots, arriving_length, arriving_parts, AfterBy, HasParts, RunBy, WholeBy, all_front, TagFault, StopBy, GoOn, append-nil, map-append, length-map, flat_map-append, departures_of, departures_in, departures_append, gone_in, transfers_in, transfers_of_run, SlotRecord}
+
+module _ {S R : Type 0} (Step : ℕ → List (Option Cell) → S → R → S → Type 0)
+    (Fault : ℕ → List (Option Cell) → S → TagFault → Type 0) where
+  joined : (slot : ℕ) (before after : List (List (Option Cell))) (f m g : S) (rs ss : List R) →
+      RunBy Step slot before f rs m → RunBy Step (slot + length before) after m ss g →
+      RunBy Step slot (before ++ after) f (rs ++ ss) g
+  joined slot [] after f m g [] ss x y = grind (arith, common_steps)
+  joined slot (cells ∷ before) after f m g (r ∷ rs) ss x y =
+      grind (arith, common_steps, joined (slot + 1) before after x.0 m g rs ss x.2)
+  joined slot before after f m g rs ss x y = absurd x
+
+  stopped : (slot : ℕ) (before after : List (List (Option Cell))) (f m : S) (rs ss : List R) (fault : TagFault) →
+      RunBy Step slot before f rs m → StopBy Step Fault (slot + length before) after m ss fault →
+      StopBy Step Fault slot (before ++ after) f (rs ++ ss) fault
+  stopped slot [] after f m [] ss fault x y = grind (arith, common_steps)
+  stopped slot (cells ∷ before) after f m (r ∷ rs) ss fault x y =
+      grind (arith, common_steps, stopped (slot + 1) before after x.0 m rs ss fault x.2)
+  stopped slot before after f m rs ss fault x y = absurd x
+
+  pub all_go_on : GoOn Step Fault
+  all_go_on = grind (arith, common_steps, joined, stopped)
 
 pub fewer_fit : (P : List (Option Cell) → Type 0) (came : List Arrival) (m n : ℕ) → m ≤ n →
     AllByRecursion P (first_slots came n) → AllByRecursion P (first_slots came m)
@@ -61,3 +85,21 @@ module _ {S R : Type 0} (Step : ℕ → List (Option Cell) → S → R → S →
     pub one_whole : (g h : S) (rs ss : List R) → WholeBy Step IsEmpty came start rs g →
         WholeBy Step IsEmpty came start ss h → (rs ≡ ss) × (g ≡ h)
     one_whole g h rs ss w v = grind (arith, common_steps, no_longer, run_of_whole)
+
+-- from any slot on
+pub departures_on : (rs ss : List SlotRecord) (first slot : ℕ) → first + length rs ≡ slot →
+    departures_of first (gone_in (rs ++ ss)) ≡ departures_of first (gone_in rs) ++ departures_of slot (gone_in ss)
+departures_on rs ss first slot long = grind (arith, common_steps, length-map, map-append, departures_append)
+
+pub departures_one : (slot : ℕ) (r : SlotRecord) → departures_of slot (gone_in (r ∷ [])) ≡ departures_in slot r.gone
+unfolding departures_of
+departures_one slot r = append-nil (departures_in slot r.gone)
+
+pub transfers_both : (rs ss : List SlotRecord) →
+    transfers_of_run (rs ++ ss) ≡ transfers_of_run rs ++ transfers_of_run ss
+unfolding transfers_of_run
+transfers_both rs ss = flat_map-append transfers_in rs ss
+
+pub transfers_one : (r : SlotRecord) → transfers_of_run (r ∷ []) ≡ transfers_in r
+unfolding transfers_of_run
+transfers_one r = append-nil (transfers_in r)

@@ -1,9 +1,107 @@
+-- The cells of a list, as members and by their places. First what a place shows of a member, then where the first
+-- cell for an output stands, then what becomes of the members where that cell is taken out, where a cell is put in
+-- the order of keys, and where one is inserted at a place.
 -- What each phase keeps of a fabric state, said by members: the state is a fabric's, the cells for one output stand
 -- in order in each input's list, no key is twice, and every cell is from before a slot. That no key is twice is said
 -- of two cells at inputs, of one at an input and one that has crossed, and of two that have crossed; by their places
 -- it is the same.
-use Rattle.cq_laws.proofs.Terms.{rules, common_steps, ◌≡◌, ◌≢◌, ◌∷◌, ℕ, ◌<◌, List, Some, refl, sym, ◌∙◌, arith, slice_get, cases_lt, true≢false, Queued, Fabric, input, buffer, IsAmong, IsFabric, ListsKeepOrder, IsBefore, IsRising, EachPair, key_laws, each_pair_at, AreOrdersOf, FirstKeysDiffer, orders_of, are_orders, HasFor, Waiting, Crossed, NoKeyTwice, AllBefore, all_of_has, has_there, stands_at}
-use Rattle.cq_laws.proofs.Members.{from_first}
+use Rattle.cq_laws.proofs.Terms.{rules, common_steps, ◌≡◌, ◌≢◌, ◌∷◌, ℕ, ◌<◌, List, Some, refl, sym, ◌∙◌, arith, slice_get, cases_lt, true≢false, Queued, Fabric, input, buffer, IsAmong, IsFabric, ListsKeepOrder, IsBefore, IsRising, EachPair, key_laws, each_pair_at, AreOrdersOf, FirstKeysDiffer, orders_of, are_orders, HasFor, Waiting, Crossed, NoKeyTwice, AllBefore, all_of_has, has_there, stands_at, ◌↔◌, zero, suc, ◌+◌, ◌≤◌, ◌⊎◌, Bool, true, [], ap, inl, inr, ⊎_elim, find, insert, position_or_len, eqb-true, cond_both, put, is_for, first_for, place_for, without_first, first_here, first_later, all_from_has, has_cases, has_left, has_right, drop, take, take-append-drop, Partners, list_of}
+use Rattle.cq_base.proofs.Putting.{rising_put as put_rises}
+use Rattle.cq_prefs.specs.Moves.{Moves}
+
+-- ## The first cell for an output
+
+-- where the first stands, and that it passes
+pub record IsFirst (p : Queued → Bool) (xs : List Queued) (c : Queued) : Type 0 where
+  pub place : ℕ
+  pub is : place ≡ position_or_len p xs
+  pub at : slice_get xs place ≡ Some c
+  pub passes : p c ≡ true
+
+pub first_at : (p : Queued → Bool) (xs : List Queued) (c : Queued) → find p xs ≡ Some c → IsFirst p xs c
+first_at p [] c h = cc
+first_at p (x ∷ xs) c h = search (arith, rules, first_here, first_later, first_at p xs c)
+
+pub from_first : (j : ℕ) (xs : List Queued) (f : Queued) → first_for j xs ≡ Some f →
+    IsAmong f xs × (f.cell.output ≡ j)
+from_first j xs f is = let first = first_at (is_for j) xs f is in (search (arith, rules, has_there, eqb-true))
+
+-- where one passes, there is a first
+pub first_of : (p : Queued → Bool) (xs : List Queued) (c : Queued) → IsAmong c xs → p c ≡ true →
+    (f : Queued) × (find p xs ≡ Some f)
+first_of p [] c h e = absurd h
+first_of p (x ∷ xs) c h e = cond_both (p x) (Some x) (find p xs) (λ o. (f : Queued) × (o ≡ Some f)) (λ _. (x, refl))
+    (λ no. ⊎_elim (λ same. absurd (cc (ap p same))) (λ k. first_of p xs c k e) h)
+
+-- ## A list without its first cell for an output
+
+-- where a cell that is left stood before: at this place, or at the next if that is behind the one that was taken
+pub record StoodAt (j : ℕ) (xs : List Queued) (t : ℕ) (c : Queued) : Type 0 where
+  pub place : ℕ
+  pub at : slice_get xs place ≡ Some c
+  pub side : ((place ≡ t) × (t < place_for j xs)) ⊎ ((place ≡ suc t) × (place_for j xs ≤ t))
+
+pub left_at : (j : ℕ) (xs : List Queued) (t : ℕ) (c : Queued) → slice_get (without_first j xs) t ≡ Some c →
+    StoodAt j xs t c
+left_at j [] t c h = cc
+left_at j (x ∷ xs) t c h =
+    cond_both (is_for j x) xs (x ∷ without_first j xs) (λ l. slice_get l t ≡ Some c → StoodAt j (x ∷ xs) t c) (λ e at.
+    let here = first_here (is_for j) x xs e in record { place = suc t; at = at; side = inr (refl, omega arith) })
+    (λ e. later t c (first_later (is_for j) x xs e) (left_at j xs)) h
+  where
+    later : (t : ℕ) (c : Queued) → place_for j (x ∷ xs) ≡ 1 + place_for j xs → ((s : ℕ) (c : Queued) →
+        slice_get (without_first j xs) s ≡ Some c → StoodAt j xs s c) → slice_get (x ∷ without_first j xs) t ≡ Some c →
+        StoodAt j (x ∷ xs) t c
+    later zero c e rest h = record { place = zero; at = h; side = inl (refl, omega arith) }
+    later (suc t) c e rest h =
+        let r = rest t c h in record { place = suc r.place; at = r.at; side = grind (arith, r.side) }
+
+-- a cell of the list is left, or it is the first
+pub left_or_first : (j : ℕ) (xs : List Queued) (c : Queued) → IsAmong c xs →
+    IsAmong c (without_first j xs) ⊎ (first_for j xs ≡ Some c)
+left_or_first j [] c h = absurd h
+left_or_first j (x ∷ xs) c h = grind (arith, common_steps, cond_both, left_or_first j xs c)
+
+-- what is left was there
+pub left_among : (j : ℕ) (xs : List Queued) (c : Queued) → IsAmong c (without_first j xs) → IsAmong c xs
+left_among j xs c h =
+    let r = stands_at (without_first j xs) c h in let s = left_at j xs r.0 c r.1 in has_there xs s.place c s.at
+
+-- so a cell that waits at an input after a transfer waited there
+pub was_waiting : {m : Partners} {lists lists' buffers buffers' : List (List Queued)} →
+    Moves m lists buffers lists' buffers' → (i : ℕ) (c : Queued) → IsAmong c (list_of lists' i) →
+    IsAmong c (list_of lists i)
+was_waiting moves i c h = search (arith, rules, left_among)
+
+-- ## A cell put in the order of keys
+
+pub among_put : (d c : Queued) (xs : List Queued) → IsAmong d (put c xs) ↔ ((c ≡ d) ⊎ IsAmong d xs)
+among_put d c [] = (λ h. h, λ h. h)
+among_put d c (x ∷ xs) = grind (arith, common_steps, cond_both, among_put d c xs)
+
+pub rising_put : (c : Queued) (xs : List Queued) → IsRising xs → ((d : Queued) → IsAmong d xs → c.key ≢ d.key) →
+    IsRising (put c xs)
+rising_put c xs r ne = put_rises c xs r (all_from_has _ xs (λ d h e. ne d h (sym e)))
+
+-- ## A cell inserted at a place
+
+-- what stands in a list after an insertion: the new cell no later than its place, each other no more than one place
+-- later
+pub inserted_at : (xs : List Queued) (p t : ℕ) (n c : Queued) → slice_get (insert xs p n) t ≡ Some c →
+    ((t ≤ p) × (n ≡ c)) ⊎ ((s : ℕ) × (slice_get xs s ≡ Some c) × (t ≤ suc s))
+inserted_at xs zero (suc t) n c h = inr (t, h, omega arith)
+inserted_at [] (suc p) (suc t) n c h = cc
+inserted_at (x ∷ xs) (suc p) zero n c h = inr (zero, h, omega arith)
+inserted_at (x ∷ xs) (suc p) (suc t) n c h =
+    ⊎_elim (λ k. inl (omega arith, k.1)) (λ k. inr (suc k.0, k.1, omega arith)) (inserted_at xs p t n c h)
+inserted_at xs p t n c h = inl (omega arith, cc)
+
+pub insert_has : (xs : List Queued) (p : ℕ) (n c : Queued) → (n ≡ c) ⊎ IsAmong c xs → IsAmong c (insert xs p n)
+insert_has xs p n c h = grind (arith, common_steps, has_left, has_right, has_cases (take p xs), take-append-drop p xs)
+
+pub among_insert : (xs : List Queued) (p : ℕ) (n c : Queued) → IsAmong c (insert xs p n) → (n ≡ c) ⊎ IsAmong c xs
+among_insert xs p n c h =
+    grind (arith, common_steps, has_cases, has_left, has_right (take p xs) (drop p xs), take-append-drop p xs)
 
 pub record Apart (f : Fabric) : Type 0 where
   pub waiting : (i k : ℕ) (c d : Queued) → IsAmong c (input f i) → IsAmong d (input f k) → c.key ≡ d.key →

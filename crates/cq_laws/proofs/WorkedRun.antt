@@ -5,7 +5,7 @@ use Rattle.cq_laws.specs.Example.{lone_cell, from_input0, from_input1, slot0, sl
 use Rattle.cq_laws.proofs.QuietSlots.{nobody_best, nothing_moves}
 use Rattle.cq_prefs.specs.LeastFirst.{best, least_free}
 use Rattle.cq_prefs.specs.Proposals.{start, propose, keeper, matching_of, is_free}
-use Rattle.cq_laws.proofs.Members.{from_first}
+use Rattle.cq_laws.proofs.Sound.{from_first}
 
 -- ## Phases
 

@@ -25,7 +25,7 @@ pub fn input_best_is_stable()
 {}
 
 /// Where a run ended another goes on, whether its matchings are input-best or any stable ones.
-#[tactic(auto, using(crate::proofs::Joined::all_go_on))]
+#[tactic(auto, using(crate::proofs::Parted::all_go_on))]
 pub fn runs_go_on()
     ensures limited_input_best { (limits : List (Option ℕ)) (ms : List Machine) →
         GoOn (LimitedFabricSlot IsInputBest limits ms) (IsLimitedFault limits ms) }

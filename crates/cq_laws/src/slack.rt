@@ -4,7 +4,7 @@ ghost use Rattle.std.specs.Prelude.{ℕ, List, Option};
 ghost use Rattle.cq_laws.specs.Terms.{Cell, Queued, Machine, orders_of, Partners, IsStable, Fabric, IsAmong, IsFabric, ListsKeepOrder, buffer, Arrives, Transfers, Departs, IsMostUrgentFor, NoKeyTwice, EachArrivesOrFalls, EachRises, EachFalls, HasSlack};
 
 /// A cell that arrives has slack 0 at least, and arrivals lower the slack of every other by one at most.
-#[tactic(auto, using(crate::proofs::Falls::arrivals_fall))]
+#[tactic(auto, using(crate::proofs::AfterTransfer::arrivals_fall))]
 pub fn slack_after_arrivals()
     ensures { (ms : List Machine) (slot : ℕ) (cells : List (Option Cell)) (came : List (Option Queued))
         (old new : Fabric) →
@@ -20,7 +20,7 @@ pub fn slack_after_matching()
 {}
 
 /// Departures lower a slack by one at most.
-#[tactic(auto, using(crate::proofs::Falls::departures_fall))]
+#[tactic(auto, using(crate::proofs::AfterTransfer::departures_fall))]
 pub fn slack_after_departures()
     ensures { (ms : List Machine) (gone : List (Option Queued)) (old new : Fabric) →
         Departs ms gone old new → EachFalls 1 old new }

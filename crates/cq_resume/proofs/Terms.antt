@@ -38,7 +38,7 @@ pub use Rattle.cq_cells.proofs.{Looked.piece, Packets.ends_before, Pieces.cells_
 pub use Rattle.cq_rank.specs.{Classes.row_at, Switch.AreSized}
 pub use Rattle.cq_ideal.proofs.{Admitted.no_arrivals_refuse_none, Parted.arriving_length, Parted.arriving_parts, Parted.quiet_from, Refusals.counts_more}
 pub use Rattle.cq_prefs.specs.Pairing.{IsInputBest}
-pub use Rattle.cq_laws.proofs.{AddingUp.map-constant, Joined.all_go_on, KeptParts.departures_on, KeptParts.transfers_both, NothingRefused.none_come, NothingRefused.run_with, OneRun.only_limited_run, Parted.parts, Parted.run_length, QuietSlots.empty_is, QuietSlots.adds_nothing, QuietSlots.quiet_run, Sound.Apart, Sound.Early, Sound.all_before, Sound.differ_from}
+pub use Rattle.cq_laws.proofs.{AddingUp.map-constant, Parted.all_go_on, Parted.departures_on, Parted.transfers_both, NothingRefused.none_come, NothingRefused.run_with, OneRun.only_limited_run, Parted.parts, Parted.run_length, QuietSlots.empty_is, QuietSlots.adds_nothing, QuietSlots.quiet_run, Sound.Apart, Sound.Early, Sound.all_before, Sound.differ_from}
 pub use Rattle.cq_laws.specs.{Holding.held_for, Holding.waiting_for, LimitedFabric.IsLimitedFault, LimitedFabric.LimitedFabricSlot, LimitedFabric.LimitedRecord, LimitedFabric.admissions_in, LimitedFabric.slots_in, LimitedQuiet.quiet_limited_slots, Quiet.idled, Quiet.idled_for, Quiet.quiet_slots, SlotBySlot.GoOn, SlotBySlot.IsOneRun, SlotBySlot.RunBy, SlotBySlot.StopBy, declared.frozen.Frozen.Frozen}
 pub use Rattle.cq_base.proofs.Having.{all_from_has, all_has, all_of_has, any_alike, has_all, has_at, has_cases, has_image, has_kept, has_left, has_right, has_there, image_has, kept_has, pair_of_has}
 pub use Rattle.cq_base.proofs.Pooled.{AreApart, all_pairs, each_pair, image_at, kept_few, looked_few, looked_up, no_more, numbers_few, pairs_cross, pairs_kept_with, pairs_left, pairs_looked_up, pairs_mapped}

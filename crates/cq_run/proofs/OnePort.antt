@@ -6,7 +6,7 @@ use Rattle.cq_base.proofs.{Each.filter_all, Each.filter_none, Pooled.each_pair}
 use Rattle.cq_base.proofs.Library.{filter_agree, le-leb, lt-leb, map-append}
 use Rattle.cq_cells.proofs.Pieces.{cells_above}
 use Rattle.cq_ideal.proofs.{Came.nobody_left, Resting.none_at, Waiting.filled_next}
-use Rattle.cq_ideal.proofs.FlowFound.{all_found, cell_listed, found, found_here, found_none, other_slot}
+use Rattle.cq_ideal.proofs.FlowCount.{all_found, cell_listed, found, found_here, found_none, other_slot}
 use Rattle.cq_ideal.specs.Ending.{arriving_from}
 use Rattle.cq_ideal.specs.IdealRun.{Ran, departures_of, ideal_run}
 use Rattle.cq_ideal.specs.IdealSlot.{IdealState, Sent, departures_in, filled, ideal_slot}

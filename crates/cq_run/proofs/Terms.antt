@@ -70,7 +70,7 @@ pub use Rattle.cq_tables.specs.{declared.place.Array.TheVariants.Ports, declared
 pub use Rattle.cq_cells.specs.{Scheduled.Scheduled, Scheduled.schedule_of}
 pub use Rattle.cq_rank.specs.Machine.{Machine}
 pub use Rattle.cq_ideal.specs.{Admission.NoLimits}
-pub use Rattle.cq_ideal.proofs.{Ends.all_slots, FlowCount.before_end, FlowFound.arriving_is, Parted.first_slot, Resting.ranked_none}
+pub use Rattle.cq_ideal.proofs.{Parted.all_slots, FlowCount.before_end, FlowCount.arriving_is, Parted.first_slot, Resting.ranked_none}
 pub use Rattle.cq_audit.proofs.{AuditExact.audit_is_exact, Noted.stable_log, OneDifference.trace_is_exact}
 pub use Rattle.cq_audit.specs.{Audit.IsYes}
 pub use Rattle.cq_laws.specs.{Records.transfers_of_run}

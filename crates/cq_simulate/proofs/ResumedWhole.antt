@@ -4,7 +4,7 @@
 -- that the state names is named with all its cells, and goes on as it began.
 use Rattle.cq_simulate.proofs.Terms.{common_steps, rules, map-append, ◌≡◌, ℕ, ◌<◌, Bool, true, false, List, [], ◌∷◌, ◌++◌, length, map, filter, Option, Some, refl, sym, ap, ◌∙◌, arith, ◌⊎◌, ◌+◌, ◌≤◌, not, cond, ◌&&◌, ◌==◌, All, slice_index_or, nat_lt, if◌then◌else◌, AllByRecursion, AllPairs, and_from, and_parts, cases_lt, eq-eqb, eqb-true, lt-ltb, ltb-true, cases_eq, cond-false, cond-true, le-ltb, ne_eqb, Arrival, IsBefore, Departure, Queued, IsLater, IsTraffic, comes_in_flow, leaves_in_flow, left_in_flow, is_kind, shown, HasWaited, Stands, line_at, rest_of, Agrees, Fabric, ideal_of, list_of, departure_of, sent_told, firsts_at, is_refused, latest, IsSound, OfOneFlow, IsBelowFloor, AllNamed, AreWholePackets, NoneNamed, HasShape, Switch, HasLimit, arriving_cell, class_of, fabric_told, is_ahead, is_named, key_of, named_in, output_of, queued_in, queued_of, packet_before, EachPair, each_pair, buffer_is, comes, found_at, in_buffer, in_list, in_order, is_cell_of, its_output, its_slot, list_is, of_traffic, ports_are, queued_differ, queued_named, some_cell, Has, all_from_has, all_of_has, has_cases, has_image, has_kept, has_left, has_right, image_has, kept_has, pair_of_has, IsInRange, Sent, State, NoLater, all_weaker, Machine, machine_at, AreOfPackets, key_laws, all_has, looked_up, pairs_kept, pairs_kept_with, pairs_looked_up, pairs_with, Named, any_has, has_any, any_alike, pairs_mapped, pairs_joined, has_looked_up, same_pairs, filter_none, filter_all, append_assoc, take_all, filter-append, get_or-map-range_with_len, Cell, traffic_is, arrivals, schedule_of, comes_at_input, AreOfClasses, present, flow_came, no_port, is_of_flow, of_flow, is_run_of, comes_from, Marked, arriving_from, IsRunnable, came_in_flow, departures_of, IdealState, LimitedRan, cells_at, agrees_of, empty_together, LimitedRunsAlike, LimitedFabricRun, LimitedRecord, admissions_in, slots_in, gone_in, Captured, IsInputBest, frozen_told, marks_told, taken_of, IsResumed, Kept, switch_of, Taken, GoesOn, goes_on, AreTables, ports_of, Tables, openings_of, LeaveInOrder, LeaveWhole, LeftInOrder, CanBeTakenUp, slots_fit, all_filter, all_in_range, class_in_slot, none_came, flow_on, whole_on, StandAt, stand_in, best_act_alike, most_ports, filter_both, filter_agree, of_images}
 use Rattle.std.proofs.lemmas.Simd.{map-map}
-use Rattle.cq_ideal.proofs.RestAtInput.{cells_of}
+use Rattle.cq_ideal.proofs.AtInput.{cells_of}
 use Rattle.cq_simulate.proofs.OfPackets.{as_packets, line_packets, none_at, none_from, right_classes, runnable}
 use Rattle.cq_simulate.proofs.TakenUp.{machines_many}
 use Rattle.cq_simulate.proofs.Tallies.{filter_images, filter_same}

@@ -20,23 +20,18 @@ pub use Rattle.cq_rank.specs.Machine.{KeepsLaws, Machine, first_come, machine_at
 pub use Rattle.cq_rank.specs.Switch.{class_count}
 pub use Rattle.cq_scfq.specs.Discipline.{machine_from}
 pub use Rattle.cq_scfq.specs.Disciplines.{machine_of, machines_of, openings_of}
-pub use Rattle.cq_ideal.proofs.AtInput.{come_in_order, comes_at_input}
+pub use Rattle.cq_ideal.proofs.AtInput.{come_in_order, comes_at_input, comes_from, line_at, rest_of}
 pub use Rattle.cq_ideal.proofs.Counting.{counts_fit, none_counted, zero_fits}
-pub use Rattle.cq_ideal.proofs.Ends.{all_slots, none_waits, nothing_left}
-pub use Rattle.cq_ideal.proofs.FlowCount.{come_count-first, come_count-traffic_of, none_after}
-pub use Rattle.cq_ideal.proofs.FlowFound.{all_found, all_present, arriving_is}
-unfoldable pub use Rattle.cq_ideal.proofs.FlowFound.{found}
-pub use Rattle.cq_ideal.proofs.FlowPut.{NoLater}
-pub use Rattle.cq_ideal.proofs.FlowRank.{AreOfClasses, present}
+pub use Rattle.cq_ideal.proofs.Parted.{all_slots, none_waits, nothing_left, arriving_here, arriving_length, arriving_parts, departures_append}
+pub use Rattle.cq_ideal.proofs.FlowCount.{come_count-first, come_count-traffic_of, none_after, all_found, all_present, arriving_is}
+unfoldable pub use Rattle.cq_ideal.proofs.FlowCount.{found}
+pub use Rattle.cq_ideal.proofs.FlowStands.{NoLater, HasWaited, Stands, is_kind, is_of_flow, shown, AreOfClasses, present}
 pub use Rattle.cq_ideal.proofs.FlowRun.{flow_came, no_port}
 unfoldable pub use Rattle.cq_ideal.proofs.FlowRun.{come_count}
-pub use Rattle.cq_ideal.proofs.FlowStands.{HasWaited, Stands, is_kind, is_of_flow, shown}
 unfoldable pub use Rattle.cq_ideal.proofs.FlowStands.{of_flow}
 pub use Rattle.cq_ideal.proofs.LimitedEnds.{limited_found_end, limited_same_sent, limited_whole_fault, run_as_before, slots_as_before}
 pub use Rattle.cq_ideal.proofs.LimitedRuns.{is_run_of, judged, run_fault}
-pub use Rattle.cq_ideal.proofs.Parted.{arriving_here, arriving_length, arriving_parts, departures_append}
 pub use Rattle.cq_ideal.proofs.Refusals.{counts_more, each_once}
-pub use Rattle.cq_ideal.proofs.RestAtInput.{comes_from, line_at, rest_of}
 pub use Rattle.cq_ideal.proofs.Waiting.{counted, total_same}
 unfoldable pub use Rattle.cq_ideal.proofs.Waiting.{total, waiting}
 pub use Rattle.cq_ideal.specs.Admission.{Admission, Marked, NoLimits, admitted, admitted_in, is_first, marked, nothing_refused, refused}
@@ -114,13 +109,13 @@ pub use Rattle.cq_base.proofs.Having.{all_from_has, all_has, all_of_has, any_ali
 pub use Rattle.cq_base.proofs.Pooled.{each_pair, has_looked_up, looked_up, pairs_joined, pairs_kept, pairs_kept_with, pairs_looked_up, pairs_mapped, pairs_with, same_pairs}
 pub use Rattle.cq_cells.proofs.Stamps.{length-rows_from}
 pub use Rattle.cq_ideal.proofs.EnoughSlots.{waiting-empty}
-pub use Rattle.cq_ideal.proofs.{EachLeaves.each_leaves_or_is_refused, EachLeaves.refuses_none_elsewhere, FlowLaw.all_in_range, FlowLaw.class_in_slot, FlowLaw.none_came, FlowOn.flow_on, FlowOn.flows_leave_in_packets, FlowOn.whole_on, LastSlot.slots_within, LimitedLast.last_departs, LimitedLast.limited_slots, Standing.StandAt, Standing.stand_in}
+pub use Rattle.cq_ideal.proofs.{EachLeaves.each_leaves_or_is_refused, EachLeaves.refuses_none_elsewhere, FlowLaw.all_in_range, FlowLaw.class_in_slot, FlowLaw.none_came, FlowOn.flow_on, FlowOn.flows_leave_in_packets, FlowOn.whole_on, LastSlot.slots_within, LimitedLast.last_departs, LimitedLast.limited_slots, AtInput.StandAt, AtInput.stand_in}
 pub use Rattle.cq_ideal.specs.{EachOnce.KeepTheirOutput, EachOnce.LeaveOrAreRefused, OneSlot.CanHaveSlot, OneSlot.HasHadSlot, OneSlot.IsSameSwitch}
 pub use Rattle.cq_reasm.specs.{Open.Open}
 pub use Rattle.cq_state.specs.declared.state.Named.{Named}
 pub use Rattle.cq_prefs.specs.Orders.{Orders}
 pub use Rattle.cq_prefs.proofs.{InputOrder.OutputsInRange, InputOrder.are_offers, Places.outputs_at_most}
 pub use Rattle.cq_laws.specs.{Frozen.fabric_in, Frozen.marked_in, Frozen.IsSoundFabric, LimitedQuiet.quiet_limited_slots, Phases.Transfers, Phases.came_to, Phases.list_arrived, declared.frozen.Frozen.Frozen}
-pub use Rattle.cq_laws.proofs.{ActingAlike.best_act_alike_from_empty, ActingAlike.best_act_alike, AddingUp.figures_fold, Came.came_from, EndsTogether.slots_of_figures, Held.hold_as_many, Held.nothing_for, Joined.all_go_on, KeptParts.departures_one, KeptParts.transfers_one, Members.first_at, Parted.run_length, Parted.run_of_whole}
+pub use Rattle.cq_laws.proofs.{ActingAlike.best_act_alike_from_empty, ActingAlike.best_act_alike, AddingUp.figures_fold, Came.came_from, EndsTogether.slots_of_figures, Held.hold_as_many, Held.nothing_for, Parted.all_go_on, Parted.departures_one, Parted.transfers_one, Sound.first_at, Parted.run_length, Parted.run_of_whole}
 pub use Rattle.cq_resume.specs.Parts.{IsParted}
 pub use Rattle.cq_engine.proofs.{Kept.limited_lists_kept, Kept.limited_outputs_kept}

@@ -15,8 +15,8 @@ pub use Rattle.cq_scfq.specs.Disciplines.{machine_of, opening_of, openings_of}
 pub use Rattle.cq_ideal.proofs.Admitted.{admitted_arrives, admitted_at, marks_kept}
 pub use Rattle.cq_ideal.proofs.Came.{Came, came_from}
 pub use Rattle.cq_ideal.proofs.{EnoughSlots.fewer, FlowStands.HasWaited}
-pub use Rattle.cq_ideal.proofs.FlowRank.{after_input_ok, fits_ok, only_ok, present}
-pub use Rattle.cq_ideal.proofs.FlowSlot.{Served, listed, served}
+pub use Rattle.cq_ideal.proofs.FlowStands.{after_input_ok, fits_ok, only_ok, present}
+pub use Rattle.cq_ideal.proofs.FlowRun.{Served, listed, served}
 pub use Rattle.cq_ideal.specs.Admission.{Marked, held_after, mark_after, mark_at, marks_after}
 unfoldable pub use Rattle.cq_ideal.specs.Admission.{admission}
 pub use Rattle.cq_ideal.specs.{IdealRun.empty_ideal}
@@ -31,11 +31,10 @@ pub use Rattle.cq_state.specs.State.{AreRankNumbers, IsCount, IsInRange, IsMoved
 pub use Rattle.cq_state.specs.{declared.state.Named.Named, declared.state.Sent.Sent, declared.state.State.State}
 pub use Rattle.cq_prefs.specs.FirstCells.{list_of}
 pub use Rattle.cq_prefs.specs.Pairing.{IsInputBest, IsStable}
-pub use Rattle.cq_laws.proofs.AfterArrivals.{CameFor, Keyed, came_or_was}
+pub use Rattle.cq_laws.proofs.AfterTransfer.{CameFor, Keyed, came_or_was}
 pub use Rattle.cq_laws.proofs.LimitedWhole.{fabric_judged, limited_empty_agree}
-pub use Rattle.cq_laws.proofs.Members.{was_waiting}
+pub use Rattle.cq_laws.proofs.Sound.{was_waiting, apart_from, never_both, not_before_itself}
 pub use Rattle.cq_laws.proofs.OneSlot.{keyed, ports_kept, same_slot}
-pub use Rattle.cq_laws.proofs.Sound.{apart_from, never_both, not_before_itself}
 pub use Rattle.cq_laws.specs.Agreement.{Agrees, SendsAlike}
 pub use Rattle.cq_laws.specs.Fabric.{Fabric, IsAmong, IsFabric, buffer, cushion_of, empty_fabric, input}
 pub use Rattle.cq_laws.specs.FabricSlot.{FabricSlot, SlotRecord}
@@ -77,7 +76,7 @@ pub use Rattle.cq_ideal.proofs.EnoughSlots.{waiting-empty}
 pub use Rattle.cq_ideal.proofs.{FlowCount.come_count-first, FlowLaw.all_in_range, Packets.refused_here, Parted.arriving_length, Refusals.counts_more}
 pub use Rattle.cq_ideal.specs.{Limiter.where_up, declared.refused.Refused.Refused}
 pub use Rattle.cq_state.specs.declared.state.Seen.{Seen}
-pub use Rattle.cq_laws.proofs.{Falls.rest_of, IdealLists.among_put_all, IdealLists.list_after, IdealLists.put_all_keeps, IdealLists.put_all_new, IdealLists.rising_put_all, InputBest.stable_slot, InputBest.stable_limited_too, LimitedSlots.admission_for_ports, WholeRuns.empty_list}
+pub use Rattle.cq_laws.proofs.{AfterTransfer.rest_of, IdealLists.among_put_all, IdealLists.list_after, IdealLists.put_all_keeps, IdealLists.put_all_new, IdealLists.rising_put_all, InputBest.stable_slot, InputBest.stable_limited_too, LimitedSlots.admission_for_ports, WholeRuns.empty_list}
 pub use Rattle.cq_resume.proofs.{Coming.is_between, Coming.one_comes, Judging.packets_alike, Judging.tally_is, Scheduling.schedule_known, Tallied.whole, Upheld.all_stand, Upheld.tallies_up, Walking.cells_in}
 pub use Rattle.cq_resume.specs.declared.found.Name.{Name}
 pub use Rattle.cq_traffic.proofs.{ForPorts.arrivals_for, ForPorts.place_of}

@@ -4,7 +4,7 @@
 -- that compares each with the mark before it ends, with the mark of the run: each packet is named whole or not at all,
 -- and the mark is that of the packet that began last. And what was refused slot by slot is what is not named.
 use Rattle.cq_stopped.proofs.Terms.{fits_ok, after_input_ok, only_ok, came_to, Ok, ranking, Ranking, Machine, sum_by, sum_by-cons, rules, ◌≡◌, ℕ, zero, suc, ◌+◌, ◌<◌, eqb, Bool, true, false, List, [], ◌∷◌, length, Option, None, Some, refl, arith, length-append, map, and_parts, and_right, cases_Bool, cases_lt, eq-eqb, eqb-true, le-ltb, lt-leb, common_steps, map-append, filter-append, cons_option, filter, is_some, not, flat_map, arrival_at, Arrival, arriving, arriving_at, Cell, Queued, is_from, admitted_at, marks_kept, Marked, admission, held_after, mark_after, mark_at, marks_after, arriving_from, cells_refused, packets_refused, with_refused, Fabric, fabric_held, LimitedRecord, admissions_in, all_from_has, found_at, ComeBehind, IsLine, coming, has_limit, mark_on, has_name, Runs, Switch, is_named, key_of, Named, ArrivesIn, refused_here, where_up, Refused, is_between, one_comes, whole, cells_in, Name, filter_none, most_ports}
-use Rattle.cq_ideal.proofs.RestAtInput.{is_shown}
+use Rattle.cq_ideal.proofs.AtInput.{is_shown}
 use Rattle.cq_stopped.proofs.Ran.{came_in, came_of}
 
 -- ## A cell came just where one arrives

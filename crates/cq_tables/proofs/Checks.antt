@@ -1,6 +1,5 @@
 -- Checks in order: where one holds, the next ones decide, and where one does not, it is the first.
 use Rattle.cq_tables.proofs.Terms.{rules, arith, ◌≡◌, ℕ, List, [], ◌∷◌, ◌++◌, None, Result, IfErr, IfOk, refl, ◌∙◌, common_steps, TableRefusal, Data, Members, Place, Element, element_check, Key, table_checks, members, table_type, Check, Refuses, first, otherwise}
-use Rattle.cq_tables.specs.declared.refusal.TableRefusal.TheVariants as refusal
 use Rattle.cq_tables.specs.declared.place.Array.{Array}
 
 pub first_none : first [] ≡ None

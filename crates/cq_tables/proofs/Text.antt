@@ -1,7 +1,6 @@
 -- The document that a text is, and the verdict on it.
 use Rattle.cq_tables.proofs.Terms.{rules, arith, ◌≡◌, ℕ, nat_le, ◌<◌, ◌≤◌, List, [], ◌∷◌, ◌++◌, Option, Some, None, Result, Ok, IfErr, length, is_some, unwrap_or, subst, ap, ◌∙◌, sym, le-leb, common_steps, IsUtf8, cases_Bool, lt-leb, is_utf8-from_IsUtf8, IsUtf8-from_is_utf8, Members, no_members, Tables, TableRefusal, Refuses, at, first, refused, unless, NotToml, TooLong, Top, table_checks, checks_in, default_checks, document, file_check, top_keys, whole, read_or_refused, IsRefusedFor, tables_of, top_of, verdict}
 use Rattle.toml.specs.Parse.{parse_document}
-use Rattle.cq_tables.specs.declared.refusal.TableRefusal.TheVariants as refusal
 use Rattle.cq_tables.proofs.Checks.{all_in, first_all, first_here, first_none, first_on, here, here_in, later, later_in}
 
 pub document_some : (text : List ℕ) (top : Members) → IsUtf8 text → parse_document text ≡ Some top →

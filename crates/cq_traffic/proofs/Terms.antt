@@ -6,8 +6,8 @@ unfoldable pub use Rattle.cq_base.specs.Arriving.{traffic_of}
 pub use Rattle.cq_base.specs.Limits.{most_ports}
 pub use Rattle.cq_base.specs.declared.cell.Cell.{Cell}
 pub use Rattle.cq_cells.specs.Traffic.{IsInRange, IsTraffic, is_from, is_to, number_of}
-pub use Rattle.cq_ideal.proofs.{FlowFound.arriving_is, FlowFound.cell_listed, FlowFound.found_here, FlowFound.found_none, FlowFound.length-arriving, FlowFound.other_input, FlowFound.other_slot, RestAtInput.is_shown}
-unfoldable pub use Rattle.cq_ideal.proofs.FlowFound.{found}
+pub use Rattle.cq_ideal.proofs.{FlowCount.arriving_is, FlowCount.cell_listed, FlowCount.found_here, FlowCount.found_none, FlowCount.length-arriving, FlowCount.other_input, FlowCount.other_slot, AtInput.is_shown}
+unfoldable pub use Rattle.cq_ideal.proofs.FlowCount.{found}
 pub use Rattle.cq_ideal.proofs.Waiting.{total_more, total_none}
 unfoldable pub use Rattle.cq_ideal.proofs.Waiting.{total}
 pub use Rattle.cq_ideal.specs.Ending.{first_slots}

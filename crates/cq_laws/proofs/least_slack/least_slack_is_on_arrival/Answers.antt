@@ -1,5 +1,4 @@
-use Rattle.cq_laws.proofs.LeastSlack.{by_arrivals, more_after, arrival_place}
-use Rattle.cq_laws.proofs.LeastRun.{least_of_run, more_at_first}
+use Rattle.cq_laws.proofs.LeastSlack.{by_arrivals, more_after, arrival_place, least_of_run, more_at_first}
 use Rattle.cq_laws.proofs.least_slack.least_slack_is_on_arrival.Goals as goal
 
 pub returns : goal.returns
