@@ -118,13 +118,10 @@ module _ (input cell_bytes : ℕ) (rows : List Row) (from n : ℕ) (ended : IsEn
       let start = (row_at rows n).start in
       let cell = row_cell input cell_bytes n (row_at rows n) in
       let piece_of_last = arrives_piece slot start cell 0 (row_at rows n).cells (slot - start) in
-      let some : 0 < (row_at rows n).cells =
-      omega (arith, are.cut n inside, cells_above (row_at rows n).len cell_bytes) in
-      let cells : ℕ → List Arrival = λ k. row_arrivals input cell_bytes k (row_at rows k) in
+      let some = cells_above (row_at rows n).len cell_bytes in
       let P : Arrival → Type 0 = λ a. from ≤ a.slot → slot ≤ a.slot in
-      let flat = arrives_flat slot cells 0 (length rows) n in
-      let all = all_flat P cells 0 (length rows) in
-      search (arith, rules, flat, piece_of_last, all, all_made P, cases_lt, cases_eq, are.apart)
+      let flat = arrives_flat slot (λ (k : ℕ). row_arrivals input cell_bytes k (row_at rows k)) 0 (length rows) n in
+      search (arith, rules, flat, piece_of_last, all_flat P, all_made P, cases_lt, cases_eq, are.apart, are.cut n)
 
 -- ## Several lines
 

@@ -1,7 +1,7 @@
 -- The packets of an input, one after another. The rows so far give the arrivals so far: their number, their end, and
 -- how many are for each output.
 -- A line is laid out: where its packets go, what each step of it adds, and what stands at its end.
-use Rattle.cq_cells.proofs.Terms.{All-from_recursion, common_steps, rules, ◌≡◌, ℕ, zero, suc, ◌+◌, ◌-◌, ◌^◌, ◌<◌, ◌≤◌, max, eqb, cond, List, [], ◌∷◌, ◌++◌, length, map, flat_map, take, slice_index_or, slice_set, arith, range_with_len, sum_by, cases_eq, ne_eqb, append-nil, length-append, get_or-set_same, get_or-set_other, flat_map-append, filter-append, length-map-range_with_len, get_or-map-range_with_len, map-range_with_len_more, sum_by-cons, sum_by_more, sum_by-take-le, div-le_self, Arrival, end_of, Cell, Captured, file_length, Tables, route, Row, AreAdded, AreRows, row_at, line_arrivals, cells_of, packets_of, packet_at, stamp_slot, cells, start, cell_of, arrivals_of, arrivals_at, IsRecorded, is_to, number_of, ◌/◌, rows_from, PacketRow, AreTables, ports_of, few_kept, t0_of, sym, ◌∙◌, length-map, get_or-map, fill_by_all, route_output, packet_in}
+use Rattle.cq_cells.proofs.Terms.{All-from_recursion, common_steps, rules, ◌≡◌, ℕ, zero, suc, ◌+◌, ◌-◌, ◌^◌, ◌<◌, ◌≤◌, max, eqb, cond, List, [], ◌∷◌, ◌++◌, length, map, flat_map, take, slice_index_or, slice_set, arith, range_with_len, sum_by, cases_eq, ne_eqb, append-nil, length-append, get_or-set_same, get_or-set_other, flat_map-append, filter-append, length-map-range_with_len, get_or-map-range_with_len, map-range_with_len_more, sum_by-cons, sum_by_more, sum_by-take-le, div-le_self, Arrival, end_of, Cell, Captured, file_length, Tables, route, Row, AreAdded, AreRows, row_at, line_arrivals, cells_of, packets_of, packet_at, stamp_slot, cells, start, cell_of, arrivals_of, arrivals_at, IsRecorded, is_to, number_of, ◌/◌, rows_from, PacketRow, AreTables, ports_of, few_kept, t0_of, sym, length-map, get_or-map, fill_by_all, route_output, packet_in}
 use Rattle.cq_cells.proofs.Looked.{piece, no_row}
 use Rattle.cq_cells.proofs.Owned.{end_of-append}
 use Rattle.cq_cells.proofs.Pieces.{cells_above, cells_few}
@@ -172,11 +172,6 @@ module _ (t : Tables) (captures : List (List Captured)) (input : ℕ) (ways : Li
       slice_index_or ways k (0, 0) ≡ route t input (packet_at captures input k).body
   way_is k inside = grind (arith, common_steps, slice_index_or, get_or-map)
 
-  -- each leads to a port
-  way_to_port : (k output class : ℕ) → AreTables t → k < length (packets_of captures input) →
-      (output, class) ≡ slice_index_or ways k (0, 0) → output < ports_of t.setup
-  way_to_port k output class a inside its = let way = its ∙ way_is k inside in search (arith, rules, route_output)
-
 -- ## Rows
 
 abbrev no_place : PacketRow
@@ -213,7 +208,7 @@ next_row t captures input k ps places ways row origin free all rows old counts t
     starts cut routed long =
     let its = row_is_of 24 ps k no_place (record { stamp = 0; original = 0; body = [] }) in
     let within : k < length (packets_of captures input) = omega (arith, read.many) in
-    let to = way_to_port t captures input ways sent k row.output row.class tables within routed in
+    let to = route_output t input (packet_at captures input k).body tables in
     let made : row ≡ row_of t captures input k = grind (arith, common_steps, start_by, row_is_of, way_is, its) in
     let few = few_by t captures input (k + 1) tables.cell_bytes.0 read.recorded in
     let early = early_by t captures input (k + 1) read.recorded in

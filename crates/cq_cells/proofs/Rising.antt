@@ -46,18 +46,14 @@ module _ (t : Tables) (captures : List (List Captured)) where
     one_by_one = all_pairs IsLater (arrivals t captures) all_later;
   }
 
-  -- a line is short
-  line_few : (input : ℕ) → 1 ≤ t.cell_bytes → IsRecorded (packets_of captures input) →
-      (length (arrivals_at t captures input) ≤ 2 ^ 28) × (end_of (arrivals_at t captures input) ≤ 2 ^ 63 + 2 ^ 28)
-  unfolding arrivals_at
-  line_few input some r = grind (arith, common_steps, few_by, early_by)
-
+  -- lines are short
   lines_few : (a n : ℕ) → 1 ≤ t.cell_bytes → ((i : ℕ) → i < a + n → IsRecorded (packets_of captures i)) →
       (length (flat_map (arrivals_at t captures) (range_with_len a n)) ≤ n * 2 ^ 28)
       × (end_of (flat_map (arrivals_at t captures) (range_with_len a n)) ≤ 2 ^ 63 + 2 ^ 28)
+  unfolding arrivals_at
   lines_few a zero some r = (omega arith, omega arith)
   lines_few a (suc n) some r =
-      grind (arith, common_steps, line_few a some, length-append, end_of-append, lines_few (a + 1) n some)
+      grind (arith, common_steps, few_by, early_by, length-append, end_of-append, lines_few (a + 1) n some)
 
   pub short_is : AreTables t → length captures ≡ ports_of t.setup →
       ((i : ℕ) → i < length captures → IsRecorded (packets_of captures i)) → IsShort (arrivals t captures)
