@@ -4,16 +4,16 @@
 -- The rule allows each kind of step, and what each tells its seat is so.
 -- A seat keeps the numbers of its view through each kind of step, and a call on a ledger finds there what it was
 -- promised of the seat.
-use Rattle.cq_ledger.proofs.Terms.{rules, ℕ, suc, ◌≡◌, ◌≢◌, ◌*◌, ◌<◌, ◌≤◌, ◌^◌, min, List, get_or, set, Some, None, arith, bit_or, common_steps, none, cases_eq, get_or-le-sum_by, set_here, set_else, set_again, Orders, ports, position_of, IsOffered, state_after, events_at_most, output_in_range, sound-after, next_output-offered, View, Seated, Ruled, proposal, IsClaim, claim, look, IsLedger, output_at, words_proposed, proposed, words_claimed, claim_taken, claim_refused, blank, joined, spent, Sits, bit, claim_word, ◌++◌, [], ◌∷◌, refl, sym, ◌∙◌, ap, set-get_or, AreOffers, State, next_place, start, core_state, first_words, IsClaimed, IsUnclaimed, most_ports, ◌+◌, Option, Outcome, IsProposal, hand_at, hand_after, answer_of, HasClaimed}
+use Rattle.cq_ledger.proofs.Terms.{rules, ℕ, suc, ◌≡◌, ◌≢◌, ◌*◌, ◌<◌, ◌≤◌, ◌^◌, min, List, get_or, set, Some, None, arith, bit_or, common_steps, none, cases_eq, get_or-le-sum_by, set_here, set_else, set_again, Orders, ports, position_of, IsOffered, state_after, events_at_most, output_in_range, sound-after, next_output-offered, View, Seated, Ruled, proposal, IsClaim, claim, look, IsLedger, output_at, words_proposed, proposed, words_claimed, claim_taken, claim_refused, blank, joined, spent, Sits, bit, claim_word, ◌++◌, [], ◌∷◌, refl, sym, ◌∙◌, ap, set-get_or, AreOffers, State, next_place, start, core_state, first_words, IsClaimed, IsUnclaimed, most_ports, ◌+◌, Option, Outcome, IsProposal, hand_at, hand_after, answer_of}
 use Rattle.atomic_table.specs.Table.{step, Allows}
 use Rattle.cq_ledger.proofs.Proposing.{propose-keeps, claim-keeps, refuse-keeps}
-use Rattle.cq_ledger.proofs.Seats.{split-keeps, join-keeps, start-keeps, longer-keeps, half_of}
+use Rattle.cq_ledger.proofs.Seats.{split-keeps, join-keeps, start-keeps, longer-keeps}
 use Rattle.cq_ledger.proofs.Views.{bits, one_power, at_known, dealt}
 use Rattle.cq_ledger.specs.Moments.{IsEvent}
 use Rattle.cq_ledger.proofs.CoreState.{core_state-is}
 use Rattle.atomic_table.specs.Seated.{TableId}
 use Rattle.cq_ledger.specs.SeatFields.{IsSeat}
-use Rattle.cq_ledger.specs.Seats.{LedgerState, SeatState, IsSeatOf, HasClaimedAll}
+use Rattle.cq_ledger.specs.Seats.{LedgerState, SeatState, IsSeatOf}
 use Rattle.cq_ledger.proofs.Hands.{hand_at-placed, hand_after-placed}
 
 pub start-shows : (o : Orders) → AreOffers o → ports o ≤ most_ports →
@@ -45,8 +45,8 @@ module _ (o : Orders) (words : List ℕ) (views : List View) (k : IsLedger o wor
     pub taken-shows : i < ports o → IsUnclaimed words i → v.hand ≡ None → v.offers ≡ o →
         core_state o (words_claimed words i) (set views id (claim_taken v i)) ≡ core_state o words views
     unfolding claim-keeps
-    taken-shows r clear empty same_offers = as_before (words_claimed words i) (set views id (claim_taken v i))
-        (claim-keeps o words views k id i v at same_offers r clear empty) refl
+    taken-shows r clear empty same_offers =
+        as_before _ _ (claim-keeps o words views k id i v at same_offers r clear empty) refl
 
     -- a claim that finds the input claimed leaves the words as they are
     words-same : IsClaimed words i → words_claimed words i ≡ words
@@ -60,14 +60,12 @@ module _ (o : Orders) (words : List ℕ) (views : List View) (k : IsLedger o wor
         core_state o (words_claimed words i) (set views id (claim_refused v i)) ≡ core_state o words views
     unfolding refuse-keeps dealt
     refused-shows claimed same_offers =
-        rw (words-same claimed) (as_before words (set views id (claim_refused v i))
-        (refuse-keeps o words views k id i v at same_offers claimed) refl)
+        rw (words-same claimed) (as_before words _ (refuse-keeps o words views k id i v at same_offers claimed) refl)
 
   pub split-shows : core_state o words (set views id v ++ blank v.offers ∷ []) ≡ core_state o words views
   unfolding longer-keeps dealt
   split-shows = ap (λ l. core_state o words (l ++ blank v.offers ∷ [])) (set_again views id v at)
-      ∙ as_before words (views ++ blank v.offers ∷ [])
-      (longer-keeps o words views k v.offers (half_of o v (k.same id v at))) refl
+      ∙ as_before words _ (longer-keeps o words views k v.offers (search (rules, k.same id v at))) refl
 
   pub join-shows : (other : ℕ) (u : View) → other ≢ id → Sits views other u → v.hand ≡ None → u.hand ≡ None →
       v.offers ≡ o → core_state o words (set (set views id (joined v u)) other spent) ≡ core_state o words views
@@ -169,12 +167,6 @@ module _ (me : Seated) (claims : ℕ) (hand : Option (ℕ × ℕ)) (made : ℕ) 
         IsSeat me' claims hand' (made + 1)
     proposed-seat i p found answer hand' is answer_is hand_is =
         let placed = λ (q r : ℕ). hand_after-placed me.0.offers i p answer (q, r) in search (arith, rules, placed)
-
--- a seat that has claimed every port has claimed those of the ledger's offers
-pub all_claimed : (l : LedgerState) (s : SeatState) (table : TableId) (offers : Orders) (mine : TableId) (view : View)
-    → AreMatched l s table offers mine view → HasClaimedAll s →
-    (i : ℕ) → i < ports offers → HasClaimed view i
-all_claimed l s table offers mine view m all i h = grind (arith, common_steps)
 
 pub ruleset seat_steps = (matched, join-keeps, set_else, split-keeps)
 

@@ -62,9 +62,9 @@ module _ (o : Orders) (words : List ℕ) (views : List View) (k : IsLedger o wor
       (arith, rules, output-is, in_hands-some, k.hands.place, keeper-holds, w.last, done, k.unclaimed, bits.small)
 
   places-are : map (next_shown o words views) (range_with_len 0 (ports o)) ≡ s.places
-  places-are = ext_get_or 0 (map (next_shown o words views) (range_with_len 0 (ports o))) s.places
-      (let a = length-map-range_with_len (next_shown o words views) 0 (ports o) in let b = w.inputs in omega arith)
-      (λ i l. search (arith, rules, get_or-map-range_with_len, length-map-range_with_len, next-is))
+  places-are =
+      let places = ext_get_or 0 (map (next_shown o words views) (range_with_len 0 (ports o))) in
+      search (arith, rules, places, w.inputs, get_or-map-range_with_len, length-map-range_with_len, next-is)
 
   pub core_state-is : core_state o words views ≡ s
   unfolding core_state

@@ -1,5 +1,5 @@
 -- The matching is read off the words, one output after another.
-use Rattle.cq_ledger.proofs.Terms.{rules, ℕ, ◌≡◌, ◌≢◌, ◌+◌, ◌<◌, List, length, get_or, set, Some, None, sym, ◌∙◌, ap, arith, add-one, common_steps, cases_eq, get_or-set_same, get_or-set_other, length-set, Orders, AreOffers, ports, outputs_of, inputs_of, Partners, partner_of, matching_of-is, State, position_held, Holds, holder, matching_of, IsSound, same_at_place, input_in_range, output_in_range, inputs_at_most, holder-holds, none_unless, some, get_elem?, Shows}
+use Rattle.cq_ledger.proofs.Terms.{rules, ℕ, ◌≡◌, ◌≢◌, ◌+◌, ◌<◌, List, length, get_or, set, Some, None, sym, ◌∙◌, ap, arith, add-one, common_steps, cases_eq, get_or-set_same, get_or-set_other, length-set, Orders, AreOffers, ports, outputs_of, inputs_of, Partners, partner_of, State, position_held, Holds, holder, IsSound, same_at_place, input_in_range, inputs_at_most, holder-holds, none_unless, some, get_elem?, Shows}
 use Rattle.cq_ledger.proofs.Views.{at_known}
 
 -- the matching has the pairs of the outputs below n and of those whom they hold, and no others
@@ -39,10 +39,6 @@ module _ (o : Orders) (v : AreOffers o) (s : State) (w : IsSound o s) (m : Partn
           there = λ x q e. grind (arith, common_steps, r.there x q, same, other x, free, here);
           back = λ x q l h. grind (arith, common_steps, r.back x q, same, other x, same_at_place, free, here);
         }
-
-pub reads_all : (o : Orders) → AreOffers o → (s : State) → IsSound o s → (m : Partners) → IsRead o s m (ports o) →
-    m ≡ matching_of o s
-reads_all o v s w m r = grind (arith, common_steps, matching_of-is, r.there, r.back, output_in_range, v.shown_back)
 
 -- ## The word of an output
 

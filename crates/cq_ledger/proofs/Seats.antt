@@ -1,6 +1,6 @@
 -- Making the first seat, a split and a join keep the rule, and are no event: the words stay, and what the seats have
 -- claimed, seen, made and in their hands is only dealt out anew.
-use Rattle.cq_ledger.proofs.Terms.{ℕ, zero, suc, ◌≡◌, ◌≢◌, ◌⊎◌, inl, inr, ◌+◌, ◌≤◌, List, [], ◌∷◌, ◌++◌, set, replicate, None, refl, sym, ◌∙◌, ap, arith, bit_or, rules, sum_by, cases_eq, length-replicate, get_or-replicate, sum_by_push, at_set, set_else, set_again, at_longer, at_snoc, Orders, AreOffers, ports, held-start, next_place-start, IsLedger, IsViewOf, blank, joined, spent, Sits, bit, View, common_steps, most_ports, AreClaims}
+use Rattle.cq_ledger.proofs.Terms.{ℕ, zero, suc, ◌≡◌, ◌≢◌, ◌⊎◌, inl, inr, ◌+◌, ◌≤◌, List, [], ◌∷◌, ◌++◌, set, replicate, None, refl, sym, ◌∙◌, ap, arith, bit_or, rules, cases_eq, length-replicate, get_or-replicate, sum_by_push, at_set, set_else, set_again, at_longer, at_snoc, Orders, AreOffers, ports, held-start, next_place-start, IsLedger, IsViewOf, blank, joined, spent, Sits, bit, View, common_steps, most_ports, AreClaims}
 use Rattle.cq_ledger.proofs.Views.{bits, same_at, sits_now, made_with, hands_from, offers_with, dealt}
 
 -- where no bit of either is set, no bit is
@@ -48,14 +48,10 @@ module _ (o : Orders) (words : List ℕ) (views : List View) (k : IsLedger o wor
       (hands_from k.hands (search (arith, rules, at)) (search (rules, at_longer))) (omega arith)
       (search (arith, rules, at, k.idle))
 
--- a seat's half has the seat's offers
-pub half_of : (o : Orders) (v : View) → IsViewOf o v → IsViewOf o (blank v.offers)
-half_of o v is = search (rules)
-
--- a split: the old view stays
+-- a split: the old view stays, and the other half has its offers
 pub split-keeps : (o : Orders) (words : List ℕ) (views : List View) (k : IsLedger o words views) (id : ℕ) (v : View) →
     Sits views id v → IsLedger o words (set views id v ++ blank v.offers ∷ [])
-split-keeps o words views k id v at = search (rules, set_again, longer-keeps, half_of, k.same)
+split-keeps o words views k id v at = search (rules, set_again, longer-keeps, k.same)
 
 module _ (o : Orders) (words : List ℕ) (views : List View) (k : IsLedger o words views) (id : ℕ) (v : View)
     (at_id : Sits views id v) (gone : ℕ) (w : View) (apart : gone ≢ id) (at_gone : Sits views gone w)
@@ -103,9 +99,6 @@ module _ (o : Orders) (words : List ℕ) (views : List View) (k : IsLedger o wor
   by_one_now q x =
       search (rules, cases_eq x.0 id, cases_eq x.0 gone, same_at, here, bits.left, bits.right, still_there)
 
-  pub made_now : sum_by (λ (y : View). y.made) whole ≡ sum_by (λ (y : View). y.made) views
-  made_now = search (arith, rules, made_with, set_else)
-
   unfoldable pub join-keeps : IsLedger o words whole
   join-keeps =
       dealt o words views whole k
@@ -121,4 +114,4 @@ module _ (o : Orders) (words : List ℕ) (views : List View) (k : IsLedger o wor
       })
       (hands_from k.hands (λ b q p u a h. let m = kind b u a in (u, grind (arith, common_steps, m), h))
       (λ q z. grind (arith, common_steps, same_at views id v, same_at views gone w, still_there)))
-      made_now (λ b u a. idle_now b u (kind b u a))
+      (search (arith, rules, made_with, set_else)) (λ b u a. idle_now b u (kind b u a))

@@ -1,5 +1,5 @@
-use Rattle.cq_ledger.proofs.Terms.{rules, arith, slots_items, State, IsSound, inputs_at_most, Shows}
-use Rattle.cq_ledger.proofs.Matched.{IsRead, IsWord, holder_inside, holder_free, word_joins, word_skips, output_free, reads_all}
+use Rattle.cq_ledger.proofs.Terms.{rules, arith, matching_of-is, output_in_range, slots_items, State, IsSound, inputs_at_most, Shows}
+use Rattle.cq_ledger.proofs.Matched.{IsRead, IsWord, holder_inside, holder_free, word_joins, word_skips, output_free}
 use Rattle.cq_ledger.proofs.reading.read_matching.Goals as goal
 use Rattle.cq_ledger.proofs.reading.read_matching.Goals.{After-word-word, then-word-ports, else-word-ports}
 
@@ -37,4 +37,4 @@ loop-output-preserved c = λ s w shows.
     ]
 
 pub returns : goal.returns
-returns c = search (arith, rules, IsRead, reads_all, c.loop-output.invariant)
+returns c = search (arith, rules, IsRead, matching_of-is, c.loop-output.invariant, output_in_range)

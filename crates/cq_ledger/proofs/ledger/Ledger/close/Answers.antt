@@ -1,6 +1,6 @@
-use Rattle.cq_ledger.proofs.Terms.{arith, rules, ◌≡◌, ◌∙◌, ap, slots_items, IsInputBest, proposals}
+use Rattle.cq_ledger.proofs.Terms.{arith, rules, common_steps, ◌≡◌, ◌∙◌, ap, slots_items, IsInputBest, proposals}
 use Rattle.cq_ledger.proofs.Closing.{closing-shown, closing-phase}
-use Rattle.cq_ledger.proofs.Allowed.{matched, all_claimed}
+use Rattle.cq_ledger.proofs.Allowed.{matched}
 use Rattle.cq_ledger.proofs.ledger.Ledger.close.Goals as goal
 use Rattle.cq_ledger.proofs.ledger.Ledger.close.Goals.{After-read_matching-matching}
 
@@ -18,8 +18,7 @@ phase c =
     let m = matched c.args.self c.args.seat _ _ _ _ c.self.view_is c.seat.view_is c.requires.seat in
     closing-phase c.self.inside.table.shared.key c.self.inside.offers c.self.invariant.0 final.0.words
     (slots_items c.close_with-closed.result.words) final.0.views final.1.0 final.2
-    c.seat.inside.seat.id c.seat.inside.seat.me.0 final.1.1
-    (all_claimed c.args.self c.args.seat _ _ _ _ m c.requires.claimed)
+    c.seat.inside.seat.id c.seat.inside.seat.me.0 final.1.1 (λ i h. grind (arith, common_steps))
     (ap (λ v. v.hand) m.view_seen ∙ c.requires.hand)
     c.read_matching-matching.result c.read_matching-matching.ensures
 
