@@ -2,7 +2,7 @@
 -- below the cushion, since it is more urgent, ahead of the first one that is less urgent, and ahead of the end. So it
 -- stays the first, and the newcomer's output stands behind it in the list of all the cells' outputs, where a repeat
 -- is not seen.
-use Rattle.cq_prefs.proofs.Terms.{common_steps, rules, ◌≡◌, ℕ, suc, ◌<◌, true, List, [], ◌∷◌, length, map, Some, refl, arith, insert, cases_eq, eq-eqb, ne_eqb, length-map, ext_get_or, find_at, slice_get_within, Queued, IsBefore, MoreUrgentAhead, is_for, first_for, place_for, place_of_later, place_of_arrival, with_arrival, key_laws, first_later, list_of, output_order, orders_of, first_key, key_before, slice_get-get_or, and_parts, passes_at_first}
+use Rattle.cq_prefs.proofs.Terms.{common_steps, rules, ◌≡◌, ℕ, suc, ◌<◌, true, List, [], ◌∷◌, length, map, Some, refl, arith, insert, cases_eq, eq-eqb, ne_eqb, length-map, ext_get_or, find_at, slice_get_within, Queued, IsBefore, MoreUrgentAhead, first_for, place_for, place_of_later, place_of_arrival, with_arrival, key_laws, first_later, list_of, output_order, orders_of, first_key, key_before, slice_get-get_or, and_parts, passes_at_first}
 use Rattle.cq_base.proofs.Lists.{first_le}
 use Rattle.cq_prefs.proofs.ByKey.{first_is_for}
 use Rattle.cq_prefs.proofs.Changes.{same_but_arrival}
@@ -11,18 +11,13 @@ use Rattle.cq_prefs.proofs.OneOrder.{same_orders}
 
 -- ## Where it goes in
 
--- it stands ahead of the first less urgent one for its output
-first_ahead : (c f : Queued) (xs : List Queued) → first_for c.cell.output xs ≡ Some f → IsBefore f c →
-    place_for c.cell.output xs < place_of_later c xs
-first_ahead c f xs h before =
-    let there = slice_get-get_or xs (place_of_later c xs) f in let none = first_le (is_for c.cell.output) xs in
-    grind (arith, common_steps, find_at, slice_get_within, there, none, and_parts, key_laws.one_way, passes_at_first)
-
--- so the newcomer goes in behind it
+-- the first one stands ahead of the first less urgent one for its output, so the newcomer goes in behind it
 goes_behind : (cushion : ℕ) (c f : Queued) (xs : List Queued) → first_for c.cell.output xs ≡ Some f → IsBefore f c →
     MoreUrgentAhead cushion c xs →
     (place_for c.cell.output xs < place_of_arrival cushion c xs) × (place_for c.cell.output xs < length xs)
-goes_behind cushion c f xs h before ahead = search (rules, find_at, slice_get_within, first_is_for, first_ahead)
+goes_behind cushion c f xs h before ahead =
+    let at = slice_get-get_or xs (place_of_later c xs) f in
+    search (rules, find_at, slice_get_within, first_is_for, at, first_le, and_parts, key_laws.one_way, passes_at_first)
 
 -- ## What stays
 

@@ -140,11 +140,8 @@ module _ (m : Partners) (old new : List (List Queued)) (k : ℕ)
   abbrev kept : ℕ → Bool
   kept i = not (is_pair m i k)
 
-  no_pair : (i : ℕ) → kept i ≡ true → is_pair m i k ≡ false
-  no_pair i e = not-true _ e
-
   same_key : (i : ℕ) → kept i ≡ true → key_at (map (first_key k) old) i ≡ key_at (map (first_key k) new) i
-  same_key i e = grind (arith, common_steps, key_at-first, no_pair)
+  same_key i e = grind (arith, common_steps, key_at-first, not-true)
 
   pub same_inputs :
       filter (λ i. not (is_pair m i k)) (input_order old k) ≡ filter (λ i. not (is_pair m i k)) (input_order new k)
@@ -155,8 +152,8 @@ module _ (m : Partners) (old new : List (List Queued)) (k : ℕ)
       (pairs_kept _ kept (input_order old k) (inputs_rise old k (input_order old k) a))
       (pairs_kept_with _ (λ x y. before (map (first_key k) old) x y ≡ true) kept
       (λ x y s t later. search (arith, rules, same_key)) (input_order new k) (inputs_rise new k (input_order new k) b))
-      (λ i s. search (arith, rules, kept_has, listed, has_kept, among, no_pair))
-      (λ i s. search (arith, rules, kept_has, listed, has_kept, among, no_pair))
+      (λ i s. search (arith, rules, kept_has, listed, has_kept, among, not-true))
+      (λ i s. search (arith, rules, kept_has, listed, has_kept, among, not-true))
 
 -- ## All lists
 

@@ -8,7 +8,7 @@
 -- is renewed.
 -- One order that is known but for one port, which left it. Where there is no cell, what is left is the whole order.
 -- Where there is one, the port goes back in at the place that its first cell tells.
-use Rattle.cq_prefs.proofs.Terms.{common_steps, rules, ◌≡◌, ◌≢◌, ℕ, ◌+◌, ◌<◌, ◌≤◌, eqb, Bool, true, false, List, [], ◌∷◌, length, get_or, set, Option, Some, None, refl, sym, ◌∙◌, arith, not, replicate, map, filter, All, IsDistinct, cond-true, cases_Bool, cases_eq, cases_lt, eq-eqb, ne_eqb, eqb-true, length-map-range_with_len, get_or-map-range_with_len, length-map, length-set, get_or_past, get_or_default, get_or-set_same, get_or-set_other, ext_get_or, length-replicate, Queued, Waiting, cells_of, AreWaiting, list_of, output_order, input_order, orders_of, HasCellFor, FirstKeysDiffer, Orders, AreOffers, ports, outputs_of, inputs_of, Partners, partner_of, ArePairs, with_pair, without, is_partner, is_pair, AreSameWithout, first_key, kept_has, Has, has_kept, most_ports}
+use Rattle.cq_prefs.proofs.Terms.{common_steps, rules, ◌≡◌, ◌≢◌, ℕ, ◌+◌, ◌<◌, ◌≤◌, eqb, Bool, true, List, [], ◌∷◌, length, get_or, set, Some, None, refl, arith, not, replicate, map, filter, All, IsDistinct, cond-true, cases_Bool, cases_eq, cases_lt, eq-eqb, ne_eqb, eqb-true, length-map-range_with_len, get_or-map-range_with_len, length-map, length-set, get_or_past, get_or_default, get_or-set_same, get_or-set_other, ext_get_or, length-replicate, Queued, Waiting, cells_of, AreWaiting, list_of, output_order, input_order, orders_of, HasCellFor, FirstKeysDiffer, Orders, AreOffers, ports, outputs_of, inputs_of, Partners, partner_of, ArePairs, with_pair, without, is_pair, AreSameWithout, first_key, kept_has, Has, has_kept, most_ports}
 use Rattle.std.proofs.lemmas.List.{get_or-map}
 use Rattle.std.proofs.lemmas.Simd.{map-map}
 use Rattle.cq_prefs.proofs.InputOrder.{OutputsInRange, before, outputs_at, inputs_at, are_offers, is_input_order}
@@ -56,12 +56,9 @@ filter_all p (x ∷ xs) all = grind (arith, common_steps, cond-true, filter_all 
 
 -- ## Partners
 
-no_partner : (p : Option ℕ) (j : ℕ) → p ≢ Some j → is_partner p j ≡ false
-no_partner p j ne = grind (arith, common_steps, ne_eqb)
-
 -- of the inputs, only the one whose partner it is makes a pair with an output
 one_partner : (m : Partners) → ArePairs m → (i j k : ℕ) → partner_of m i ≡ Some j → is_pair m k j ≡ eqb k i
-one_partner m pairs i j k e = search (rules, eq-eqb, no_partner, pairs.once, ne_eqb, cases_eq)
+one_partner m pairs i j k e = search (rules, eq-eqb, ne_eqb, pairs.once, cases_eq)
 
 -- ## Some inputs renewed
 
@@ -78,7 +75,7 @@ pub record Renewing (m : Partners) (n : ℕ) (o t : Orders) : Type 0 where
       without i (inputs_of o j) ≡ without i (inputs_of t j)
 
 pub none_renewed : (m : Partners) (o t : Orders) → ArePairs m → AreOffers o → AreSameWithout m o t → Renewing m 0 o t
-none_renewed m o t pairs v same = search (arith, rules, filter_all, no_partner, one_partner)
+none_renewed m o t pairs v same = search (arith, rules, filter_all, one_partner, ne_eqb)
 
 -- the next input has one: its order and that of its partner are renewed
 pub one_more :
@@ -133,12 +130,6 @@ pub record Next (m : Partners) (n j : ℕ) (outputs inputs : List (List ℕ)) (l
 
 module _ {m : Partners} {n j : ℕ} {outputs inputs : List (List ℕ)} {lists : List Waiting}
     (x : Next m n j outputs inputs lists) where
-  has_row : n < length outputs
-  has_row = grind (arith, common_steps, length-map)
-
-  has_column : j < length inputs
-  has_column = grind (arith, common_steps, length-map, length-map-range_with_len, x.pairs.ports)
-
   -- the order that its partner is to have
   column_is : inputs_of (orders_of (cells_of lists)) j ≡ input_order (cells_of lists) j
   column_is = grind (arith, common_steps, length-map, x.pairs.ports, inputs_at)
@@ -148,7 +139,7 @@ module _ {m : Partners} {n j : ℕ} {outputs inputs : List (List ℕ)} {lists : 
       × (length (input_order (cells_of lists) j) ≤ most_ports)
   column_asks column e =
       let few = inputs_at_most (orders_of (cells_of lists)) x.offers.0 j in
-      search (arith, rules, few, get_or_default, has_column, column_is)
+      search (arith, rules, few, get_or_default, column_is, length-map, length-map-range_with_len, x.pairs.ports)
 
   -- the order that the input is to have, and what its renewal asks
   module _ (row : List ℕ) (list : Waiting) (at : list ≡ get_or lists n list) where
@@ -159,24 +150,21 @@ module _ {m : Partners} {n j : ℕ} {outputs inputs : List (List ℕ)} {lists : 
         × (without j row ≡ without j (output_order list.cells)) × (length (output_order list.cells) ≤ most_ports)
     row_asks e =
         let few = outputs_at_most (orders_of (cells_of lists)) x.offers.0 n in
-        search (arith, rules, few, row_is, get_or_default, has_row)
+        search (arith, rules, few, row_is, get_or_default, length-map)
 
     pub next_renewed : (column : List ℕ) → row ≡ output_order list.cells → column ≡ input_order (cells_of lists) j →
         Renewing m (n + 1) (record { outputs = set outputs n row; inputs = set inputs j column })
         (orders_of (cells_of lists))
-    next_renewed column e f = let now = e ∙ sym row_is in search (rules, one_more, has_row, has_column, column_is)
+    next_renewed column e f =
+        search (arith, rules, one_more, row_is, column_is, length-map, length-map-range_with_len, x.pairs.ports)
 
 -- the one pair
 abbrev pub pair_of : List Waiting → ℕ → ℕ → Partners
 pair_of lists n j = with_pair (replicate (length lists) None) n j
 
+ruleset pair_steps = (nobody, length-set, length-replicate, get_or-set_same, get_or-set_other)
+
 module _ (n j : ℕ) (lists : List Waiting) (inside : n < length lists) (within : j < length lists) where
-  pair_size : length (pair_of lists n j) ≡ length lists
-  pair_size = grind (arith, common_steps, length-set, length-replicate)
-
-  pair_else : (i : ℕ) → i ≢ n → partner_of (pair_of lists n j) i ≡ None
-  pair_else i other = grind (arith, common_steps, get_or-set_other, nobody)
-
   pair_apart : ArePairs (pair_of lists n j)
   pair_apart = grind (arith, common_steps, length-replicate, joined_pairs, no_pairs, nobody)
 
@@ -187,7 +175,7 @@ module _ (n j : ℕ) (lists : List Waiting) (inside : n < length lists) (within 
       Next (pair_of lists n j) n j outputs inputs lists
   pair_next outputs inputs o now shown v is many same =
       let first = none_renewed (pair_of lists n j) o (orders_of (cells_of lists)) pair_apart v.0 in
-      search (arith, rules, first, none_between, pair_else, still_offers, pair_apart, pair_size, get_or-set_same)
+      search (arith, rules, first, none_between, still_offers, pair_apart, pair_steps)
 
   -- the two orders are all
   pub pair_renewed : (outputs inputs : List (List ℕ)) (row column : List ℕ) (list : Waiting) →
@@ -195,8 +183,8 @@ module _ (n j : ℕ) (lists : List Waiting) (inside : n < length lists) (within 
       column ≡ input_order (cells_of lists) j →
       record { outputs = set outputs n row; inputs = set inputs j column } ≡ orders_of (cells_of lists)
   pair_renewed outputs inputs row column list x at e f =
-      let m = pair_of lists n j in let size = pair_size in
-      search (arith, rules, next_renewed x, all_renewed m (length m), none_between m (n + 1) (length m), pair_else)
+      let m = pair_of lists n j in
+      search (arith, rules, next_renewed x, all_renewed m (length m), none_between m (n + 1) (length m), pair_steps)
 
 -- ## The order of an input, and that of an output
 
