@@ -1,9 +1,10 @@
 //! Where a packet goes, and in which class.
-ghost use Rattle.std.specs.Prelude.{◌≡◌, ◌<◌};
-ghost use Rattle.cq_route.specs.Route.{class_for, is_met, output_for, route};
+ghost use Rattle.std.specs.Prelude.{◌≡◌, ◌<◌, find};
+ghost use Rattle.std.specs.Option.{option_map};
+ghost use Rattle.cq_route.specs.Route.{class_for, is_met, is_to, output_for, route};
 ghost use Rattle.cq_route.specs.Tables.{AreTables, classes_of, ports_of};
 
-use crate::{RuleRow, Tables};
+use crate::{AddressRow, RuleRow, Tables};
 use cq_base::{Class, Port};
 use cq_frame::{FrameParts, parts};
 
@@ -24,25 +25,39 @@ impl Tables {
         (self.output_for(fields.dest), self.class_for(input, &fields))
     }
 
+    // The first row with the address to which a frame goes.
+    fn row_for(&self, dest: Option<[u8; 6]>) -> Option<&AddressRow>
+        ensures { option_map (λ row. row.now) result ≡ find (is_to dest) self.now.addresses }
+    {
+        self.addresses
+            .as_slice()
+            .iter()
+            .find(|row| dest == Some(row.mac))
+    }
+
     fn output_for(&self, dest: Option<[u8; 6]>) -> Port
         ensures { result ≡ output_for self.now dest }
     {
-        let rows = self.addresses.as_slice();
-        match rows.iter().find(|row| dest == Some(row.mac)) {
-            Some(row) => row.output,
-            None => self.default_output,
-        }
+        self.row_for(dest)
+            .map_or(self.default_output, |row| row.output)
+    }
+
+    // The first rule that a packet meets which arrives at the input with these fields.
+    fn rule_for(&self, input: Port, fields: &FrameParts) -> Option<&RuleRow>
+        ensures { option_map (λ rule. rule.now) result ≡ find (is_met input fields.now) self.now.rules }
+    {
+        self.rules
+            .as_slice()
+            .iter()
+            .find(|rule| rule.is_met(input, fields))
     }
 
     /// The class of a packet that arrives at the input with these fields.
     pub(crate) fn class_for(&self, input: Port, fields: &FrameParts) -> Class
         ensures { result ≡ class_for self.now input fields.now }
     {
-        let rules = self.rules.as_slice();
-        match rules.iter().find(|rule| rule.is_met(input, fields)) {
-            Some(rule) => rule.class,
-            None => self.default_class,
-        }
+        self.rule_for(input, fields)
+            .map_or(self.default_class, |rule| rule.class)
     }
 }
 
