@@ -36,9 +36,9 @@ module _ (o : Orders) (v : AreOffers o) (s : State) (w : IsSound o s) where
     others : (k q : ℕ) → partner_of (set (matching_of o s) (holder o s j) None) k ≡ Some q → Holds o s q k × (q ≢ j)
     others k q e =
         let held = holder-holds o v s w j r n in
-        let gone = get_or-set_same (matching_of o s) (holder o s j) None None in
-        let stays = get_or-set_other (matching_of o s) (holder o s j) k None None in
-        let only = same_at_place (inputs_of o j) k (holder o s j) in
+        let gone = get_or-set_same (matching_of o s) in
+        let stays = get_or-set_other (matching_of o s) in
+        let only = same_at_place (inputs_of o j) k in
         search (arith, rules, input_in_range, v.shown_back, matching-of, gone, partner-holds, only, stays, cases_eq)
 
     pub unheld-parted : (k : ℕ) → partner_of (set (matching_of o s) (holder o s j) None) k ≢ Some j
@@ -65,13 +65,12 @@ module _ (o : Orders) (v : AreOffers o) (s : State) (w : IsSound o s) where
           set m i (Some (next_output o s i)) ≡ matching_of o (propose o s i)
       matching-taken m size there back =
           let j : ℕ = next_output o s i in
-          let now : position_held (propose o s i) j ≡ position_of o j i = let a = st.held_asked in omega arith in
           let known = input_in_range o i j st.offered in
           let here = get_or-set_same m i (Some j) None (omega arith) in
           let shown = v.shown i j st.offered in
           matching_of-is o v (propose o s i) (sound-step o v s w i f) (set m i (Some j)) (length-set m i _ ∙ size)
-          (search (arith, rules, get_or-set_other, st.held_other, there, same_Some, cases_eq))
-          (search (arith, rules, get_or-set_other, st.held_other, same_at_place, cases_eq))
+          (search (arith, rules, get_or-set_other, st.held_other, st.held_asked, there, same_Some, cases_eq))
+          (search (arith, rules, get_or-set_other, st.held_other, st.held_asked, same_at_place, cases_eq))
 
       pub matching-empty : position_held s (next_output o s i) ≡ ports o →
           set (matching_of o s) i (Some (next_output o s i)) ≡ matching_of o (propose o s i)
@@ -84,8 +83,8 @@ module _ (o : Orders) (v : AreOffers o) (s : State) (w : IsSound o s) where
           let j : ℕ = next_output o s i in
           let r = output_in_range o v i j st.offered in
           let held = holder-holds o v s w j r n in
-          let taken = matching-taken (set (matching_of o s) (holder o s j) None) in
-          search (arith, rules, taken, length-set, matching-of, others j r n, held_once, get_or-set_other, partner-from)
+          let but = others j r n in
+          search (arith, rules, matching-taken, length-set, matching-of, but, held_once, get_or-set_other, partner-from)
 
 -- ## The steps put together
 
@@ -130,9 +129,6 @@ module _ {o : Orders} {c : Progress} {i j h : ℕ} {ahead : Option ℕ} (a : IsA
     sizes : (length d.state.places ≡ ports o) × (length d.matching ≡ ports o)
     sizes = search (arith, rules, sound, matching-of)
 
-    free_input : IsFreeInput d.matching i
-    free_input = grind (arith, common_steps, input_known, matching-of, partner-free)
-
     -- the output keeps whom it holds
     pub rejected : ahead ≡ None → Proposed o c d i Rejected
     unfolding answer_of
@@ -148,7 +144,7 @@ module _ {o : Orders} {c : Progress} {i j h : ℕ} {ahead : Option ℕ} (a : IsA
 
     pub can_take : h ≡ ports o → CanTake o d i j
     can_take nobody =
-        search (arith, rules, known, sizes, free_input, unheld-empty o a.offers c.state)
+        search (arith, rules, known, sizes, matching-of, partner-free, unheld-empty o a.offers c.state)
 
     pub holding : {p : ℕ} → ahead ≡ Some p → h ≡ ports o → {e : Progress} → Takes o d e i j p →
         Proposed o c e i Held
@@ -170,20 +166,18 @@ module _ {o : Orders} {c : Progress} {i j h : ℕ} {ahead : Option ℕ} (a : IsA
       can_part = search (arith, rules, sizes, input_in_range, a.offers.shown_back, partner-from, sound, holds_other)
 
       module _ {e : Progress} (s : Parts o d e k) where
-        parted : e.matching ≡ set (matching_of o c.state) (holder o c.state (next_output o c.state i)) None
-        parted = grind (arith, common_steps)
-
         still_free : IsFreeInput e.matching i
-        still_free = search (arith, rules, free_input, a.free.unheld, holds_other, get_or-set_other)
+        still_free =
+            search (arith, rules, matching-of, partner-free, a.free.unheld, holds_other, get_or-set_other)
 
         pub can_take_then : CanTake o e i j
         can_take_then =
-            search (arith, rules, known, sizes, still_free, parted, length-set, unheld-parted, next_known, other_held)
+            search (arith, rules, known, sizes, still_free, length-set, unheld-parted, next_known, other_held)
 
         pub displaced : {p : ℕ} → ahead ≡ Some p → {f : Progress} → Takes o e f i j p → Proposed o c f i (Displaced k)
         unfolding answer_of
-        displaced some t = search
-            (arith, rules, taken, less, sound, other_held, ne_eqb, lt-ltb, parted, matching-displaced, reached-step)
+        displaced some t =
+            search (arith, rules, taken, less, sound, other_held, ne_eqb, lt-ltb, matching-displaced, reached-step)
 
   pub held_inside : h ≢ ports o → h < length (inputs_of o j)
   held_inside n = search (arith, rules, holder-holds, sound, next_known)

@@ -29,8 +29,7 @@ module _ (o : Orders) (v : AreOffers o) (c : Progress) (r : IsReached o c) where
 
   pub free-shown : (k : ℕ) → k < length c.free → IsFree o c.state (get_or c.free k 0)
   unfolding free_inputs
-  free-shown k inside =
-      search (arith, rules, filter_passes (is_free o c.state) (range_with_len 0 (ports o)) k 0, free_if, sound-reached)
+  free-shown k inside = search (arith, rules, filter_passes (is_free o c.state), free_if, sound-reached)
 
   quiet-reached : c.free ≡ [] → IsQuiescent o c.state
   unfolding free_inputs

@@ -5,7 +5,7 @@ pub use Rattle.cq_base.specs.Limits.{most_ports}
 pub use Rattle.cq_prefs.proofs.ByKey.{length-put, put_is, first_at_point, le_not_lt}
 pub use Rattle.cq_prefs.proofs.Quiet.{events-quiet, events_at_most}
 pub use Rattle.cq_prefs.proofs.Holding.{free_if, free_only_if, held_once, holder-holds, matching-of, matching_of-is, partner-free, partner-from, partner-holds, partner-is}
-pub use Rattle.cq_prefs.proofs.Members.{Apart, apart_filter, apart_range}
+pub use Rattle.cq_prefs.proofs.Members.{Apart}
 pub use Rattle.cq_prefs.proofs.Pairs.{nobody}
 pub use Rattle.cq_prefs.proofs.Places.{get_or-place_in, input_in_range, inputs_at_most, output_in_range, outputs_at_most, place_in-get_or, same_at_place}
 pub use Rattle.cq_prefs.proofs.Changes.{IsPut, left_by, not_there, put_back, without_here, without_there}

@@ -4,7 +4,7 @@
 -- What the steps of a core do to what it shows. Its fields are what was shown; the free inputs that it shows are those
 -- that wait by the places and the pairs, and so they are after a step that takes an input out, or puts it back, as it
 -- waits.
-use Rattle.cq_pair.proofs.Terms.{common_steps, rules, ℕ, ◌≡◌, ◌≢◌, ◌<◌, ◌≤◌, Bool, true, false, is_none, eqb, List, [], ◌∷◌, length, set, get_or, replicate, Option, Some, None, refl, ap, arith, filter, IsDistinct, IsNonDecreasingBy, range_with_len, AllPairs, IsDistinct-from_apart, get_or-range_with_len, cases_lt, and-true, cases_eq, cond_both, eq-eqb, ne_eqb, lt-ltb, le-ltb, and_left, and_right, get_or-set_same, get_or-set_other, filter_agree, length-range_with_len, Orders, AreOffers, ports, outputs_of, Partners, partner_of, State, start, is_free, matching_of, free_inputs, length-put, few_kept, next_place-start, nobody, partner-is, with_input, without, inputs_with_offers, is_waiting, waiting_inputs, ltb, put_is, has_kept, has_number, ltb-true, each_pair, apart_filter, apart_range, IsPut, put_back, sym, subst, Progress, ShowsWaiting}
+use Rattle.cq_pair.proofs.Terms.{common_steps, rules, ℕ, ◌≡◌, ◌≢◌, ◌<◌, ◌≤◌, Bool, true, false, is_none, eqb, List, [], ◌∷◌, length, set, get_or, replicate, Some, None, refl, ap, arith, filter, IsDistinct, IsNonDecreasingBy, range_with_len, AllPairs, IsDistinct-from_apart, get_or-range_with_len, cases_lt, and-true, cases_eq, cond_both, eq-eqb, ne_eqb, lt-ltb, le-ltb, and_left, and_right, get_or-set_same, get_or-set_other, filter_agree, length-range_with_len, Orders, AreOffers, ports, outputs_of, Partners, partner_of, State, start, is_free, matching_of, free_inputs, length-put, few_kept, next_place-start, nobody, partner-is, with_input, without, inputs_with_offers, is_waiting, waiting_inputs, ltb, put_is, has_kept, has_number, ltb-true, each_pair, IsPut, put_back, sym, subst, Progress, ShowsWaiting}
 use Rattle.std.proofs.lemmas.List.Kept.{AllPairs-from_increasing, IsStrictlyIncreasing-filter}
 
 -- ## A test that changes at one number
@@ -28,37 +28,26 @@ back_in : (p q : ℕ → Bool) (i n : ℕ) → p i ≡ false → q i ≡ true �
     filter q (range_with_len 0 n) ≡ with_input i (filter p (range_with_len 0 n))
 back_in p q i n out back same inside =
     let rises = each_pair (λ x k. ltb x k ≡ true) (filter q (range_with_len 0 n)) in
-    let put : IsPut ltb (filter q (range_with_len 0 n)) =
-    search (arith, rules, apart_filter, apart_range, rises, kept_rise, lt-ltb, ltb-true) in
+    let put : IsPut ltb (filter q (range_with_len 0 n)) = search (arith, rules, rises, kept_rise, lt-ltb, ltb-true) in
     search (arith, rules, put_is, put_back put i, left_out q p i out, has_kept, has_number)
 
 -- ## Who waits
 
 module _ (o : Orders) (places : List ℕ) (m : Partners) where
-  waits-no : (i : ℕ) → partner_of m i ≢ None → is_waiting o places m i ≡ false
-  waits-no i h = search (arith, rules, and_right)
-
   pub waits-done : (i : ℕ) → length (outputs_of o i) ≤ get_or places i 0 → is_waiting o places m i ≡ false
   waits-done i l = and_left _ _ (le-ltb _ _ l)
-
-  pub waits-place : (i x k : ℕ) → k ≢ i → is_waiting o (set places i x) m k ≡ is_waiting o places m k
-  waits-place i x k apart = grind (arith, common_steps, is_none, get_or-set_other)
-
-  pub waits-partner : (i : ℕ) (p : Option ℕ) (k : ℕ) → k ≢ i →
-      is_waiting o places (set m i p) k ≡ is_waiting o places m k
-  waits-partner i p k apart = grind (arith, common_steps, is_none, get_or-set_other)
 
 module _ (o : Orders) (places : List ℕ) (m : Partners) (i : ℕ) where
   -- an input gets a partner
   pub joined_out : (j : ℕ) → i < length m →
       without i (waiting_inputs o places m) ≡ waiting_inputs o places (set m i (Some j))
-  joined_out j inside = grind (arith, common_steps, left_out, waits-no, get_or-set_same, waits-partner)
+  joined_out j inside = search (arith, rules, left_out, and_right, get_or-set_same, get_or-set_other)
 
   -- an input is parted, and has an output left: it goes back in, and there is room for it
   module _ (known : i < ports o) (inside : i < length m) (had : partner_of m i ≢ None)
       (left : get_or places i 0 < length (outputs_of o i)) where
     pub parted_back : with_input i (waiting_inputs o places m) ≡ waiting_inputs o places (set m i None)
-    parted_back = search (arith, rules, back_in, waits-no, get_or-set_same, waits-partner, lt-ltb)
+    parted_back = search (arith, rules, back_in, and_right, get_or-set_same, get_or-set_other, lt-ltb)
 
     pub room_back : length (waiting_inputs o places m) < ports o
     room_back = grind (arith, common_steps, length-put, few_kept, length-range_with_len, ap length parted_back)
@@ -90,9 +79,11 @@ module _ (o : Orders) (fields now : Progress) (is : fields ≡ now) (shows : Sho
   pub free_rise : IsNonDecreasingBy (λ k. k) fields.free
   free_rise = rw waits (search (arith, rules, kept_rise, cases_lt))
 
-pub ruleset move_steps =
-    (waits, free_differ, filter_agree, left_out, waits-done, waits-place, get_or-set_same, cases_eq, lt-ltb)
+-- who waits still, where one changed
+pub ruleset still_steps = (waits, filter_agree, waits-done, is_none, get_or-set_other, cases_eq)
 
-pub ruleset part_steps = (waits, room_back, parted_back, filter_agree, waits-done, waits-partner, cases_eq)
+pub ruleset move_steps = (still_steps, free_differ, left_out, get_or-set_same, lt-ltb)
 
-pub ruleset take_steps = (waits, free_differ, joined_out, filter_agree, waits-done, waits-partner, cases_eq)
+pub ruleset part_steps = (still_steps, room_back, parted_back)
+
+pub ruleset take_steps = (still_steps, free_differ, joined_out)

@@ -1,4 +1,4 @@
-use Rattle.cq_pair.proofs.Terms.{rules, ◌≡◌, sym, ◌∙◌, [], arith, nil_from_length, eqb-true}
+use Rattle.cq_pair.proofs.Terms.{rules, ◌≡◌, [], arith, nil_from_length, eqb-true}
 use Rattle.cq_pair.proofs.Reached.{free-shown, best-reached, made-most}
 use Rattle.cq_pair.proofs.proposal_core.Core.settle.Goals as goal
 
@@ -7,13 +7,10 @@ propose-requires-clause-free g c = search (arith, rules, free-shown)
 
 pub loop-order-smaller : goal.loop-order-smaller
 loop-order-smaller g c =
-    let most = made-most c.args.offers.now c.ports-ports.ensures.offers c.propose.new.self c.propose.ensures.reached in
-    omega arith
+    omega (arith, made-most c.args.offers.now c.ports-ports.ensures.offers c.propose.new.self c.propose.ensures.reached)
 
 pub returns : goal.returns
 returns g c =
-    let empty : c.loop-order.self.free ≡ [] =
-    sym c.free.ensures ∙ nil_from_length _ (eqb-true _ _ (sym c.loop-order-test.ensures)) in
+    let empty : c.loop-order.self.free ≡ [] = search (arith, rules, nil_from_length, eqb-true) in
     let best = best-reached c.args.offers.now c.ports-ports.ensures.offers c.loop-order.self c.loop-order.invariant
-    empty in
-    record { reached = c.loop-order.invariant; nobody_free = empty; best = best.0; proposals = best.1 }
+    empty in search (arith, rules)
