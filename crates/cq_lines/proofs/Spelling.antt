@@ -2,7 +2,7 @@
 -- with the same digits are one. Digits with more digits behind them say a greater number, and 0 stands at the front
 -- of no other digit. So a text that goes on with digits behind those of one number begins with no lesser number, and
 -- with none at all behind a 0.
-use Rattle.cq_lines.proofs.Terms.{rules, ◌≡◌, ℕ, zero, suc, ◌+◌, ◌-◌, ◌*◌, ◌^◌, ◌<◌, ◌≤◌, ◌⊎◌, List, [], ◌∷◌, ◌++◌, map, get_or, Option, Some, refl, ap, sym, subst, ◌∙◌, arith, lit≤, append_assoc, IsInRange, number_from_digits_after, AllBelowBase, AllByRecursion, append-nil, number_digits_of, all_below_base_digits_of, first_digits_of, decimal, EndsDigits, BeginsWith, all_back, all_both, all_weaker, of_images, map-append, common_steps}
+use Rattle.cq_lines.proofs.Terms.{rules, ◌≡◌, ℕ, ◌+◌, ◌-◌, ◌*◌, ◌^◌, ◌<◌, ◌≤◌, ◌⊎◌, List, [], ◌∷◌, ◌++◌, map, get_or, Option, Some, refl, ap, sym, subst, ◌∙◌, arith, lit≤, append_assoc, IsInRange, number_from_digits_after, AllByRecursion, append-nil, number_digits_of, all_below_base_digits_of, first_digits_of, decimal, EndsDigits, BeginsWith, all_back, all_both, all_weaker, of_images, map-append, common_steps}
 use Rattle.cq_base.proofs.Decimals.{decimal_small, decimal_above}
 use Rattle.std.proofs.Math.ListN.{get_or-map}
 use Rattle.std.proofs.lemmas.Int.Digits.{number_after_append, number_after_ge}
@@ -10,12 +10,9 @@ use Rattle.std.proofs.lemmas.Int.Digits.{number_after_append, number_after_ge}
 abbrev pub AreDigits : List ℕ → Type 0
 AreDigits ds = AllByRecursion (IsInRange 48 57) ds
 
-digits_from_values : (ds : List ℕ) → AllBelowBase 10 ds → AreDigits (map (λ d. 48 + d) ds)
-digits_from_values ds a = grind (arith, common_steps, of_images, all_weaker)
-
 pub decimal_digits : (n : ℕ) → AreDigits (decimal n)
 decimal_digits n =
-    grind (arith, common_steps, decimal_small, decimal_above, digits_from_values, all_below_base_digits_of 10 n)
+    grind (arith, common_steps, decimal_small, decimal_above, of_images, all_weaker, all_below_base_digits_of 10 n)
 
 -- ## What digits say
 
@@ -31,8 +28,7 @@ values_back [] = refl
 values_back (d ∷ ds) = grind (arith, common_steps, values_back ds)
 
 pub said_decimal : (n : ℕ) → said_after 0 (decimal n) ≡ n
-said_decimal zero = ap (said_after 0) (decimal_small 0 (lit≤ tt))
-said_decimal (suc k) = grind (arith, common_steps, decimal_above (suc k), values_back, number_digits_of 10 (suc k))
+said_decimal n = grind (arith, common_steps, decimal_above n, decimal_small, values_back, number_digits_of 10 n)
 
 pub decimal_injective : (m n : ℕ) → decimal m ≡ decimal n → m ≡ n
 decimal_injective m n e = sym (said_decimal m) ∙ ap (said_after 0) e ∙ said_decimal n
@@ -52,22 +48,18 @@ nothing_goes_on (d ∷ ds) x y p ends e = absurd (subst EndsDigits e ends p.0)
 first_digit : (n : ℕ) → 0 < n → 48 < get_or (decimal n) 0 48
 first_digit n h = grind (arith, common_steps, decimal_above n h, get_or-map, first_digits_of 10 n)
 
-decimal_is_some : (n : ℕ) → decimal n ≡ [] → ⊥
-decimal_is_some n e = grind (arith, common_steps, said_decimal n, decimal_small)
-
-above_zero : (m n d : ℕ) (ds : List ℕ) → decimal n ≡ decimal m ++ (48 + d) ∷ ds → 0 < m
-above_zero m n d ds e = grind (arith, common_steps, first_digit n, decimal_small)
-
 -- digits with one more digit behind them say ten times their number at least, and are not those of 0
 more_digits : (m n d : ℕ) (ds : List ℕ) → decimal n ≡ decimal m ++ (48 + d) ∷ ds → (0 < m) × (m * 10 + d ≤ n)
 more_digits m n d ds e =
     let rest = number_after_ge 10 (m * 10 + ((48 + d) - 48)) (values ds) (lit≤ tt) in
-    grind (arith, common_steps, number_after_append, said_decimal n, said_decimal m, map-append, above_zero)
+    let above = first_digit n in
+    grind (arith, common_steps, number_after_append, said_decimal n, said_decimal m, map-append, above, decimal_small)
 
 -- ## What a text begins with
 
 pub no_number : (text : List ℕ) → EndsDigits text → (n : ℕ) (rest : List ℕ) → BeginsWith text (Some n) rest → ⊥
-no_number text ends n rest begins = decimal_is_some n (search (arith, rules, nothing_goes_on, decimal_digits))
+no_number text ends n rest begins =
+    search (arith, rules, nothing_goes_on, decimal_digits, said_decimal n, decimal_small)
 
 pub one_number : (text x y : List ℕ) (m n : ℕ) → BeginsWith text (Some m) x → BeginsWith text (Some n) y →
     (m ≡ n) × (x ≡ y)
@@ -82,8 +74,7 @@ pub none_goes_on : (text rest after : List ℕ) (m d : ℕ) → d < 10 → text 
     BeginsWith text (Some n) end → ⊥
 none_goes_on text rest after m d small e f why n end fits begins =
     let more = digits_go_on (decimal m ++ (48 + d) ∷ []) (decimal n) after end in
-    let all = all_both (IsInRange 48 57) (decimal m) in
-    grind (arith, common_steps, all, more, decimal_digits, append_assoc, more_digits m n d)
+    grind (arith, common_steps, all_both (IsInRange 48 57), more, decimal_digits, append_assoc, more_digits m n d)
 
 -- ## Fields
 

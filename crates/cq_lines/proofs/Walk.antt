@@ -1,7 +1,7 @@
 -- Reading a line field by field. What was read so far stands at the front of the text, and whoever reads a whole line
 -- there reads the same fields first, and the rest of his line from the rest of the text. So where no field can go on,
 -- no line stands there.
-use Rattle.cq_lines.proofs.Terms.{common_steps, rules, ◌≡◌, ◌≢◌, ℕ, ◌+◌, ◌<◌, ◌≤◌, List, [], ◌∷◌, ◌++◌, length, map, take, drop, set, get_or, Option, None, refl, ap, sym, ◌∙◌, arith, append_assoc, length-append, length-set, append-nil, append_cancel_left, take_more_set, take_more, take_all, take-append-le, take-take, length-take, field, ending, line, EndsDigits, MayFollow, BeginsWith, Fits, AllFit, Within, all_back, get_or_default, recursion_from_All}
+use Rattle.cq_lines.proofs.Terms.{common_steps, rules, ◌≡◌, ◌≢◌, ℕ, ◌+◌, ◌<◌, ◌≤◌, List, [], ◌∷◌, ◌++◌, length, map, take, drop, set, get_or, Option, None, refl, ap, sym, ◌∙◌, arith, append_assoc, length-append, length-set, append-nil, append_cancel_left, take_more_set, take_more, take_all, take-append-le, take-take, length-take, field, ending, line, EndsDigits, BeginsWith, Fits, AllFit, Within, all_back, get_or_default, recursion_from_All}
 use Rattle.cq_base.specs.Texts.{line_of_words}
 use Rattle.cq_lines.specs.declared.range.Range.{Range}
 use Rattle.cq_lines.proofs.Spelling.{one_field}
@@ -21,9 +21,6 @@ pub ending_ends : (fs : List (Option ℕ)) (more : List ℕ) → EndsDigits (end
 ending_ends [] more = λ digit. omega arith
 ending_ends (f ∷ fs) more = λ digit. omega arith
 
-may_follow : (f : Option ℕ) (rest : List ℕ) → EndsDigits rest → MayFollow f rest
-may_follow f rest ends = grind (arith, common_steps)
-
 pub begun_more : (fs : List (Option ℕ)) (f : Option ℕ) → begun (fs ++ f ∷ []) ≡ begun fs ++ 32 ∷ field f
 begun_more [] f = ap (λ t. 32 ∷ t) (append-nil (field f))
 begun_more (g ∷ fs) f = grind (arith, common_steps, append_assoc, begun_more fs f)
@@ -36,7 +33,7 @@ ending_begun (f ∷ fs) after = grind (arith, common_steps, append_assoc, ending
 next_field : (gs : List (Option ℕ)) (rest after more : List ℕ) → rest ≡ 32 ∷ after → rest ≡ ending gs ++ more →
     (g : Option ℕ) × (hs : List (Option ℕ)) × (gs ≡ g ∷ hs) × BeginsWith after g (ending hs ++ more)
 next_field [] rest after more e h = let is = ap (λ l. get_or l 0 0) (sym e ∙ h) in absurd (omega arith)
-next_field (g ∷ hs) rest after more e h = grind (arith, common_steps, append_assoc, may_follow, ending_ends)
+next_field (g ∷ hs) rest after more e h = grind (arith, common_steps, append_assoc, ending_ends)
 
 pub one_read_more : (text : List ℕ) (to : List (Option ℕ)) (count : ℕ) (rest after next : List ℕ) (f : Option ℕ) →
     ReadSoFar text to count rest → count < length to → rest ≡ 32 ∷ after → BeginsWith after f next →
@@ -49,8 +46,7 @@ one_read_more text to count rest after next f had room e begins =
       alone = λ fs more h.
           let w = had.alone fs more h in
           let field_next = next_field w.0 rest after more e w.2 in
-          let same = one_field after next (ending field_next.1 ++ more) f field_next.0 begins field_next.3 in
-          (field_next.1, search (arith, rules, append_assoc, taken, w.1, field_next.2, same.0), same.1);
+          search (arith, rules, one_field after next, append_assoc, taken);
     }
 
 -- ## No line stands there
@@ -80,7 +76,7 @@ pub one_ending : (fs gs : List (Option ℕ)) (x y : List ℕ) → ending fs ++ x
 one_ending [] [] x y e = (refl, ap (drop 1) e)
 one_ending (f ∷ fs) (g ∷ gs) x y e =
     let inner : field f ++ (ending fs ++ x) ≡ field g ++ (ending gs ++ y) = search (arith, rules, append_assoc) in
-    search (arith, rules, one_field (field f ++ (ending fs ++ x)), may_follow, ending_ends, one_ending fs gs x y)
+    search (arith, rules, one_field (field f ++ (ending fs ++ x)), ending_ends, one_ending fs gs x y)
 one_ending _ _ x y e = absurd (cc e)
 
 pub one_line : (word x y : List ℕ) (fs gs : List (Option ℕ)) → line word fs ++ x ≡ line word gs ++ y →
