@@ -1,5 +1,5 @@
 -- What claims, proposals and joins do to what a seat has claimed and seen: nothing of it is ever lost.
-use Rattle.cq_crew.proofs.Terms.{common_steps, rules, ℕ, ◌≡◌, ◌+◌, ◌-◌, ◌*◌, ◌<◌, Option, Some, None, refl, arith, IsSome, option_map, cases_lt, cases_eq, ports, IsFew, LedgerState, SeatState, IsSeatOf, IsProposed, HasClaimed, HasTried, HaveTried, ProposesFor, Grows, IsIdleAfter, HasWorked}
+use Rattle.cq_crew.proofs.Terms.{common_steps, rules, ℕ, ◌≡◌, ◌+◌, ◌-◌, ◌<◌, Some, None, refl, arith, IsSome, cases_lt, cases_eq, ports, LedgerState, SeatState, IsSeatOf, IsProposed, HasClaimed, HasTried, HaveTried, ProposesFor, Grows, IsIdleAfter, HasWorked}
 use Rattle.cq_prefs.specs.declared.outcome.Outcome.{Outcome}
 use Rattle.cq_ledger.specs.declared.view.View.{View}
 use Rattle.cq_ledger.specs.Steps.{claim_refused, claim_taken, joined}
@@ -75,31 +75,13 @@ claimed-next v n before here i high = grind (arith, common_steps, cases_eq, befo
 
 -- ## Proposals
 
--- a hand shows an input where it has one
-pub hand-some : (hand : Option (ℕ × ℕ)) (shown : Option ℕ) (input : ℕ) →
-    shown ≡ option_map (λ (h : ℕ × ℕ). h.0) hand → shown ≡ Some input → IsSome hand
-hand-some hand shown input e f = grind (arith, common_steps)
-
--- what is told of a proposal: the input that the hand shows, and the answer
-pub hand-told : (hand : Option (ℕ × ℕ)) (shown : Option ℕ) (input : ℕ) (answer : Outcome) →
-    shown ≡ option_map (λ (h : ℕ × ℕ). h.0) hand
-    → shown ≡ Some input → option_map {U = ℕ × Outcome} (λ (h : ℕ × ℕ). (h.0, answer)) hand ≡ Some (input, answer)
-hand-told hand shown input answer e f = grind (arith, common_steps)
-
 pub proposes-same : (v : View) → ProposesFor v v
 proposes-same v = record { claims = refl; seen = refl; began = refl; made = omega arith }
 
 pub proposes-next : (u v w : View) (answer : Outcome) → ProposesFor u v → IsSome v.hand →
     ((i p : ℕ) → v.hand ≡ Some (i, p) → IsProposed v i p answer w) → ProposesFor u w
-proposes-next u v w answer before some is = go v.hand refl some
-  where
-    go : (hand : Option (ℕ × ℕ)) → v.hand ≡ hand → IsSome hand → ProposesFor u w
-    go None e s = absurd (let P : ⊥ = cc in P)
-    go (Some (i, p)) e s =
-        let view = (is i p e).view in grind (arith, common_steps)
-
-pub proposals-left : (l : LedgerState) (s t : SeatState) → IsSeatOf l t → t.view.made ≡ s.view.made + 1 →
-    IsFew t.view → ports l.offers * ports l.offers - t.view.made < ports l.offers * ports l.offers - s.view.made
-proposals-left l s t of made few = search (arith, rules)
+proposes-next u v w answer before some is =
+    let has : (h : ℕ × ℕ) × (v.hand ≡ Some h) = grind (arith, common_steps) in
+    let view = (is has.0.0 has.0.1 has.1).view in grind (arith, common_steps)
 
 pub ruleset work_steps = (claimed-next, grows-same, idle-after, tried-next, tried-first, worked)

@@ -14,6 +14,4 @@ returns-then-not-claim g c =
 pub returns : goal.returns
 returns g c =
     let idle = idle-taken c.args.ledger.now c.args.seat.now.view c.claim.new.seat.view c.propose_all.new.seat
-    c.args.input (c.claim.ensures.taken c.if-not-claim.false) c.propose_all.ensures.seat c.propose_all.ensures.hand
-    c.propose_all.ensures.proposes in
-    record { idle = idle.0; tried = idle.1; began = search (arith, rules, c.claim.ensures.taken) }
+    c.args.input (c.claim.ensures.taken c.if-not-claim.false) in search (arith, rules, idle, c.claim.ensures.taken)
