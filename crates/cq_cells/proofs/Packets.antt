@@ -67,13 +67,6 @@ module _ (t : Tables) (captures : List (List Captured)) (input : ℕ) where
   start_by zero = omega arith
   start_by (suc k) = grind (arith, common_steps, ends_by k, end_packet k, start_by k)
 
-  -- how many cells of a packet are for an output
-  number_packet : (k j : ℕ) →
-      number_of (is_to j) (arrivals_of t captures input k)
-      ≡ cond (eqb (row_of k).output j) (cells t captures input k) 0
-  unfolding cell_of
-  number_packet k j = search (rules, number_pieces)
-
   -- what is kept of the packets so far
   pub record IsSoFar (k : ℕ) (rows : List Row) (free cells : ℕ) (old counts : List ℕ) : Type 0 where
     pub kept : rows ≡ map row_of (range_with_len 0 k)
@@ -89,8 +82,10 @@ module _ (t : Tables) (captures : List (List Captured)) (input : ℕ) where
   added_more : (k : ℕ) (old counts : List ℕ) (output v : ℕ) → output ≡ (row_of k).output →
       v ≡ slice_index_or counts output 0 + cells t captures input k → length counts ≡ length old →
       AreAdded (came_by k) old counts → AreAdded (came_by (k + 1)) old (slice_set counts output v)
+  unfolding cell_of
   added_more k old counts output v at new ports each j inside =
-      search (arith, rules, came_more, number-append, number_packet, cases_eq, ne_eqb, set_steps)
+      let count = number_pieces (start t captures input k) (cell_of t captures input k) (row_of k).output j 0 in
+      search (arith, rules, came_more, number-append, count, cases_eq, ne_eqb, set_steps)
 
   -- one packet more
   pub so_far_more : (k : ℕ) (rows : List Row) (free all : ℕ) (old counts : List ℕ) (row : Row) (v : ℕ) →

@@ -1,5 +1,5 @@
 -- Lists that are made number by number: what is found in them, and what holds of each two of their items.
-use Rattle.cq_cells.proofs.Terms.{rules, ◌≡◌, ◌≢◌, ℕ, zero, suc, ◌+◌, ◌<◌, ◌≤◌, Bool, List, [], ◌∷◌, ◌++◌, map, flat_map, None, refl, ◌∙◌, set, arith, common_steps, range_with_len, find, cases_eq, find-append, map-id, get_or-set_same, get_or-set_other, length-set, map-range_with_len_more, fill_by_all, length-map-range_with_len, get_or-map-range_with_len, EachPair, Has, all_flat, all_from_has, all_made, all_of_has, pairs_joined}
+use Rattle.cq_cells.proofs.Terms.{rules, ◌≡◌, ◌≢◌, ℕ, zero, suc, ◌+◌, ◌<◌, ◌≤◌, Bool, List, [], ◌∷◌, ◌++◌, map, flat_map, None, refl, set, arith, common_steps, range_with_len, find, cases_eq, find-append, map-id, get_or-set_same, get_or-set_other, length-set, map-range_with_len_more, fill_by_all, length-map-range_with_len, get_or-map-range_with_len, EachPair, Has, all_flat, all_from_has, all_made, all_of_has, pairs_joined}
 
 -- the numbers up to the next one
 pub range_more : (a n : ℕ) → range_with_len a (n + 1) ≡ range_with_len a n ++ (a + n) ∷ []
@@ -43,7 +43,7 @@ pairs_flat R f a (suc n) own across = pairs_joined R (f a) (flat_map f (range_wi
 -- one value that is written among those of the numbers
 pub set_one : {X : Type 0} (f g : ℕ → X) (n i : ℕ) (y : X) → i < n → g i ≡ y → ((j : ℕ) → j < n → j ≢ i → g j ≡ f j) →
     set (map f (range_with_len 0 n)) i y ≡ map g (range_with_len 0 n)
-set_one f g n i y inside own others = fill_by_all g (set (map f (range_with_len 0 n)) i y) n y
-    (length-set (map f (range_with_len 0 n)) i y ∙ length-map-range_with_len f 0 n)
-    (search
-    (arith, rules, cases_eq, length-map-range_with_len, get_or-set_same, get_or-set_other, get_or-map-range_with_len))
+set_one f g n i y inside own others =
+    let fill = fill_by_all g (set (map f (range_with_len 0 n)) i y) n y in
+    let long = length-map-range_with_len f 0 n in
+    search (arith, rules, fill, long, length-set, cases_eq, get_or-set_same, get_or-set_other, get_or-map-range_with_len)
