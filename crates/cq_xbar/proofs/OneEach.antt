@@ -15,14 +15,10 @@ taken_length p xs = grind (arith, common_steps, without_length)
 -- an output has a partner or has none
 pub partner_or_free : (m : Partners) (j : ℕ) → ((i : ℕ) × (partner_of m i ≡ Some j)) ⊎ IsFreeOutput m j
 partner_or_free [] j = inr (λ i e. cc)
-partner_or_free (p ∷ m) j = ⊎_elim (λ r. inl (suc r.0, r.1))
-    (λ free. ⊎_elim (λ e. inl (zero, e)) (λ ne. inr (at_none p ne free)) (first p)) (partner_or_free m j)
-  where
-    first : (q : Option ℕ) → (q ≡ Some j) ⊎ (q ≡ Some j → ⊥)
-    first q = grind (arith, common_steps)
-
-    at_none : (q : Option ℕ) → (q ≡ Some j → ⊥) → IsFreeOutput m j → IsFreeOutput (q ∷ m) j
-    at_none q ne free i e = search (rules, ne, free)
+partner_or_free (p ∷ m) j =
+    let first : (p ≡ Some j) ⊎ (p ≡ Some j → ⊥) = grind (arith, common_steps) in
+    ⊎_elim (λ r. inl (suc r.0, r.1))
+    (λ free. ⊎_elim (λ e. inl (zero, e)) (λ ne. inr (search (rules, ne, free))) first) (partner_or_free m j)
 
 pub moves_one_each : (m : Partners) (lists buffers lists' buffers' : List (List Queued)) → HaveCells m lists →
     Moves m lists buffers lists' buffers' → MovesOneEach lists buffers lists' buffers'

@@ -1,7 +1,7 @@
 -- The transfer of a matching, input by input. Once the inputs below n had their turn, their lists are without their
 -- first cells for their partners, the buffers of these partners have the cells, and all else is as before. No output
 -- has two partners, so the buffer that the next cell comes to is as before.
-use Rattle.cq_xbar.proofs.Terms.{common_steps, rules, ◌≡◌, ◌≢◌, ℕ, ◌+◌, ◌-◌, ◌<◌, ◌≤◌, cond, List, length, map, get_or, set, Option, Some, None, ◌∙◌, subst, arith, is_some, cases_lt, same_Some, length-map, length-set, get_or_past, get_or-set_same, get_or-set_other, get_or_default, ext_get_or, Queued, HasOtherKey, put, first_for, without_first, Waiting, cells_of, Buffered, cells_in, list_of, HasCellFor, Moves, Partners, partner_of, ArePairs, HaveCells, KeysAreNew, HaveRoom, MovesRoom, buffer_at, list_at, no_buffer, no_list}
+use Rattle.cq_xbar.proofs.Terms.{common_steps, rules, ◌≡◌, ◌≢◌, ℕ, ◌+◌, ◌-◌, ◌<◌, ◌≤◌, cond, List, length, map, get_or, set, Option, Some, None, ◌∙◌, arith, is_some, cases_lt, same_Some, length-map, length-set, get_or_past, get_or-set_same, get_or-set_other, get_or_default, ext_get_or, Queued, HasOtherKey, put, first_for, without_first, Waiting, cells_of, Buffered, cells_in, list_of, Moves, Partners, partner_of, ArePairs, HaveCells, KeysAreNew, HaveRoom, MovesRoom, buffer_at, list_at, no_buffer, no_list}
 use Rattle.std.proofs.Math.ListN.{get_or-map}
 
 -- ## The lists and the buffers
@@ -33,10 +33,6 @@ pub record Crossed (m : Partners) (lists : List Waiting) (buffers : List Buffere
       first_for j (list_at lists i).cells ≡ Some c → buffer_at buffers' j ≡ with_cell c (buffer_at buffers j)
   pub kept : (j : ℕ) → ((i : ℕ) → i < n → partner_of m i ≢ Some j) → buffer_at buffers' j ≡ buffer_at buffers j
 
-pub crossed_none : (m : Partners) (lists : List Waiting) (buffers : List Buffered) →
-    Crossed m lists buffers 0 lists buffers
-crossed_none m lists buffers = grind (arith, common_steps)
-
 -- what a taken list is, and a buffer with a cell more, by their parts
 left_by : (j : ℕ) (w w' : Waiting) (r : Option Queued) (c : Queued) → r ≡ Some c →
     w'.cells ≡ without_first j w.cells → w'.outputs ≡ w.outputs → w'.spare ≡ w.spare + cond (is_some r) 1 0 →
@@ -54,13 +50,9 @@ module _ {m : Partners} {lists : List Waiting} {buffers : List Buffered} {n : �
   pub crossed_past : partner_of m n ≡ None → Crossed m lists buffers (n + 1) lists' buffers'
   crossed_past none = search (rules, cases_lt)
 
-  -- the next input's list is as before, and has a cell for its partner
-  next_list : (d : Waiting) → n < length lists → get_or lists' n d ≡ list_at lists n
+  -- the next input's list is as before
+  pub next_list : (d : Waiting) → n < length lists → get_or lists' n d ≡ list_at lists n
   next_list d l = get_or_default lists' n d no_list (omega arith) ∙ x.waits n (omega arith)
-
-  pub cell_next : (j : ℕ) (d : Waiting) → HaveCells m (cells_of lists) → partner_of m n ≡ Some j →
-      n < length lists → HasCellFor (get_or lists' n d).cells j
-  cell_next j d have p inside = search (rules, next_list, cells-at, have)
 
   module _ (j : ℕ) (e : Buffered) (pairs : ArePairs m) (p : partner_of m n ≡ Some j)
       (as_many : length buffers ≡ length m) where
@@ -92,11 +84,8 @@ module _ {m : Partners} {lists : List Waiting} {buffers : List Buffered} {n : �
 
 module _ {m : Partners} {lists : List Waiting} {buffers : List Buffered} {lists' : List Waiting}
     {buffers' : List Buffered} {n : ℕ} (until : Crossed m lists buffers n lists' buffers') (end : n ≡ length m) where
-  x : Crossed m lists buffers (length m) lists' buffers'
-  x = subst (λ k. Crossed m lists buffers k lists' buffers') end until
-
   taken_at : (i : ℕ) → list_at lists' i ≡ list_left (partner_of m i) (list_at lists i)
-  taken_at i = grind (arith, common_steps, get_or_past, cases_lt)
+  taken_at i = grind (arith, common_steps, get_or_past, cases_lt, until.taken, until.waits)
 
   pub crossed_moves : Moves m (cells_of lists) (cells_in buffers) (cells_of lists') (cells_in buffers')
   crossed_moves = search (arith, rules, length-map, cells-at, taken_at, cells_in-at, get_or_past)
@@ -106,7 +95,7 @@ module _ {m : Partners} {lists : List Waiting} {buffers : List Buffered} {lists'
       record {
         gained = λ i. grind (arith, common_steps, taken_at i);
         lost = λ i j p.
-            let given = x.given i j (have i j p).0 in
+            let given = until.given i j (have i j p).0 in
             grind (arith, common_steps, room i j p, have i j p, cells-at, given, get_or_past);
         kept = search (arith, rules);
       }

@@ -1,15 +1,15 @@
 use Rattle.cq_xbar.proofs.Terms.{rules, ◌∙◌, ◌≡◌, ◌<◌, length, sym, arith, append-nil, append_assoc, length-append, transfers_of}
-use Rattle.cq_xbar.proofs.Turns.{crossed_none, crossed_past, crossed_more, first_crosses, cell_next, room_next, key_next, crossed_moves, crossed_room, crossed_outputs}
+use Rattle.cq_xbar.proofs.Turns.{cells-at, next_list, crossed_past, crossed_more, first_crosses, room_next, key_next, crossed_moves, crossed_room, crossed_outputs}
 use Rattle.cq_xbar.proofs.Noting.{kept_few, noted_one, noted_past}
 use Rattle.cq_xbar.proofs.crossing.transfer.Goals as goal
 use Rattle.cq_xbar.proofs.crossing.transfer.Goals.{in-Some, in_default}
 
 pub loop-input-init : goal.loop-input-init
-loop-input-init c = search (arith, rules, crossed_none, append-nil, c.args.note.now.items)
+loop-input-init c = search (arith, rules, append-nil)
 
 pub unwrap-queued-requires : goal.unwrap-queued-requires
 unwrap-queued-requires c =
-    search (arith, rules, cell_next c.loop-input.invariant.crossed c.in-Some.output c.index-lists-input.result)
+    search (arith, rules, next_list c.loop-input.invariant.crossed, cells-at, c.requires.cells)
 
 pub put-requires-clause-spare : goal.put-requires-clause-spare
 put-requires-clause-spare c = search (arith, rules, room_next)
@@ -35,11 +35,8 @@ loop-input-preserved c =
           w.index-lists-input.result _ q inside w.take.ensures.first w.unwrap-queued.ensures in
           let found = first_crosses inv.crossed j w.index-buffers-output.result pairs p c.requires.buffers
           w.index-lists-input.result _ q inside w.take.ensures.first w.unwrap-queued.ensures in
-          rw (w.lists-is, w.buffers-is, w.note-is) (search
-          (arith, rules, crossed, found, noted_one, append_assoc, length-append))
-      | in_default w ↦
-          let none = sym c.partner_of.ensures.partner ∙ w.in_default.is in
-          rw (w.lists-is, w.buffers-is, w.note-is) (search (arith, rules, crossed_past, noted_past))
+          search (arith, rules, crossed, found, noted_one, append_assoc, length-append)
+      | in_default w ↦ search (arith, rules, crossed_past, noted_past)
     ]
 
 pub returns : goal.returns
