@@ -102,11 +102,9 @@ proposal-allowed key o same slots id i p me h e n q j is_output is_position is_w
     let offered : IsOffered o i (output_at o i p) =
     rw (← here) (next_output-offered o k.offers (state_after o k.events) i free.left) in
     let r = output_in_range o k.offers i (output_at o i p) offered in
-    let shown = k.positions (output_at o i p) r in
     let few = made-most o _ _ k' id (proposed me.0 i p found)
     (set_here s.views id _ (at_known s.views id me.0 me.0 at).0) in
-    let held = w.held_in (output_at o i p) r in
-    search (arith, rules, free.unheld, k.offers.shown))
+    search (arith, rules, free.unheld, k.offers.shown, k.positions, w.held_in))
 
 module _ (o : Orders) (slots id i : ℕ) (me : Seated) (r : i < ports o) (empty : me.0.hand ≡ None)
     (same_offers : me.0.offers ≡ o)

@@ -6,7 +6,7 @@
 -- has it, since it was held, or in this hand.
 use Rattle.cq_ledger.proofs.Terms.{rules, ℕ, suc, ◌≡◌, ◌≢◌, inl, ⊎_elim, ◌<◌, min, List, ◌∷◌, get_or, set, Some, sym, ◌∙◌, ap, arith, common_steps, cases_eq, get_or-set_same, get_or-set_other, length-set, at_set, Orders, ports, position_of, IsStep, step, sound-after, State, position_held, next_place, IsFree, next_output, propose, state_after, IsSound, IsLedger, proposed, Waits, Sits, bit, claim_word, output_in_range, View, ◌⊎◌, ◌^◌, length, None, bit_or, outputs_of, hand_at, claim_taken, IsClaimedByOne, refl, claim_refused}
 use Rattle.cq_ledger.proofs.Hands.{hand_found, still_free, hand-shows, free-before, hand_at-left, hand_at-shows}
-use Rattle.cq_ledger.proofs.Views.{bits, sits_now, in_hand_still, claims_stay as same_claims, made_with, hands_with, offers_with, MayHold, by_one_still, stood, hands_from, dealt}
+use Rattle.cq_ledger.proofs.Views.{bits, sits_now, in_hand_still, claims_stay as same_claims, made_with, hands_with, offers_with, MayHold, by_one_still, hands_from, dealt}
 
 module _ (o : Orders) (words : List ℕ) (views : List View) (k : IsLedger o words views) (id i : ℕ) (v : View)
     (at_id : Sits views id v) (same_offers : v.offers ≡ o) where
@@ -98,19 +98,14 @@ module _ (o : Orders) (words : List ℕ) (views : List View) (k : IsLedger o wor
     abbrev refused_views : List View
     refused_views = set views id refused_now
 
-    -- the view that stood there before
-    pub had : (b : ℕ) (u : View) → Sits refused_views b u →
-        (x : View) × Sits views b x × ((x.claims ≡ u.claims) × (x.hand ≡ u.hand) × (x.made ≡ u.made))
-    had = stood views id v refused_now at_id (λ x u. (x.claims ≡ u.claims) × (x.hand ≡ u.hand) × (x.made ≡ u.made))
-        (refl, refl, refl) (λ u. (refl, refl, refl))
-
     unfoldable pub refuse-keeps : IsLedger o words refused_views
     refuse-keeps =
         let claims = same_claims views id v refused_now at_id o words words refl refl in
         let still = in_hand_still views id v refused_now at_id in let made = made_with views id v refused_now at_id in
         dealt o words views refused_views k (offers_with o views id refused_now k.same (inl same_offers))
         (claims (search (arith, rules, k.claims.seen, bits.other, cases_eq)) k.claims)
-        (hands_from k.hands (search (rules, had)) (search (rules, still))) (omega arith) (search (rules, had, k.idle))
+        (hands_from k.hands (search (rules, at_set)) (search (rules, still))) (omega arith)
+        (search (rules, at_set, k.idle))
 
   -- ## A proposal
 

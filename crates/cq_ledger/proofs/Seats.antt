@@ -35,15 +35,11 @@ module _ (o : Orders) (words : List ℕ) (views : List View) (k : IsLedger o wor
   abbrev longer : List View
   longer = views ++ blank other ∷ []
 
-  -- a view that is not blank stood there before
-  pub with_claim : (b q : ℕ) (u : View) → Sits longer b u → bit u.claims q ≡ 1 → Sits views b u
-  with_claim b q u a h = grind (arith, common_steps, at_snoc views (blank other) u b a, bits.of_zero q)
-
   unfoldable pub longer-keeps : IsLedger o words longer
   longer-keeps =
       let at = at_snoc views (blank other) in let made = sum_by_push (λ (y : View). y.made) views (blank other) in
       let claims : AreClaims o words longer =
-      search (arith, rules, with_claim, at_longer, k.claims.by_one, k.claims.apart, at, bits.of_zero, k.claims.seen) in
+      search (arith, rules, at_longer, k.claims.by_one, k.claims.apart, at, bits.of_zero, k.claims.seen) in
       dealt o words views longer k (search (rules, at, k.same)) claims
       (hands_from k.hands (search (arith, rules, at)) (search (rules, at_longer))) (omega arith)
       (search (arith, rules, at, k.idle))
@@ -68,9 +64,6 @@ module _ (o : Orders) (words : List ℕ) (views : List View) (k : IsLedger o wor
   -- where a view stood before, and where it is now
   abbrev pub Home : ℕ → ℕ → Type 0
   Home b c = ((c ≡ gone) × (b ≡ id)) ⊎ ((c ≢ gone) × (b ≡ c))
-
-  pub same_home : (b b' c : ℕ) → Home b c → Home b' c → b ≡ b'
-  same_home b b' c x y = grind (arith, common_steps)
 
   abbrev pub Kind : ℕ → View → Type 0
   Kind b u = (spent ≡ u) ⊎ (((b ≡ id) × (joined v w ≡ u)) ⊎ ((b ≢ gone) × (b ≢ id) × Sits views b u))
@@ -108,10 +101,10 @@ module _ (o : Orders) (words : List ℕ) (views : List View) (k : IsLedger o wor
         by_one = search (rules, by_one_now, k.claims.by_one);
         apart = λ b c q x y ax ay hx hy.
             let m = claimed_by b q x (kind b x ax) hx in
-            let n = claimed_by c q y (kind c y ay) hy in search (rules, k.claims.apart, same_home);
+            let n = claimed_by c q y (kind c y ay) hy in search (arith, rules, k.claims.apart);
         in_range = k.claims.in_range;
         seen = λ b q u a. grind (arith, common_steps, kind b u a, bits.of_zero, bits.either, k.claims.seen);
       })
-      (hands_from k.hands (λ b q p u a h. let m = kind b u a in (u, grind (arith, common_steps, m), h))
+      (hands_from k.hands (search (arith, rules, kind))
       (λ q z. grind (arith, common_steps, same_at views id v, same_at views gone w, still_there)))
       (search (arith, rules, made_with, set_else)) (λ b u a. idle_now b u (kind b u a))

@@ -78,11 +78,6 @@ module _ (views : List View) (id : ℕ) (v now : View) (at_id : Sits views id v)
       IsInAHand (set views id now) q
   in_hand_still q same x = search (arith, rules, sits_now, stays)
 
-  -- what the view in a place has of the one that stood there before
-  pub stood : (P : View → View → Type 0) → P v now → ((u : View) → P u u) → (b : ℕ) (u : View) →
-      Sits (set views id now) b u → (x : View) × Sits views b x × P x u
-  stood P mine same b u a = search (rules, at_set)
-
   -- the hands, by what is in this one, which no other has, and what in another
   pub hands_with : (o : Orders) (s t : State) (words words' : List ℕ) → AreHands o s words views →
       ((q p : ℕ) → now.hand ≡ Some (q, p) → MayHold o t words' q p × ((b r : ℕ) (x : View) → Sits views b x →
@@ -111,8 +106,7 @@ module _ (views : List View) (id : ℕ) (v now : View) (at_id : Sits views id v)
       now.claims ≡ v.claims →
       ((q : ℕ) → HasSeen now q → IsClaimed words q) → AreClaims o words views → AreClaims o words' (set views id now)
   claims_stay o words words' word same seen k =
-      let still = λ (q : ℕ) (h : IsClaimed words q). ap (λ n. bit n q) word ∙ h in
-      search (arith, rules, stood, k.claimed, by_one_still, k.by_one, k.apart, k.in_range, k.seen, at_set)
+      search (arith, rules, at_set, k.claimed, by_one_still, k.by_one, k.apart, k.in_range, k.seen, word)
 
   pub made_with : sum_by (λ (y : View). y.made) (set views id now) + v.made
       ≡ sum_by (λ (y : View). y.made) views + now.made
