@@ -30,8 +30,7 @@ pub in_range_of : (lists : List Waiting) (n : ℕ) → All (λ w. AreWaiting w.o
     All (λ w. w.outputs ≡ n) lists → length lists ≡ n → OutputsInRange (cells_of lists)
 in_range_of lists n waiting same size i j c found =
     let d : Waiting = record { cells = []; outputs = 0; spare = 0 } in
-    let its = waiting i d in
-    search (arith, rules, outputs_below, has_output, cells_at, its, same i d, length-map, get_or_past, cases_lt)
+    search (arith, rules, outputs_below, has_output, cells_at, waiting i d, same i d, length-map, get_or_past, cases_lt)
 
 -- ## The orders
 
@@ -130,33 +129,28 @@ pub record Next (m : Partners) (n j : ℕ) (outputs inputs : List (List ℕ)) (l
 
 module _ {m : Partners} {n j : ℕ} {outputs inputs : List (List ℕ)} {lists : List Waiting}
     (x : Next m n j outputs inputs lists) where
-  -- the order that its partner is to have
-  column_is : inputs_of (orders_of (cells_of lists)) j ≡ input_order (cells_of lists) j
-  column_is = grind (arith, common_steps, length-map, x.pairs.ports, inputs_at)
-
+  -- what the renewal of its partner's order asks
   pub column_asks : (column : List ℕ) → column ≡ get_or inputs j column →
       IsDistinct eqb column × (without n column ≡ without n (input_order (cells_of lists) j))
       × (length (input_order (cells_of lists) j) ≤ most_ports)
   column_asks column e =
       let few = inputs_at_most (orders_of (cells_of lists)) x.offers.0 j in
-      search (arith, rules, few, get_or_default, column_is, length-map, length-map-range_with_len, x.pairs.ports)
+      search (arith, rules, few, get_or_default, inputs_at, length-map, length-map-range_with_len, x.pairs.ports)
 
-  -- the order that the input is to have, and what its renewal asks
+  -- what the renewal of the input's order asks
   module _ (row : List ℕ) (list : Waiting) (at : list ≡ get_or lists n list) where
-    row_is : outputs_of (orders_of (cells_of lists)) n ≡ output_order list.cells
-    row_is = grind (arith, common_steps, outputs_at, cells_at)
-
     pub row_asks : row ≡ get_or outputs n row → IsDistinct eqb row
         × (without j row ≡ without j (output_order list.cells)) × (length (output_order list.cells) ≤ most_ports)
     row_asks e =
         let few = outputs_at_most (orders_of (cells_of lists)) x.offers.0 n in
-        search (arith, rules, few, row_is, get_or_default, length-map)
+        search (arith, rules, few, outputs_at, cells_at, get_or_default, length-map)
 
     pub next_renewed : (column : List ℕ) → row ≡ output_order list.cells → column ≡ input_order (cells_of lists) j →
         Renewing m (n + 1) (record { outputs = set outputs n row; inputs = set inputs j column })
         (orders_of (cells_of lists))
     next_renewed column e f =
-        search (arith, rules, one_more, row_is, column_is, length-map, length-map-range_with_len, x.pairs.ports)
+        let ports = x.pairs.ports in
+        search (arith, rules, one_more, outputs_at, cells_at, inputs_at, length-map, length-map-range_with_len, ports)
 
 -- the one pair
 abbrev pub pair_of : List Waiting → ℕ → ℕ → Partners
