@@ -90,5 +90,4 @@ module _ {X : Type 0} (p : X → Bool) where
 
   -- one passes where all are alike, and there is one
   pub any_alike : (t : Bool) (xs : List X) (x : X) → Has xs x → ((y : X) → Has xs y → p y ≡ t) → list_any p xs ≡ t
-  any_alike true xs x has alike = any_has xs x has (alike x has)
-  any_alike false xs x has alike = grind (arith, common_steps, cases_Bool (list_any p xs), has_any xs, alike)
+  any_alike t xs x has alike = grind (arith, common_steps, cases_Bool, any_has xs x has, has_any xs, alike)

@@ -85,11 +85,10 @@ each_pair_insert : (R : Queued → Queued → Type 0) (xs : List Queued) (p : �
     ((s : ℕ) (x : Queued) → slice_get xs s ≡ Some x → p ≤ s → R n x) → EachPair R (insert xs p n)
 each_pair_insert R xs zero n e before after = (all_by (R n) xs (λ s c h. after s c h (omega arith)), e)
 each_pair_insert R [] (suc p) n e before after = (tt, tt)
-each_pair_insert R (x ∷ xs) (suc p) n e before after = (
-  all_insert (R x) xs p n (before zero x refl (omega arith)) e.0,
-  each_pair_insert R xs p n e.1 (λ s y h l. before (suc s) y h (omega arith)) (λ s y h l.
-      after (suc s) y h (omega arith)),
-)
+each_pair_insert R (x ∷ xs) (suc p) n e before after =
+    let earlier = λ (s : ℕ). before (suc s) in
+    let later = λ (s : ℕ). after (suc s) in
+    search (arith, rules, all_insert (R x), before zero x refl, each_pair_insert R xs p n e.1, earlier, later)
 
 pub keys_differ_insert : (xs : List Queued) (p : ℕ) (n : Queued) → KeysDiffer xs → HasOtherKey n xs →
     KeysDiffer (insert xs p n)
