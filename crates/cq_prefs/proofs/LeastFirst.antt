@@ -48,5 +48,4 @@ unfolding best
 input_best-best o v =
     let t = turns o v (ports o * ports o) in
     let most = λ (i : ℕ). events_at_most o v (i ∷ t.events) in
-    let quiet : IsQuiescent o (state_after o t.events) = search (arith, rules, most, t.ended) in
-    rw t.is (input_best-quiet o v t.events t.are_events quiet)
+    search (arith, rules, input_best-quiet o v t.events t.are_events (search (arith, rules, most, t.ended)))

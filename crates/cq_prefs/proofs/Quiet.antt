@@ -70,7 +70,6 @@ module _ (o : Orders) (v : AreOffers o) (s : State) (w : IsSound o s) (q : IsQui
   no_better : (n : Partners) → IsMatching o n → NonePassed o s n → (i : ℕ) (p r : Option ℕ) →
       partner_of (matching_of o s) i ≡ p → partner_of n i ≡ r → depth (outputs_of o i) p ≤ depth (outputs_of o i) r
   no_better n matching none i p r e f =
-      let asked = w.asked_before i in
       search (arith, rules, matching.offered, v.shown, place_in-le-length, partner-from, cases_lt, kept i p)
 
 pub input_best-quiet : (o : Orders) → AreOffers o → (events : List ℕ) → AreEvents o events →
@@ -78,10 +77,7 @@ pub input_best-quiet : (o : Orders) → AreOffers o → (events : List ℕ) → 
 input_best-quiet o v events es q =
     let s = state_after o events in
     let w = sound-after o v events es in
-    record {
-      stable = record { matching = matching-of o v s; settled = settled o v s w q };
-      best = search (arith, rules, no_better, none_passed-after);
-    }
+    search (arith, rules, matching-of o v s, settled o v s w q, no_better, none_passed-after)
 
 -- ## How many proposals there are
 

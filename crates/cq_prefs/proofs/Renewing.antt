@@ -44,8 +44,7 @@ pub orders_made : (lists : List Waiting) (n : ℕ) (outputs inputs : List (List 
     let o : Orders = record { outputs = outputs; inputs = inputs } in o ≡ orders_of (cells_of lists)
 orders_made lists n outputs inputs e m end =
     let long = length-map-range_with_len (input_order (cells_of lists)) 0 (length (cells_of lists)) in
-    let rows = ext_get_or [] inputs in
-    search (arith, rules, length-map, map-map, same_orders, rows, m.row, get_or-map-range_with_len)
+    search (arith, rules, ext_get_or [] inputs, length-map, map-map, same_orders, get_or-map-range_with_len)
 
 -- ## Filters
 
@@ -88,8 +87,8 @@ one_more m n j o t row column pairs v r e inside offered is_row is_column =
 -- all are renewed
 pub all_renewed : (m : Partners) (n : ℕ) (o t : Orders) → Renewing m n o t → length m ≤ n → o ≡ t
 all_renewed m n o t r end =
-    let rows = ext_get_or [] o.outputs in let columns = ext_get_or [] o.inputs in
-    search (arith, rules, same_orders, rows, columns, r.outputs_done, r.inputs_done, get_or_past)
+    let rows = ext_get_or [] o.outputs in
+    search (arith, rules, ext_get_or [] o.inputs, same_orders, get_or_past)
 
 -- where no input of a range has a partner, the range is renewed as it stands
 pub none_between : (m : Partners) (a b : ℕ) (o t : Orders) → Renewing m a o t → a ≤ b →
@@ -149,8 +148,7 @@ module _ {m : Partners} {n j : ℕ} {outputs inputs : List (List ℕ)} {lists : 
         Renewing m (n + 1) (record { outputs = set outputs n row; inputs = set inputs j column })
         (orders_of (cells_of lists))
     next_renewed column e f =
-        let ports = x.pairs.ports in
-        search (arith, rules, one_more, outputs_at, cells_at, inputs_at, length-map, length-map-range_with_len, ports)
+        search (arith, rules, one_more, outputs_at, cells_at, inputs_at, length-map, length-map-range_with_len)
 
 -- the one pair
 abbrev pub pair_of : List Waiting → ℕ → ℕ → Partners
