@@ -49,7 +49,7 @@ pub(crate) fn answered(
 }
 
 /// The hand after a proposal with this outcome.
-#[tactic(auto, unfolding(crate::specs::Steps::hand_after))]
+#[tactic(auto, using(crate::proofs::Hands::hand_steps), unfolding(crate::specs::Steps::hand_after))]
 pub(crate) fn hand_next(
     offers: &Offers,
     input: Port,
