@@ -54,6 +54,7 @@ struct Asked {
 // The position of an input in an order, if it is less than this one, which is not its own. The first is looked at,
 // since most inputs that propose stand there, and then those ahead of this one, the nearest first: an output soon
 // holds an input that stands far ahead, or right behind the one that proposes.
+#[tactic(auto, using(crate::proofs::Leaving::seen))]
 fn position_ahead(order: &[Port], input: Port, held: u16) -> Option<u16>
     requires differ { IsDistinct nat_eq order.now }
     requires few { length order.now ≤ most_ports }
