@@ -44,6 +44,6 @@ pairs_flat R f a (suc n) own across = pairs_joined R (f a) (flat_map f (range_wi
 pub set_one : {X : Type 0} (f g : ℕ → X) (n i : ℕ) (y : X) → i < n → g i ≡ y → ((j : ℕ) → j < n → j ≢ i → g j ≡ f j) →
     set (map f (range_with_len 0 n)) i y ≡ map g (range_with_len 0 n)
 set_one f g n i y inside own others =
-    let fill = fill_by_all g (set (map f (range_with_len 0 n)) i y) n y in
+    let all = fill_by_all g (set (map f (range_with_len 0 n)) i y) n y in
     let long = length-map-range_with_len f 0 n in
-    search (arith, rules, fill, long, length-set, cases_eq, get_or-set_same, get_or-set_other, get_or-map-range_with_len)
+    search (arith, rules, all, long, length-set, cases_eq, get_or-set_same, get_or-set_other, get_or-map-range_with_len)
