@@ -114,7 +114,6 @@ module _ (input cell_bytes : ℕ) (rows : List Row) (from n : ℕ) (ended : IsEn
       IsFirstFrom (line_arrivals input cell_bytes rows) from slot
   unfolding line_arrivals
   line_next slot are inside is =
-      let last = ended.after n (omega arith) inside in
       let start = (row_at rows n).start in
       let cell = row_cell input cell_bytes n (row_at rows n) in
       let piece_of_last = arrives_piece slot start cell 0 (row_at rows n).cells (slot - start) in

@@ -202,7 +202,6 @@ unfolding stamp_slot cells
 next_row t captures input k ps places ways row origin free all rows old counts tables read inside sent ports s from
     starts cut routed long =
     let its = row_is_of 24 ps k no_place (record { stamp = 0; original = 0; body = [] }) in
-    let within : k < length (packets_of captures input) = omega (arith, read.many) in
     let to = route_output t input (packet_at captures input k).body tables in
     let made : row ≡ row_of t captures input k = grind (arith, common_steps, start_by, row_is_of, way_is, its) in
     let few = few_by t captures input (k + 1) tables.cell_bytes.0 read.recorded in
