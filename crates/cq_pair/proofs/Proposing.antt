@@ -66,7 +66,6 @@ module _ (o : Orders) (v : AreOffers o) (s : State) (w : IsSound o s) where
       matching-taken m size there back =
           let j : ℕ = next_output o s i in
           let known = input_in_range o i j st.offered in
-          let here = get_or-set_same m i (Some j) None (omega arith) in
           let shown = v.shown i j st.offered in
           matching_of-is o v (propose o s i) (sound-step o v s w i f) (set m i (Some j)) (length-set m i _ ∙ size)
           (search (arith, rules, get_or-set_other, st.held_other, st.held_asked, there, same_Some, cases_eq))
