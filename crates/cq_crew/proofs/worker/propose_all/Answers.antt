@@ -1,4 +1,4 @@
-use Rattle.cq_crew.proofs.Terms.{arith, common_steps, rules, ◌∙◌, IsSome}
+use Rattle.cq_crew.proofs.Terms.{arith, common_steps, ◌∙◌, IsSome}
 use Rattle.cq_crew.proofs.Working.{proposes-same, proposes-next}
 use Rattle.cq_crew.proofs.worker.propose_all.Goals as goal
 
