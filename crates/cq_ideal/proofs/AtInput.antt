@@ -1,12 +1,9 @@
--- Each cell stands at the place of the input that its id names, in each slot of a run, and among the admitted ones
--- too. So of the cells that are refused in a slot only the one at the place of an input is of that input, and it is
--- refused where the mark is up.
--- The cells that arrive at an input from a slot on, slot by slot, are its arrivals of these slots in their order. In a
--- slot the input's place shows what is found there; and the arrivals at one input rise in their slots, so where the
--- first is taken off the list every later slot shows the same.
--- What arrives in the slots of a run, slot by slot, is what was to arrive, in its order: the cells that come to an
--- input, and those of a flow. At the place of the flow's input stand all its cells of a slot, so they are among the
--- cells that come to the input.
+-- What stands at the place of an input in the slots of a run. Each cell stands at the place of the input that its id
+-- names, among the admitted cells too. So of the cells that are refused in a slot only the one at the place of an
+-- input is of that input, and it is refused where the mark is up. In a slot the place shows what is found there, and
+-- the arrivals at one input rise in their slots, so where the first is taken off the list every later slot shows the
+-- same: from a slot on the cells that come to an input are its arrivals of these slots in their order. And all cells
+-- of a flow stand at the place of its input, so what comes of a flow is what was to come of it, in its order.
 use Rattle.cq_ideal.proofs.Terms.{filter_all, all_from_has, le-ltb, rules, common_steps, ◌≡◌, ℕ, zero, suc, ◌+◌, ◌<◌, List, [], ◌∷◌, Option, refl, ⊎_elim, arith, AllByRecursion, cases_lt, get_or_past, unwrap_or-slice_get, Cell, Arrival, enough, traffic_of, arrival_at, RiseByInput, came_in_flow, came_at, cells_at, most_ports, all_weaker, IsRunnable, IsForSwitch, Machine, ◌≤◌, not, ◌++◌, Bool, None, map, ◌==◌, nat_lt, filter, cond_both, cases_eq, eq-eqb, lt-ltb, get_or-map-range_with_len, arriving, arriving_at, end_of, all_by, arriving_from, all_made, Some, range_with_len, and_parts, eqb-true, cond-true, filter-append, Admission, admitted, mark_at, refused, where_up, refused_in, AreJudged}
 use Rattle.cq_ideal.proofs.Parted.{all_slots}
 use Rattle.cq_ideal.proofs.FlowCount.{cell_listed, found, found_none, length-arriving, listed_same, before_end, found_here, listed, other_input, other_slot}

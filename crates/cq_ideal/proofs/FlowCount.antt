@@ -1,10 +1,9 @@
--- What arrives in a slot at an input. It is the first arrival in the list that is of this slot and at this input, so
--- an arrival of another slot or input hides nothing, and what holds of all that are of this slot and at this input
--- holds of what is found. The cells that arrive in a slot are those that are found at its inputs.
--- How many cells come, and until when. Each arrival adds its cell at most to what comes, at its slot and input, so what
--- comes weighs no more than the arrivals, whatever a cell weighs, and no more cells come than there are arrivals. From
--- the end of the arrivals on none comes. So a run of as many slots as are enough has one slot for each cell after the
--- last of them came.
+-- What arrives in a slot at an input, how many cells come, and until when. At an input the first arrival in the list
+-- is found that is of this slot and at this input. So one of another slot or input hides nothing, and what holds of
+-- all that are of this slot and at this input holds of what is found. The cells of a slot are those that are found
+-- at its inputs, so each arrival adds its cell at most to what comes, and what comes weighs no more than the
+-- arrivals, whatever a cell weighs. From the end of the arrivals on none comes. So a run of as many slots as are
+-- enough has one slot for each cell after the last of them came.
 use Rattle.cq_ideal.proofs.Terms.{None, and_left, ne_eqb, cond-false, replicate, length-replicate, fill_by_all, rules, ◌≡◌, ℕ, zero, suc, ◌+◌, ◌<◌, ◌≤◌, List, [], ◌∷◌, length, map, drop, refl, sym, ap, arith, common_steps, AllByRecursion, range_with_len, length-map-range_with_len, Arrival, arriving_at, arriving, end_of, enough, traffic_of, all_weaker, Cell, Option, ◌∙◌, most_ports, ◌++◌, Some, cons_option, eq-eqb, and_from, and_right, cond-true, none_had, all_of_has}
 use Rattle.cq_ideal.proofs.Changed.{same_at}
 use Rattle.cq_ideal.proofs.FlowStands.{present}

@@ -1,8 +1,8 @@
--- One slot at one output. After its arrivals the output sends the first cell of its list, and a sending lowers no
--- floor; where it sends nothing its list is empty. So what is known of the list stays known. And what the list showed
--- of a flow, and then what arrived of it, is what the output sent of it, and then what the list shows afterwards.
--- A whole run at one output. What a list shows of a flow, and then what is still to come of it, is what the output
--- still sends of it, and then what its list shows at the end: slot by slot. What is no port sends nothing.
+-- A run at one output, slot by slot. After the arrivals of a slot the output sends the first cell of its list, and a
+-- sending lowers no floor; where it sends nothing its list is empty. So what is known of the list stays known, and
+-- what it showed of a flow, and then what arrived of it, is what the output sent of it, and then what the list shows
+-- afterwards. So it is over a run: what the list shows of a flow, and then what is still to come of it, is what the
+-- output still sends of it, and then what its list shows at the end. What is no port sends nothing.
 use Rattle.cq_ideal.proofs.Terms.{rules, ◌≡◌, ℕ, ◌+◌, ◌<◌, ◌≤◌, List, [], ◌∷◌, ◌++◌, length, Option, None, Ok, refl, arith, common_steps, slice_index_or, AllByRecursion, filter, eq-eqb, ne_eqb, and_left, cond-false, append-nil, append_assoc, map-append, get_or_past, filter-append, Cell, Departure, Queued, Machine, KeepsLaws, machine_at, IdealState, Sent, ideal_slot, departures_from, departures_in, Ran, ideal_run, departures_of, leaves_in_flow, left_in_flow, Some, get_or-map, length-map, Ranking, ranking, put_all, all_weaker}
 use Rattle.cq_ideal.proofs.FlowStands.{Stands, is_kind, shown, of_flow, present, only_ok, AreOfClasses, Filled, filled_from}
 use Rattle.cq_ideal.proofs.Sending.{length-told, told_at}

@@ -1,16 +1,12 @@
--- A cell put into a list that stands in order. The list is one in which no cell is more urgent than one before it. A
--- cell is put before the first cell that is less urgent than it, so the list stays in order. And where no cell of
--- some kind is less urgent than a new one of that kind, none of them stands behind it: the first cell behind it is
--- less urgent, and so is each that follows. So of that kind the new cell is the last, and of any other kind the list
--- shows what it showed.
--- What stands in the list of an output while arrivals are put into it. Each cell that waits has its class's level and
--- a rank no greater than its class's floor, and it came in an earlier slot, or in this one at an earlier input. A new
--- cell of a class gets a rank no less than the floor, which becomes the floor, and no other class's floor falls. So
--- the new cell is not more urgent than any waiting cell of its class, and it is put behind all of them: of each flow
--- the list shows what it showed before, and then the new cell, if it is of the flow.
--- The arrivals of a slot at one output, ranked and put into its list from input to input. A cell for the output is
--- put behind all that wait of its flow, and a cell for another output changes neither the list nor the machine's
--- state here. So of each flow the list shows what it showed before, and then what arrives of it.
+-- What stands in an output's list while the arrivals of a slot are put into it, input by input. The list stands in
+-- order: no cell is more urgent than one before it. A cell is put before the first that is less urgent than it, so
+-- the order stays; and where no cell of some kind is less urgent than a new one of that kind, none of them stands
+-- behind it, since all behind it are less urgent. So of that kind the new cell is the last, and of any other kind
+-- the list shows what it showed. The cells of a class are such a kind: each that waits has the class's level and a
+-- rank no greater than the class's floor, and it came in an earlier slot, or in this one at an earlier input; a new
+-- one gets a rank no less than the floor. That rank becomes the floor, and no other class's floor falls. A cell for
+-- another output changes neither the list nor the machine's state here. So of each flow the list shows what it
+-- showed before the slot, and then what arrives of it.
 use Rattle.cq_ideal.proofs.Terms.{common_steps, rules, ◌≡◌, ℕ, ◌+◌, ◌<◌, ◌≤◌, Bool, List, [], ◌∷◌, ◌++◌, length, map, arith, ⊎_elim, ◌&&◌, ◌==◌, AllByRecursion, filter, cond_both, ltb-true, eqb-true, cond-true, cond-false, cases_Bool, eq-eqb, and_parts, and_from, and_right, Cell, Queued, is_before, EachPair, put, Machine, KeepsLaws, all_put, append-nil, map-append, all_weaker, true, false, both_ways, false_from_ne_true, filter_none, cond, Option, Some, None, Result, Ok, Err, slice_index_or, cases_eq, ne_eqb, and_left, get_or-set_other, append_assoc, TagFault, is_for, machine_at, Ranking, ranking, after_input, keyed, put_all, given_at, level_at, rank_at}
 use Rattle.cq_rank.proofs.Floors.{given_floor}
 use Rattle.cq_base.specs.declared.key.Key.{Key}

@@ -2,7 +2,7 @@
 -- one that arrived there.
 use Rattle.cq_laws.proofs.Terms.{rules, ◌≡◌, ℕ, List, Option, Some, Ok, arith, Cell, Queued, Machine, Fabric, Arrives, came_to, Ranking, ranking, arrival_at, AreForPorts}
 pub use Rattle.cq_ideal.proofs.Came.{came_from}
-use Rattle.cq_laws.proofs.AfterTransfer.{Keyed}
+use Rattle.cq_laws.proofs.AfterPhases.{Keyed}
 
 -- where the cells of a slot arrived, each that came to an input is the one that arrives there
 pub came_cell : {ms : List Machine} {slot : ℕ} {cells : List (Option Cell)} {came : List (Option Queued)}

@@ -2,7 +2,7 @@
 -- key twice, so it stays in the order of keys.
 use Rattle.cq_laws.proofs.Terms.{common_steps, rules, ◌≡◌, ◌≢◌, ℕ, zero, suc, ◌<◌, ◌⊎◌, cond, List, [], ◌∷◌, length, Option, Some, None, refl, inl, inr, ⊎_elim, arith, cases_lt, cond_both, eqb-true, eq-eqb, ne_eqb, true≢false, same_Some, get_or_past, get_or-map-range_with_len, Queued, IsAmong, came_to, IsRising, put, is_for, put_all, filled, list_of, length-filled}
 use Rattle.cq_laws.proofs.Sound.{among_put, rising_put}
-use Rattle.cq_laws.proofs.AfterTransfer.{CameFor}
+use Rattle.cq_laws.proofs.AfterPhases.{CameFor}
 
 pub among_put_all : (j : ℕ) (came : List (Option Queued)) (xs : List Queued) (c : Queued) →
     IsAmong c (put_all j came xs) → IsAmong c xs ⊎ CameFor came j c

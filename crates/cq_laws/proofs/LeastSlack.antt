@@ -1,11 +1,11 @@
 -- The least slack of a run is that of a cell as it arrived. From the arrivals of one slot to those of the next a
 -- slack rises at two matchings, falls by one at most at the departures between them, and by one at most at the next
 -- arrivals. So it never falls, and each cell that waits has more slack than the least so far. After arrivals it has
--- no less, so that of all slacks then only those of the cells that have arrived can be the least.
--- The least slack of a whole run, slot by slot.
+-- no less, so that of all slacks then only those of the cells that have arrived can be the least: slot by slot, and
+-- so over a whole run.
 use Rattle.cq_laws.proofs.Terms.{has_there, stands_at, common_steps, rules, ◌≡◌, ℕ, zero, suc, ◌+◌, ◌-◌, ◌<◌, ◌≤◌, ◌⊎◌, Bool, true, false, List, [], ◌∷◌, length, map, Option, Some, None, refl, inl, ⊎_elim, arith, ◌==◌, min, fold, insert, slice_get, AllByRecursion, enumerate_from, position_or_len, reduce, option_map, cases_lt, eq-eqb, ne_eqb, length-map, get_or_past, length-enumerate_from, same_Some, slice_get-get_or, Cell, Queued, Figures, place_of_arrival, Machine, AreForPorts, IdealState, IsStable, Fabric, input, cushion_of, came_to, Arrives, EachArrivesOr, EachRises, SlotRecord, FabricSlot, Agrees, InputFigures, first_here, first_later, slacks, either_by, input_after, figures_after, slack_on_arrival, all_from_has, Has, Falls, least_slack, HasMoreSlack, option_and_then, filter_map, replicate, cons_option, length-replicate, empty_fabric, FabricRun, empty_ideal, figures_of, no_figures}
 use Rattle.std.proofs.lemmas.List.Edits.{get_or-insert_at, length-insert}
-use Rattle.cq_laws.proofs.AfterTransfer.{arrivals_fall, departures_fall}
+use Rattle.cq_laws.proofs.AfterPhases.{arrivals_fall, departures_fall}
 use Rattle.cq_laws.proofs.Sound.{one_in_order}
 use Rattle.cq_laws.proofs.OneSlot.{keyed, old_sound, arrived, first, second, slack_arrived, ports_kept, same_slot}
 use Rattle.cq_laws.proofs.AddingUp.{reduce-append, figures_fold}

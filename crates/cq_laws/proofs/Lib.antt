@@ -1,7 +1,7 @@
 mod Terms
 pub mod Cushions
 pub mod Sound
-pub mod AfterTransfer
+pub mod AfterPhases
 pub mod Came
 pub mod IdealLists
 pub mod OneSlot

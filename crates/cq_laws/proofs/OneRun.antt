@@ -4,7 +4,7 @@
 -- a run.
 pub use Rattle.cq_prefs.proofs.InputOrder.{outputs_at}
 use Rattle.cq_laws.proofs.Terms.{common_steps, arith, rules, ◌≡◌, ℕ, List, [], ◌∷◌, Option, Some, refl, sym, ◌∙◌, ⊎_elim, ◌+◌, ext_get_or, Cell, Queued, TagFault, Machine, Marked, Fabric, Arrives, Transfers, Departs, SlotRecord, FabricSlot, IsFault, IsOneRun, LimitedRecord, LimitedFabricSlot, IsLimitedFault, fabric_admission, partner_of, HasCellFor, list_of, orders_of, RunBy, StopBy, is_output_order, one_input_best, Partners, IsStable, IsInputBest}
-use Rattle.cq_laws.proofs.AfterTransfer.{sender}
+use Rattle.cq_laws.proofs.AfterPhases.{sender}
 
 -- ## Where a state and what arrives leave no choice in a slot, they leave none in a run
 

@@ -1,8 +1,7 @@
--- A run from where another ended goes on with it, whatever a slot is.
--- A run in parts: its first slots are a run, and where that ended the others go on. So a run over many slots passes
--- through the end of each shorter one, and two whole runs of which each slot leaves no choice are one.
--- What is kept of a run is kept of its parts: the departures and the transfers of two runs on end are those of the
--- first and then those of the second.
+-- Runs in parts, whatever a slot is. A run from where another ended goes on with it. The first slots of a run are a
+-- run, and where that ended the others go on. So a run over many slots passes through the end of each shorter one,
+-- and two whole runs of which each slot leaves no choice are one. The departures and the transfers of two runs on
+-- end are those of the first and then those of the second.
 use Rattle.cq_laws.proofs.Terms.{common_steps, rules, ◌≡◌, ℕ, suc, ◌+◌, ◌-◌, ◌<◌, ◌≤◌, List, [], ◌∷◌, ◌++◌, length, drop, Option, refl, ap, arith, AllByRecursion, cases_lt, take_all, Arrival, end_of, Cell, IsEnd, arriving_from, first_slots, arriving_length, arriving_parts, AfterBy, HasParts, RunBy, WholeBy, all_front, TagFault, StopBy, GoOn, append-nil, map-append, length-map, flat_map-append, departures_of, departures_in, departures_append, gone_in, transfers_in, transfers_of_run, SlotRecord}
 
 module _ {S R : Type 0} (Step : ℕ → List (Option Cell) → S → R → S → Type 0)

@@ -1,19 +1,18 @@
--- How far a slack falls. An arriving cell goes in at its cushion or ahead of it; no other cell of the list goes back
--- by more than a place, and no buffer changes. A departure takes one cell from a buffer, so it lowers each cushion by
--- one at most, and no input thread changes.
--- What arrivals keep. The cells that come have the slot that begins, which no older cell has, and the inputs at which
--- they come, which all differ: so no key is twice. Each older cell for the same output in the list has slack 1 at
--- least, so where it is more urgent than the new cell it stands below the new cell's cushion: so the insertion keeps
--- the order. And the cells for each output are those that were there and those that came for it.
--- What departures keep: they take the first cell out of each buffer, and nothing else changes.
--- Partners of a matching: an output has an input whose partner it is, or none. And the first cell for an output in a
--- list is no less urgent than any other for it.
--- What the transfer of a stable matching does. It leaves a cell at an input only where the input gave a cell that
--- stood ahead of it, or its output got a cell that is more urgent: else the input and the output would be a pair that
--- blocks. So its input thread falls or its cushion rises, and neither ever goes the other way. It follows that the
--- most urgent cell for an output is never left: it would have slack 1, so a cushion, so a more urgent cell for the
--- same output. And each cell is where it was or has crossed to its output, and the first cell for an output that a
--- list gave is in it no more: so no key is twice, and the cells for each output stay the same.
+-- What the phases of a slot do to slacks, and what they keep.
+-- Arrivals. A cell goes in at its cushion or ahead of it; no other cell of the list goes back by more than a place,
+-- and no buffer changes, so a slack falls by one at most. The cells that come have the slot that begins, which no
+-- older cell has, and the inputs at which they come, which all differ: so no key is twice. Each older cell for the
+-- same output in the list has slack 1 at least, so where it is more urgent than the new cell it stands below the new
+-- cell's cushion: so the insertion keeps the order. And the cells for each output are those that were there and
+-- those that came for it.
+-- Departures take the first cell out of each buffer, and nothing else changes. So each cushion falls by one at most,
+-- and no input thread changes.
+-- The transfer of a stable matching leaves a cell at an input only where the input gave a cell that stood ahead of
+-- it, or its output got a cell that is more urgent: else the input and the output would be a pair that blocks. So
+-- its input thread falls or its cushion rises, and neither ever goes the other way. It follows that the most urgent
+-- cell for an output is never left: it would have slack 1, so a cushion, so a more urgent cell for the same output.
+-- Each cell is where it was or has crossed to its output, and the first cell for an output that a list gave is in it
+-- no more: so no key is twice, and the cells for each output stay the same.
 use Rattle.cq_laws.proofs.Terms.{rules, ◌≡◌, ◌≢◌, ℕ, suc, ◌+◌, ◌<◌, ◌≤◌, ◌⊎◌, ◌↔◌, List, Option, Some, None, refl, sym, ap, ◌∙◌, inl, inr, ⊎_elim, arith, common_steps, slice_get, eq-eqb, same_Some, cushion_of, Queued, Fabric, input, buffer, IsAmong, IsFabric, ListsKeepOrder, Transfers, EachRises, HasSlack, put, KeepsOrder, is_for, first_for, place_for, without_first, key_laws, first_le, each_pair_left, IsListed, place_in, outputs_of, partner_of, depth, HasBetterInput, IsOutputOrder, AreOrdersOf, orders_of, list_taken, HasFor, IsMostUrgentFor, has_there, stands_at, Partners, IsStable, zero, [], ◌∷◌, cases_lt, cases_eq, eqb-true, IsBefore, each_pair_at, length, Key, Cell, Machine, came_to, list_arrived, Arrives, keeps_order_arrival, all_from_has, drop, Departs, rests, list_of, ArrivesWithSlack, Falls, EachFalls, EachArrivesOrFalls, length-map, IsRising, take-append-drop, has_right}
 use Rattle.cq_laws.proofs.Sound.{from_first, first_at, first_of, left_at, left_or_first, among_put, rising_put, was_waiting, same_cell, Apart, Sound, one_in_order, orders_are, among_insert, insert_has, inserted_at}
 use Rattle.cq_laws.proofs.Cushions.{cushion_grows, cushion_grows_by_one, cushion_has, cushion_rises, cushion_cons}
