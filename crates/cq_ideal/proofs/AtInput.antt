@@ -4,7 +4,7 @@
 -- the arrivals at one input rise in their slots, so where the first is taken off the list every later slot shows the
 -- same: from a slot on the cells that come to an input are its arrivals of these slots in their order. And all cells
 -- of a flow stand at the place of its input, so what comes of a flow is what was to come of it, in its order.
-use Rattle.cq_ideal.proofs.Terms.{filter_all, all_from_has, le-ltb, rules, common_steps, ◌≡◌, ℕ, zero, suc, ◌+◌, ◌<◌, List, [], ◌∷◌, Option, refl, ⊎_elim, arith, AllByRecursion, cases_lt, get_or_past, unwrap_or-slice_get, Cell, Arrival, enough, traffic_of, arrival_at, RiseByInput, came_in_flow, came_at, cells_at, most_ports, all_weaker, IsRunnable, IsForSwitch, Machine, ◌≤◌, not, ◌++◌, Bool, None, map, ◌==◌, nat_lt, filter, cond_both, cases_eq, eq-eqb, lt-ltb, get_or-map-range_with_len, arriving, arriving_at, end_of, all_by, arriving_from, all_made, Some, range_with_len, and_parts, eqb-true, cond-true, filter-append, Admission, admitted, mark_at, refused, where_up, refused_in, AreJudged}
+use Rattle.cq_ideal.proofs.Terms.{◌-◌, cond, filter_all, all_from_has, le-ltb, rules, common_steps, ◌≡◌, ℕ, zero, suc, ◌+◌, ◌<◌, List, [], ◌∷◌, Option, refl, ⊎_elim, arith, AllByRecursion, cases_lt, get_or_past, unwrap_or-slice_get, Cell, Arrival, enough, traffic_of, arrival_at, RiseByInput, came_in_flow, came_at, cells_at, most_ports, all_weaker, IsRunnable, IsForSwitch, Machine, ◌≤◌, not, ◌++◌, Bool, None, map, ◌==◌, nat_lt, filter, cond_both, cases_eq, eq-eqb, lt-ltb, get_or-map-range_with_len, arriving, arriving_at, end_of, all_by, arriving_from, all_made, Some, range_with_len, and_parts, eqb-true, cond-true, filter-append, Admission, admitted, mark_at, refused, where_up, refused_in, AreJudged}
 use Rattle.cq_ideal.proofs.Parted.{all_slots}
 use Rattle.cq_ideal.proofs.FlowCount.{cell_listed, found, found_none, length-arriving, listed_same, before_end, found_here, listed, other_input, other_slot}
 use Rattle.cq_ideal.proofs.FlowStands.{present, is_of_flow, of_flow}
@@ -145,24 +145,18 @@ come_in_order i inside came rise = all_shown i came (is_shown i inside came) ris
 -- ## A flow comes at its input
 
 module _ (i c j : ℕ) where
-  none_past : (a : ℕ) (cells : List (Option Cell)) → StandAt a cells → i < a → of_flow i c j (present cells) ≡ []
+  -- what comes of it from this input on stands at the place of its input, and is nothing where that place is before
+  at_place : (a : ℕ) (cells : List (Option Cell)) → StandAt a cells → of_flow i c j (present cells)
+      ≡ cond (nat_lt i a) [] (of_flow i c j (cell_listed (arrival_at cells (i - a))))
   unfolding of_flow
-  none_past a [] at lt = refl
-  none_past a (cell ∷ cells) at lt = grind (arith, common_steps, present, none_past (a + 1) cells)
-
-  at_place : (a k : ℕ) (cells : List (Option Cell)) → StandAt a cells → i ≡ a + k →
-      of_flow i c j (present cells) ≡ of_flow i c j (cell_listed (arrival_at cells k))
-  unfolding of_flow
-  at_place a k [] at e = refl
-  at_place a zero cells at e = grind (arith, common_steps, none_past, is_of_flow)
-  at_place a (suc k) cells at e = grind (arith, common_steps, at_place (a + 1) k)
+  at_place a [] at = grind (arith, common_steps)
+  at_place a (cell ∷ cells) at = grind (arith, common_steps, is_of_flow, at_place (a + 1) cells)
 
   pub comes_at_input : (traffic : List (List (Option Cell))) → AllByRecursion (StandAt 0) traffic →
       flow_came i c j traffic ≡ of_flow i c j (cells_at i traffic)
   unfolding flow_came of_flow
   comes_at_input [] at = refl
-  comes_at_input (cells ∷ traffic) at =
-      grind (arith, common_steps, at_place 0 i cells at.0, comes_at_input traffic at.1)
+  comes_at_input (cells ∷ traffic) at = grind (arith, common_steps, at_place 0 cells at.0, comes_at_input traffic at.1)
 
   -- the flow's arrivals are among those at the input
   of_line : (came : List Arrival) → of_flow i c j (came_at i came) ≡ came_in_flow i c j came
@@ -179,8 +173,8 @@ module _ {ms : List Machine} {ports : ℕ} {openings : List (List ℕ)} {came : 
   unfolding found
   all_in_order i = ⊎_elim (λ inside. come_in_order i inside came runs.rise)
       (λ past. all_shown i came (λ t.
-      let long = length-arriving came t most_ports refl in
       let nobody = found_none came t i (search (arith, rules, all_weaker (IsForSwitch ms ports))) in
+      let long = length-arriving came t most_ports refl in
       search (arith, rules, unwrap_or-slice_get, get_or_past, listed_same, nobody)) runs.rise) (cases_lt i most_ports)
 
   pub came_in_order : (i c j : ℕ) → flow_came i c j (traffic_of came) ≡ came_in_flow i c j came

@@ -58,10 +58,9 @@ module _ (limits : List (Option ℕ)) (j : ℕ) (none : slice_index_or limits j 
   firsts_elsewhere : (marks : List Bool) (traffic : List (List (Option Cell))) (admissions : List Admission) →
       AreJudged limits marks traffic admissions → AllByRecursion Elsewhere (refused_in admissions)
   unfolding admission
-  firsts_elsewhere marks [] [] judged = tt
   firsts_elsewhere marks (cells ∷ traffic) (a ∷ admissions) judged =
       grind (arith, common_steps, all_both, first_elsewhere judged.0.0 marks cells, firsts_elsewhere a.marks traffic)
-  firsts_elsewhere marks traffic admissions judged = absurd judged
+  firsts_elsewhere marks traffic admissions judged = grind (arith, common_steps)
 
 pub refuses_none_elsewhere : RefusesNoneElsewhere
 unfolding whole_limited_run cells_refused

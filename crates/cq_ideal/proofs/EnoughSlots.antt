@@ -37,13 +37,12 @@ pub no_more : (limits : List (Option ℕ)) (marks : List Bool) (traffic : List (
     (come_count (drop e (admitted_in admissions)) ≤ come_count (drop e traffic))
     × (length (admitted_in admissions) ≡ length traffic)
 unfolding come_count
-no_more limits marks [] [] judged e = (omega arith, refl)
 no_more limits marks (cells ∷ traffic) (a ∷ admissions) judged zero =
     let is = (its_marks limits marks cells a judged.0).1 in
     grind (arith, common_steps, fewer a.marks cells, no_more limits a.marks traffic admissions judged.1 zero)
 no_more limits marks (cells ∷ traffic) (a ∷ admissions) judged (suc e) =
     let rest = no_more limits a.marks traffic admissions judged.1 e in (rest.0, ap suc rest.1)
-no_more limits marks traffic admissions judged e = absurd judged
+no_more limits marks traffic admissions judged e = grind (arith, common_steps)
 
 -- ## As many slots as are enough
 
@@ -74,7 +73,6 @@ none_after_end came t h = none_arrive came t most_ports refl (omega arith)
 pub limited_empty_at_end : (limits : List (Option ℕ)) (ms : List Machine) (ports : ℕ) (ranks : List (List ℕ))
     (came : List Arrival) →
     IfOk (limited_run limits ms 0 (traffic_of came) (empty_limited ports ranks)) (λ ran. IsEmptyIdeal ran.after.state)
-limited_empty_at_end limits ms ports ranks came =
-    if_ok (λ ran. IsEmptyIdeal ran.after.state) _ (λ ran is.
-    let less = no_more limits _ _ _ (judged limits ms 0 _ _ ran is) in
-    emptied ms ports ranks came _ _ (is_run_of limits ms 0 _ _ ran is) less)
+limited_empty_at_end limits ms ports ranks came = if_ok _ _ (λ ran is.
+    emptied ms ports ranks came _ _ (is_run_of limits ms 0 _ _ ran is)
+    (no_more limits _ _ _ (judged limits ms 0 _ _ ran is)))

@@ -21,10 +21,9 @@ each_slot : (Q : List (Option Cell) → Type 0) →
     (admissions : List Admission) → AreJudged limits marks traffic admissions → AllByRecursion Q traffic →
     AllByRecursion Q (admitted_in admissions)
 unfolding admission
-each_slot Q keeps limits marks [] admissions judged all = grind (arith, common_steps, judged)
-each_slot Q keeps limits marks (cells ∷ traffic) [] judged all = absurd judged
 each_slot Q keeps limits marks (cells ∷ traffic) (a ∷ admissions) judged all =
     grind (arith, common_steps, each_slot Q keeps limits a.marks traffic admissions judged.1 all.1)
+each_slot Q keeps limits marks traffic admissions judged all = grind (arith, common_steps)
 
 all_kept : (P : Cell → Type 0) (marks : List Bool) (cells : List (Option Cell)) → AllByRecursion P (present cells) →
     AllByRecursion P (present (admitted marks cells))
@@ -46,9 +45,8 @@ module _ (limits : List (Option ℕ)) (ms : List Machine) (slot : ℕ) (traffic 
 
   pub of_classes : (j : ℕ) → AllByRecursion (λ cells. AreOfClasses (machine_at ms j) j (present cells)) traffic →
       AllByRecursion (λ cells. AreOfClasses (machine_at ms j) j (present cells)) (admitted_in ran.admissions)
-  of_classes j are = each_slot (λ cells. AreOfClasses (machine_at ms j) j (present cells))
-      (all_kept (λ cell. cell.output ≡ j → cell.class < (machine_at ms j).classes)) limits old.marks traffic
-      ran.admissions each_judged are
+  of_classes j are = each_slot (λ cells. AreOfClasses (machine_at ms j) j (present cells)) (all_kept _) limits old.marks
+      traffic ran.admissions each_judged are
 
   module _ (i next : ℕ) (packets : AreOfPackets next (cells_at i traffic)) where
     -- what is admitted of what comes to the input

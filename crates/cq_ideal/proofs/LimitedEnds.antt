@@ -1,7 +1,7 @@
 -- Where the run of the ideal switch ends, where outputs have limits: as many slots as are enough end with empty lists,
 -- so there is a least number of slots after which no cell is to come and none waits, and from there on the slots send
 -- nothing. A switch without limits is one with limits that refuses nothing, so its run ends where that one's does.
-use Rattle.cq_ideal.proofs.Terms.{rules, ◌≡◌, ℕ, ◌+◌, ◌-◌, ◌<◌, ◌≤◌, Bool, true, false, List, [], ◌++◌, length, Option, Result, Ok, Err, refl, sym, ap, ◌∙◌, subst, arith, common_steps, flat_map-append, IsOkAnd, position_or_len, range_with_len, cases_lt, append-nil, get_or-range_with_len, length-range_with_len, fails_before_first, passes_at_first, prefix_len-le-length, Arrival, Cell, end_of, enough, traffic_of, TagFault, Machine, Marked, NoLimits, marked, marks_down, IdealEnds, arriving_from, first_slots, is_over, slots_of_run, whole_ideal_run, IsEmptyIdeal, Ran, departures_of, departures_ran, empty_ideal, ideal_run, IdealState, LimitedIdealEnds, departures_limited, slots_of_limited_run, whole_limited_run, LimitedRan, empty_limited, limited_run, unlimited, refused_in, and_from, le-leb, list_all-from_AllPass, eq-eqb}
+use Rattle.cq_ideal.proofs.Terms.{rules, ◌≡◌, ℕ, ◌+◌, ◌-◌, ◌<◌, ◌≤◌, Bool, true, false, List, [], ◌++◌, length, Option, Result, Ok, Err, refl, sym, ap, ◌∙◌, arith, common_steps, flat_map-append, IsOkAnd, position_or_len, range_with_len, cases_lt, append-nil, get_or-range_with_len, length-range_with_len, fails_before_first, passes_at_first, prefix_len-le-length, Arrival, Cell, end_of, enough, traffic_of, TagFault, Machine, Marked, NoLimits, marked, marks_down, IdealEnds, arriving_from, first_slots, is_over, slots_of_run, whole_ideal_run, IsEmptyIdeal, Ran, departures_of, departures_ran, empty_ideal, ideal_run, IdealState, LimitedIdealEnds, departures_limited, slots_of_limited_run, whole_limited_run, LimitedRan, empty_limited, limited_run, unlimited, refused_in, and_from, le-leb, list_all-from_AllPass, eq-eqb}
 use Rattle.cq_ideal.proofs.Parted.{all_slots, none_waits, over_from_test, arriving_length, arriving_parts, departures_append, sends_long}
 use Rattle.cq_ideal.proofs.EnoughSlots.{no_more, limited_empty_at_end}
 use Rattle.cq_ideal.proofs.LimitedParts.{limited_going_on, limited_parts, limited_stays_empty}
@@ -107,8 +107,7 @@ module _ (limits : List (Option ℕ)) (ms : List Machine) (ports : ℕ) (ranks :
   more n k m ran e is le empty =
       let quiet = limited_stays_empty limits ms came k n ran.after le (none_waits ran.after.state.lists empty) in
       let many = gone_long limits ms 0 (first_slots came n) _ ran is ∙ arriving_length came 0 n in
-      let nothing = append-nil (departures_of 0 ran.gone) in
-      search (arith, rules, goes_on n k m, departures_append, nothing, flat_map-append, append-nil)
+      search (arith, rules, goes_on n k m, departures_append, append-nil (departures_of 0 ran.gone), flat_map-append)
 
   pub limited_found_end : (n : ℕ) (end : Marked IdealState) →
       LimitedIdealEnds limits ms came (empty_limited ports ranks) n end → last ≡ n
@@ -182,15 +181,6 @@ module _ (ms : List Machine) (ports : ℕ) (ranks : List (List ℕ)) (came : Lis
       IsOkAnd (plain_run n) (λ ran. ran.after ≡ s.state)
   plain_after n s e = grind (arith, common_steps, its_runs n)
 
-  plain_ends : (n : ℕ) (end : Marked IdealState) → LimitedIdealEnds [] ms came (empty_limited ports ranks) n end →
-      IdealEnds ms came (empty_ideal ports ranks) n end.state
-  plain_ends n end y = record {
-    after = plain_after n end y.after;
-    all_came = y.all_came;
-    empty = y.empty;
-    first = λ m s. search (arith, rules, refusing_none m (plain_run m), y.first m (marked (marks_down ports) s));
-  }
-
   its_ends : (n : ℕ) (end : IdealState) → IdealEnds ms came (empty_ideal ports ranks) n end →
       LimitedIdealEnds [] ms came (empty_limited ports ranks) n (marked (marks_down ports) end)
   its_ends n end y = record {
@@ -211,8 +201,16 @@ module _ (ms : List Machine) (ports : ℕ) (ranks : List (List ℕ)) (came : Lis
 
   pub ends : (ran : Ran) → whole_ideal_run ms came (empty_ideal ports ranks) ≡ Ok ran →
       IdealEnds ms came (empty_ideal ports ranks) (slots_of_run ms came (empty_ideal ports ranks)) ran.after
-  ends ran is = subst (λ (n : ℕ). IdealEnds ms came (empty_ideal ports ranks) n ran.after)
-      (slots_as_before [] ms ports ranks came no_limit) (search (arith, rules, plain_ends, limited_ends, whole_as))
+  unfolding whole_ideal_run
+  ends ran is =
+      let same = slots_as_before [] ms ports ranks came no_limit in
+      let y = limited_ends [] ms ports ranks came _ (whole_as ran is) in
+      record {
+        after = search (arith, rules);
+        all_came = rw same at y.all_came;
+        empty = y.empty;
+        first = λ m s. search (rules, same, refusing_none m (plain_run m), y.first m (marked (marks_down ports) s));
+      }
 
   pub found_end : (n : ℕ) (end : IdealState) → IdealEnds ms came (empty_ideal ports ranks) n end →
       slots_of_run ms came (empty_ideal ports ranks) ≡ n

@@ -72,10 +72,8 @@ module _ (ms : List Machine) (ports : ℕ) (came : List Arrival) (all : AllByRec
       let run = ap (λ l. ideal_run ms slot l s) (sym (arriving_here came slot n)) ∙ is in
       let p = first_slot ms slot (arriving came slot) (arriving_from came (slot + 1) n) s ran run in
       let count = counted ms slot (arriving came slot) s p.sent p.ran_slot in
-      let later = departs_at_end n (k - 1) (slot + 1) p.sent.after p.second in
-      ⊎_elim (λ (some : 0 < k). search (arith, rules, later, slots_of-append))
-      (λ (now : k ≤ 0).
-      let c = comes ms ports came slot all (omega arith) in
+      ⊎_elim (λ some. search (arith, rules, departs_at_end n (k - 1) (slot + 1) p.sent.after p.second, slots_of-append))
+      (λ now. let c = comes ms ports came slot all (omega arith) in
       search (arith, rules, one_departs ms slot c.cell.output, counted_in ports came slot c)) (cases_lt 0 k)
 
 pub last_departs : (ms : List Machine) (ports : ℕ) (ranks : List (List ℕ)) (came : List Arrival) →

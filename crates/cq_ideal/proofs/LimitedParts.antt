@@ -1,7 +1,7 @@
 -- Runs with limits, in parts: the first slots of one, and the run that goes on where they end. Once no cell is to
 -- come and none waits, it sends nothing, and refuses nothing.
 use Rattle.cq_ideal.proofs.Terms.{◌≡◌, ℕ, ◌+◌, ◌≤◌, Bool, List, [], ◌∷◌, ◌++◌, length, replicate, Option, Result, Ok, Err, refl, arith, zero, suc, None, no_arrivals, Arrival, end_of, Cell, Queued, TagFault, Machine, Admission, Marked, marked, nothing_refused, arriving_from, departures_of, empty_ideal, IdealState, departures_from, departures_in, LimitedRan, limited_run, nothing_came, refused_in, common_steps, rules}
-use Rattle.cq_ideal.proofs.LimitedRuns.{goes_on, rest_refuses_none}
+use Rattle.cq_ideal.proofs.LimitedRuns.{rest_refuses_none}
 use Rattle.cq_ideal.proofs.Resting.{all_empty, idle_run}
 use Rattle.cq_ideal.proofs.Parted.{nothing_left, quiet_from}
 use Rattle.cq_ideal.proofs.Waiting.{waiting}
@@ -36,7 +36,7 @@ module _ (limits : List (Option ℕ)) (ms : List Machine) where
   pub limited_parts : (slot n : ℕ) (before after : List (List (Option Cell))) (s : Marked IdealState) →
       n ≡ slot + length before →
       limited_run limits ms slot (before ++ after) s ≡ limited_going_on n after (limited_run limits ms slot before s)
-  unfolding limited_run goes_on
+  unfolding limited_run
   limited_parts slot n [] after s e = grind (arith, common_steps)
   limited_parts slot n (cells ∷ before) after s e =
       grind (arith, common_steps, limited_parts (slot + 1) n before after)

@@ -1,7 +1,7 @@
 -- A run with limits is the run without limits of the admitted arrivals: both step through the same slots, and end at
 -- the same fault. Where no output has a limit all arrivals are admitted, so it is the run without limits of all
 -- arrivals.
-use Rattle.cq_ideal.proofs.Terms.{common_steps, rules, arith, ◌≡◌, ℕ, ◌+◌, Bool, List, [], ◌∷◌, map, replicate, Option, Result, Ok, Err, refl, ap, AllByRecursion, Cell, no_arrivals, TagFault, Machine, Marked, NoLimits, RefusesNone, admitted_in, marked, marks_down, nothing_refused, IdealState, Ran, ideal_run, nothing_sent, LimitedSent, LimitedRan, limited_slot, then_limited, in_front, limited_run, nothing_came, admitted_traffic, unlimited, AreJudged, All-replicate, all_from_has, recursion_from_All}
+use Rattle.cq_ideal.proofs.Terms.{common_steps, rules, arith, ◌≡◌, ℕ, ◌+◌, Bool, List, [], ◌∷◌, map, replicate, Option, Result, Ok, Err, refl, AllByRecursion, Cell, no_arrivals, TagFault, Machine, Marked, NoLimits, RefusesNone, admitted_in, marked, marks_down, nothing_refused, IdealState, Ran, ideal_run, nothing_sent, LimitedSent, LimitedRan, limited_slot, in_front, limited_run, nothing_came, admitted_traffic, unlimited, AreJudged, All-replicate, all_from_has, recursion_from_All}
 use Rattle.cq_ideal.proofs.Changed.{map-replicate}
 use Rattle.cq_ideal.proofs.Admitted.{no_arrivals_refuse_none, no_limits_refuse_none}
 
@@ -15,70 +15,53 @@ none_refused_ran marks traffic (Ok ran) = Ok (as_limited marks traffic ran)
 none_refused_ran marks traffic (Err fault) = Err fault
 
 module _ (limits : List (Option ℕ)) (ms : List Machine) where
-  unfoldable pub goes_on : ℕ → List (List (Option Cell)) → Result LimitedSent TagFault → Result LimitedRan TagFault
-  goes_on slot traffic x =
-      elim x [
-        | Ok sent ↦ then_limited sent (limited_run limits ms (slot + 1) traffic sent.after)
-        | Err fault ↦ Err fault
-      ]
-
-  admitted_later : ℕ → List (List (Option Cell)) → Result LimitedSent TagFault → List (List (Option Cell))
-  admitted_later slot traffic x =
-      elim x [ Ok sent ↦ admitted_traffic limits ms (slot + 1) traffic sent.after | Err fault ↦ [] ]
-
   pub run_of_admitted : (slot : ℕ) (traffic : List (List (Option Cell))) (old : Marked IdealState) →
       unlimited (limited_run limits ms slot traffic old) ≡ ideal_run ms slot
       (admitted_traffic limits ms slot traffic old) old.state
-  unfolding limited_run admitted_traffic limited_slot ideal_run goes_on admitted_later
+  unfolding limited_run admitted_traffic limited_slot ideal_run
   run_of_admitted slot [] old = refl
   run_of_admitted slot (cells ∷ traffic) old = search (arith, rules, run_of_admitted (slot + 1) traffic)
 
   -- ## One slot of a run
 
   module _ (slot : ℕ) (cells : List (Option Cell)) (traffic : List (List (Option Cell))) (old : Marked IdealState) where
-    pub run_step : (sent : LimitedSent) → limited_slot limits ms slot cells old ≡ Ok sent →
-        limited_run limits ms slot (cells ∷ traffic) old ≡ then_limited sent
-        (limited_run limits ms (slot + 1) traffic sent.after)
-    unfolding limited_run goes_on
-    run_step sent is = ap (goes_on slot traffic) is
-
     pub run_fault : (fault : TagFault) → limited_slot limits ms slot cells old ≡ Err fault →
         limited_run limits ms slot (cells ∷ traffic) old ≡ Err fault
-    unfolding limited_run goes_on
-    run_fault fault is = ap (goes_on slot traffic) is
+    unfolding limited_run
+    run_fault fault is = grind (arith, common_steps)
 
     pub admitted_step : (sent : LimitedSent) → limited_slot limits ms slot cells old ≡ Ok sent →
         admitted_traffic limits ms slot (cells ∷ traffic) old ≡ sent.admission.cells ∷ admitted_traffic limits ms
         (slot + 1) traffic sent.after
-    unfolding admitted_traffic admitted_later limited_slot
+    unfolding admitted_traffic limited_slot
     admitted_step sent is = grind (arith, common_steps)
 
   -- ## A run that ends without a fault
 
-  slot_ok : (P : LimitedRan → Type 0) (slot : ℕ) (traffic : List (List (Option Cell)))
-      (x : Result LimitedSent TagFault) (ran : LimitedRan) → goes_on slot traffic x ≡ Ok ran →
-      ((sent : LimitedSent) (rest : LimitedRan) → x ≡ Ok sent →
-      limited_run limits ms (slot + 1) traffic sent.after ≡ Ok rest → P (in_front sent rest)) → P ran
-  unfolding goes_on
-  slot_ok P slot traffic fault ran h f = grind (arith, common_steps)
+  -- its first slot, and the run behind it
+  first : (slot : ℕ) (cells : List (Option Cell)) (traffic : List (List (Option Cell))) (old : Marked IdealState)
+      (ran : LimitedRan) → limited_run limits ms slot (cells ∷ traffic) old ≡ Ok ran →
+      (sent : LimitedSent) × (rest : LimitedRan) × (limited_slot limits ms slot cells old ≡ Ok sent)
+      × (limited_run limits ms (slot + 1) traffic sent.after ≡ Ok rest) × (ran ≡ in_front sent rest)
+  unfolding limited_run
+  first slot cells traffic old ran h = grind (arith, common_steps)
 
   -- each slot was judged
   pub judged : (slot : ℕ) (traffic : List (List (Option Cell))) (old : Marked IdealState) (ran : LimitedRan) →
       limited_run limits ms slot traffic old ≡ Ok ran → AreJudged limits old.marks traffic ran.admissions
-  unfolding limited_run goes_on limited_slot
+  unfolding limited_run limited_slot
   judged slot [] old ran h = grind (arith, common_steps)
-  judged slot (cells ∷ traffic) old ran h = slot_ok (λ y. AreJudged limits old.marks (cells ∷ traffic) y.admissions)
-      slot traffic (limited_slot limits ms slot cells old) ran h (λ sent rest is more.
-      search (arith, rules, judged (slot + 1) traffic sent.after rest more))
+  judged slot (cells ∷ traffic) old ran h =
+      let p = first slot cells traffic old ran h in
+      search (arith, rules, p, judged (slot + 1) traffic p.0.after p.1 p.3)
 
   -- what was admitted is what its admissions say
   pub admitted_are : (slot : ℕ) (traffic : List (List (Option Cell))) (old : Marked IdealState) (ran : LimitedRan) →
       limited_run limits ms slot traffic old ≡ Ok ran →
       admitted_traffic limits ms slot traffic old ≡ admitted_in ran.admissions
-  unfolding limited_run goes_on admitted_traffic
+  unfolding limited_run admitted_traffic limited_slot
   admitted_are slot [] old ran h = grind (arith, common_steps)
-  admitted_are slot (cells ∷ traffic) old ran h =
-      grind (arith, common_steps, slot_ok, admitted_step, admitted_are (slot + 1) traffic)
+  admitted_are slot (cells ∷ traffic) old ran h = search (arith, rules, admitted_are (slot + 1) traffic)
 
   -- so it is the run without limits of these
   pub is_run_of : (slot : ℕ) (traffic : List (List (Option Cell))) (old : Marked IdealState) (ran : LimitedRan) →
@@ -94,7 +77,7 @@ module _ (limits : List (Option ℕ)) (ms : List Machine) where
         AllByRecursion (RefusesNone limits marks) traffic →
         limited_run limits ms slot traffic (marked marks s)
         ≡ none_refused_ran marks traffic (ideal_run ms slot traffic s)
-    unfolding limited_run ideal_run goes_on limited_slot
+    unfolding limited_run ideal_run limited_slot
     run_of_none slot [] s none = refl
     run_of_none slot (cells ∷ traffic) s none = search (arith, rules, run_of_none (slot + 1) traffic)
 

@@ -22,7 +22,7 @@ pub use Rattle.cq_ideal.specs.IdealSlot.{IdealState, Sent, departures_from, fron
 unfoldable pub use Rattle.cq_ideal.specs.IdealSlot.{all_told, departures_in, filled, ideal_slot, idled}
 pub use Rattle.cq_ideal.specs.LimitedEnding.{LimitedIdealEnds, departures_limited}
 unfoldable pub use Rattle.cq_ideal.specs.LimitedEnding.{slots_of_limited_run, whole_limited_run}
-pub use Rattle.cq_ideal.specs.LimitedIdeal.{LimitedRan, LimitedSent, empty_limited, in_front, nothing_came, then_limited, unlimited, with_admission}
+pub use Rattle.cq_ideal.specs.LimitedIdeal.{LimitedRan, LimitedSent, empty_limited, in_front, nothing_came, unlimited, with_admission}
 unfoldable pub use Rattle.cq_ideal.specs.LimitedIdeal.{admitted_traffic, limited_run, limited_slot}
 pub use Rattle.cq_ideal.specs.Limiter.{CanCount, ComeToPorts, HasPorts, HoldsLists, JudgesAsBefore, LimiterView, held_without, where_up}
 pub use Rattle.cq_ideal.specs.Parts.{AllArrivedBefore, AreParts, AreTold, AreWithinRooms, CameToPorts, CanPut, FirstsHaveLeft, FitTogether, HaveOwnKeys, HaveRoomFor, IsWithin, QueueView, QueuesView, RanksView, after_inputs, count_to, given_at, level_at, list_at, rank_at, state_of, with_came, with_cell}
