@@ -1,11 +1,11 @@
 -- Both switches act alike, with limits and without: with stable matchings, and so with input-best ones. From empty
 -- states on they refuse as much at each output, since their admissions are the same.
-use Rattle.cq_laws.proofs.Terms.{arith, rules, ℕ, List, Option, AllByRecursion, Cell, Machine, Marked, AreForPorts, IsInputBest, IsStable, ActAlikeFromEmptyWithoutLimits, ActAlikeWithoutLimits, Fabric, LimitedFabricRun, LimitedRecord, empty_limited_fabric, empty_limited, ActAlike, ActAlikeFromEmpty, LimitedRunsAlike}
+use Rattle.cq_laws.proofs.Terms.{arith, rules, ℕ, List, Option, Machine, IsInputBest, IsStable, ActAlikeFromEmptyWithoutLimits, ActAlikeWithoutLimits, ActAlike, ActAlikeFromEmpty}
 use Rattle.cq_laws.proofs.InputBest.{stable_too, stable_limited_too}
 use Rattle.cq_laws.proofs.LimitedSlots.{same_limited_slot, same_limited_fault}
-use Rattle.cq_laws.proofs.LimitedWhole.{begin, same_limited_run, same_limited_stop, limited_empty_agree, limited_run_slack}
+use Rattle.cq_laws.proofs.LimitedWhole.{begin, limited_beside, same_limited_run, same_limited_stop, limited_empty_agree, limited_run_slack}
 use Rattle.cq_laws.proofs.OneSlot.{same_slot, same_fault}
-use Rattle.cq_laws.proofs.WholeRuns.{empty_agree, same_run, same_stop, traffic_for_empty, run_slack}
+use Rattle.cq_laws.proofs.WholeRuns.{empty_agree, run_beside, same_run, same_stop, traffic_for_empty, run_slack}
 
 module _ (limits : List (Option ℕ)) (ms : List Machine) where
   pub stable_act_alike : ActAlike IsStable limits ms
@@ -21,20 +21,17 @@ module _ (limits : List (Option ℕ)) (ms : List Machine) where
   best_act_alike =
       let also = stable_limited_too ms limits in search (rules, stable_act_alike, also.slot, also.run, also.stop)
 
-  runs_from_empty : (ports class_count : ℕ) (ranks : List (List ℕ)) (traffic : List (List (Option Cell)))
-      (rs : List LimitedRecord) (g : Marked Fabric) → AllByRecursion (AreForPorts ports class_count) traffic →
-      LimitedFabricRun IsInputBest limits ms 0 traffic (empty_limited_fabric ports ranks) rs g →
-      LimitedRunsAlike limits ms 0 traffic (empty_limited ports ranks) rs g
-  runs_from_empty ports class_count ranks traffic rs g come run =
-      search (arith, rules, best_act_alike.run, begin limits ms class_count ports ranks traffic come)
-
   pub best_act_alike_from_empty : ActAlikeFromEmpty IsInputBest limits ms
   best_act_alike_from_empty =
+      let stable = (stable_limited_too ms limits).run 0 in
       record {
-        run = runs_from_empty;
+        run = λ ports class_count ranks traffic rs g come run.
+            limited_beside limits ms ports class_count ranks traffic rs g come (stable traffic _ g rs run);
         stop = λ ports class_count ranks traffic rs fault come run.
             search (arith, rules, best_act_alike.stop, begin limits ms class_count ports ranks traffic come);
-        refused = search (arith, rules, runs_from_empty);
+        refused = λ ports class_count ranks traffic rs g ran come run.
+            let alike = limited_beside limits ms ports class_count ranks traffic rs g come (stable _ _ g rs run) in
+            search (arith, rules, alike);
       }
 
 -- ## Without limits
@@ -51,8 +48,8 @@ module _ (ms : List Machine) where
   best_alike_from_empty_without_limits =
       let alike = best_alike_without_limits in
       record {
-        run = λ ports class_count ranks traffic rs g come. alike.run 0 class_count traffic _ g _ rs
-            (empty_agree ports ranks) (traffic_for_empty ports ranks class_count traffic come);
+        run = λ ports class_count ranks traffic rs g come run.
+            run_beside ports ranks ms class_count traffic rs g come ((stable_too ms).run 0 traffic _ g rs run);
         stop = λ ports class_count ranks traffic rs fault come. alike.stop 0 class_count traffic _ _ rs fault
             (empty_agree ports ranks) (traffic_for_empty ports ranks class_count traffic come);
       }

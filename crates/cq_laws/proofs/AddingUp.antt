@@ -5,10 +5,6 @@ use Rattle.cq_laws.proofs.Terms.{common_steps, rules, ◌≡◌, ℕ, zero, suc,
 
 -- ## Lists with one part more
 
-pub fold-max : (a : ℕ) (xs : List ℕ) → fold max a xs ≡ max a (fold max 0 xs)
-fold-max a [] = omega arith
-fold-max a (x ∷ xs) = grind (arith, common_steps, fold-max (max a x) xs, fold-max (max 0 x) xs)
-
 module _ (f : ℕ → ℕ → ℕ) (assoc : (a b c : ℕ) → f (f a b) c ≡ f a (f b c)) where
   fold-front : (a b : ℕ) (xs : List ℕ) → fold f (f a b) xs ≡ f a (fold f b xs)
   fold-front a b [] = refl
@@ -17,6 +13,9 @@ module _ (f : ℕ → ℕ → ℕ) (assoc : (a b c : ℕ) → f (f a b) c ≡ f 
   pub reduce-append : (xs ys : List ℕ) → reduce f (xs ++ ys) ≡ either_by f (reduce f xs) (reduce f ys)
   reduce-append [] ys = refl
   reduce-append (x ∷ xs) ys = grind (arith, common_steps, append-nil, fold-append, fold-front)
+
+pub fold-max : (a : ℕ) (xs : List ℕ) → fold max a xs ≡ max a (fold max 0 xs)
+fold-max a xs = grind (arith, common_steps, fold-front max (λ x y z. omega arith) a 0 xs)
 
 -- a list by index, changed at each index
 map-enumerate : {X : Type 0} (f new : ℕ → X) (g : ℕ → X → X) → ((i : ℕ) → new i ≡ g i (f i)) → (n k : ℕ) →

@@ -15,7 +15,7 @@
 -- no more: so no key is twice, and the cells for each output stay the same.
 use Rattle.cq_laws.proofs.Terms.{rules, ◌≡◌, ◌≢◌, ℕ, suc, ◌+◌, ◌<◌, ◌≤◌, ◌⊎◌, ◌↔◌, List, Option, Some, None, refl, sym, ap, ◌∙◌, inl, inr, ⊎_elim, arith, common_steps, slice_get, eq-eqb, same_Some, cushion_of, Queued, Fabric, input, buffer, IsAmong, IsFabric, ListsKeepOrder, Transfers, EachRises, HasSlack, put, KeepsOrder, is_for, first_for, place_for, without_first, key_laws, first_le, each_pair_left, IsListed, place_in, outputs_of, partner_of, depth, HasBetterInput, IsOutputOrder, AreOrdersOf, orders_of, list_taken, HasFor, IsMostUrgentFor, has_there, stands_at, Partners, IsStable, zero, [], ◌∷◌, cases_lt, cases_eq, eqb-true, IsBefore, each_pair_at, length, Key, Cell, Machine, came_to, list_arrived, Arrives, keeps_order_arrival, all_from_has, drop, Departs, rests, list_of, ArrivesWithSlack, Falls, EachFalls, EachArrivesOrFalls, length-map, IsRising, take-append-drop, has_right}
 use Rattle.cq_laws.proofs.Sound.{from_first, first_at, first_of, left_at, left_or_first, among_put, rising_put, was_waiting, same_cell, Apart, Sound, one_in_order, orders_are, among_insert, insert_has, inserted_at}
-use Rattle.cq_laws.proofs.Cushions.{cushion_grows, cushion_grows_by_one, cushion_has, cushion_rises, cushion_cons}
+use Rattle.cq_laws.proofs.Cushions.{bit_true, cushion_cons, cushion_has, cushion_put, cushion_rises}
 
 module _ (ms : List Machine) (slot : ℕ) (cells : List (Option Cell)) (came : List (Option Queued)) (old new : Fabric)
     (arrive : Arrives ms slot cells came old new) where
@@ -76,8 +76,7 @@ module _ (ms : List Machine) (slot : ℕ) (cells : List (Option Cell)) (came : L
     arrived_has j c = search (arith, rules, among_insert, insert_has)
 
 pub rising_rest : (xs : List Queued) → IsRising xs → IsRising (drop 1 xs)
-rising_rest [] r = tt
-rising_rest (x ∷ xs) r = r.1
+rising_rest xs r = grind (arith, common_steps)
 
 module _ (ms : List Machine) (gone : List (Option Queued)) (slot : ℕ) (old new : Fabric)
     (depart : Departs ms gone old new) where
@@ -164,7 +163,7 @@ module _ (old new : Fabric) (m : Partners) (fabric : IsFabric old) (order : List
       let is = moves.moves.given better.0 j d.0 better.1 d.1 in
       let f = first_of (is_for j) (input old i) c (has_there (input old i) s c at) (eq-eqb j j refl) in
       let before = (are.inputs j (fabric.outputs i c (has_there (input old i) s c at))).by_key better.0 i d.0 f.0 in
-      search (arith, rules, before, first_least j (input old i) s c f.0 (order i) at, key_laws.on, cushion_grows_by_one)
+      search (arith, rules, before, first_least j (input old i) s c f.0 (order i), key_laws.on, cushion_put, bit_true)
 
   pub matching_rises : EachRises 1 old new
   matching_rises i t c at =
@@ -175,7 +174,7 @@ module _ (old new : Fabric) (m : Partners) (fabric : IsFabric old) (order : List
       let first = first_of (is_for j) xs c (has_there xs st.place c st.at) (eq-eqb j j refl) in
       let offered = ((are.outputs i).offered j).1 first in
       let better = better_ahead (outputs_of (orders_of old.inputs) i) xs (partner_of m i) j (are.outputs i) offered in
-      search (arith, rules, is_partner, cushion_gained i st.place c st.at, same_or_got, cushion_grows)
+      search (arith, rules, is_partner, cushion_gained i st.place c st.at, same_or_got, cushion_put)
 
   pub slack_risen : (n : ℕ) → HasSlack n old → HasSlack (1 + n) new
   slack_risen n slack i t c at = grind (arith, common_steps, matching_rises i t c at)
@@ -189,9 +188,9 @@ module _ (old new : Fabric) (m : Partners) (fabric : IsFabric old) (order : List
 
   pub has_after : (j : ℕ) (c : Queued) → HasFor old j c → HasFor new j c
   has_after j c (inr b) = grind (arith, common_steps, same_or_got j, among_put)
-  has_after j c (inl w) = ⊎_elim (λ l. inl (w.0, rw moves.moves.taken l, w.2)) (λ r.
-      search (arith, rules, from_first r.0 (input old w.0) c r.2, among_put c c (buffer old r.0)))
-      (left_or_taken (partner_of m w.0) (input old w.0) c w.1)
+  has_after j c (inl w) =
+      let left = left_or_taken (partner_of m w.0) (input old w.0) c w.1 in
+      grind (arith, common_steps, left, moves.moves.taken w.0, moves.moves.given w.0 j c, from_first, among_put)
 
   pub has_before : (j : ℕ) (c : Queued) → HasFor new j c → HasFor old j c
   has_before j c h = ⊎_elim (λ w. inl (w.0, was_waiting moves.moves w.0 c w.1, w.2)) (λ b. ⊎_elim (λ k. inr k)

@@ -22,13 +22,6 @@ pub cushion_put : (k : Key) (c : Queued) (xs : List Queued) →
 cushion_put k c [] = cushion_cons k c []
 cushion_put k c (x ∷ xs) = grind (arith, common_steps, cond_both, cushion_cons, cushion_put k c xs)
 
-pub cushion_grows : (k : Key) (c : Queued) (xs : List Queued) → cushion k xs ≤ cushion k (put c xs)
-cushion_grows k c xs = omega (arith, cushion_put k c xs)
-
-pub cushion_grows_by_one : (k : Key) (c : Queued) (xs : List Queued) → is_before c.key k ≡ true →
-    cushion k (put c xs) ≡ 1 + cushion k xs
-cushion_grows_by_one k c xs e = omega (arith, cushion_put k c xs, bit_true (is_before c.key k) e)
-
 -- a cushion that is not 0 has a cell
 pub cushion_has : (k : Key) (xs : List Queued) → 0 < cushion k xs →
     (x : Queued) × IsAmong x xs × (is_before x.key k ≡ true)

@@ -9,38 +9,28 @@ use Rattle.cq_laws.proofs.InputBest.{stable_too}
 use Rattle.cq_laws.proofs.Parted.{departures_on, transfers_both, ends_with, Reach, fewer_fit, reach, run_length, run_of_whole}
 use Rattle.cq_laws.proofs.OneRun.{only_run}
 use Rattle.cq_laws.proofs.QuietSlots.{adds_nothing, empty_is, quiet_run}
-use Rattle.cq_laws.proofs.WholeRuns.{empty_agree, empty_together, same_run, same_stop, traffic_for_empty}
+use Rattle.cq_laws.proofs.WholeRuns.{empty_agree, empty_together, run_beside, same_stop, traffic_for_empty}
 
 -- ## The same end
 
 module _ (ms : List Machine) (ports class_count : ℕ) (ranks : List (List ℕ)) (came : List Arrival) where
-  -- each slot's arrivals are for the ports
-  abbrev Fit : ℕ → Type 0
-  Fit n = AllByRecursion (AreForPorts ports class_count) (first_slots came n)
+  pub end_alike : (rs : List SlotRecord) (g : Fabric) →
+      AllByRecursion (AreForPorts ports class_count) (first_slots came (length rs)) →
+      WholeRun IsStable ms came (empty_fabric ports ranks) rs g → EndsAlike ms came (empty_ideal ports ranks) rs g
+  unfolding whole_ideal_run
+  end_alike rs g fit w =
+      let start = empty_fabric ports ranks in
+      let beside = λ (m : ℕ). run_beside ports ranks ms class_count (first_slots came m) in
+      let b = beside (length rs) rs g fit (run_of_whole (FabricSlot IsStable ms) came start rs IsEmptyFabric g w) in
+      let ends = ends_with (FabricSlot IsStable ms) came start rs IsEmptyFabric
+      (IdealAfter ms came (empty_ideal ports ranks)) IsEmptyIdeal g b.after w (rw b.ran)
+      ((empty_together _ g b.after b.agrees).0 w.empty) (λ m u v lt late x at over.
+      let c = beside m _ v (fewer_fit (AreForPorts ports class_count) came m (length rs) (omega arith) fit) x in
+      grind (arith, common_steps, empty_together _ v c.after c.agrees)) in
+      let long = arriving_length came 0 (length rs) in search (arith, rules, found_end, ends)
 
-  -- beside a run over n slots the ideal switch runs
-  abbrev Beside : ℕ → List SlotRecord → Fabric → Type 0
-  Beside n rs f = RunsAlike ms 0 (first_slots came n) (empty_ideal ports ranks) rs f
-
-  beside : (n : ℕ) (rs : List SlotRecord) (f : Fabric) → Fit n →
-      FabricRun IsStable ms 0 (first_slots came n) (empty_fabric ports ranks) rs f → Beside n rs f
-  beside n rs f fit run = search (rules, same_run ms class_count, empty_agree, traffic_for_empty)
-
-  module _ (rs : List SlotRecord) (g : Fabric) (fit : Fit (length rs)) (w : WholeRun IsStable ms came
-      (empty_fabric ports ranks) rs g) where
-    pub end_alike : EndsAlike ms came (empty_ideal ports ranks) rs g
-    unfolding whole_ideal_run
-    end_alike =
-        let start = empty_fabric ports ranks in
-        let b = beside (length rs) rs g fit (run_of_whole (FabricSlot IsStable ms) came start rs IsEmptyFabric g w) in
-        let ends = ends_with (FabricSlot IsStable ms) came start rs IsEmptyFabric
-        (IdealAfter ms came (empty_ideal ports ranks)) IsEmptyIdeal g b.after w (rw b.ran)
-        ((empty_together _ g b.after b.agrees).0 w.empty) (λ m u v lt late x at over.
-        let c = beside m _ v (fewer_fit (AreForPorts ports class_count) came m (length rs) (omega arith) fit) x in
-        grind (arith, common_steps, empty_together _ v c.after c.agrees)) in
-        let long = arriving_length came 0 (length rs) in search (arith, rules, found_end, ends)
-
-  pub stop_alike : (n : ℕ) (rs : List SlotRecord) (fault : TagFault) → Fit n →
+  pub stop_alike : (n : ℕ) (rs : List SlotRecord) (fault : TagFault) →
+      AllByRecursion (AreForPorts ports class_count) (first_slots came n) →
       FabricStops IsStable ms 0 (first_slots came n) (empty_fabric ports ranks) rs fault →
       whole_ideal_run ms came (empty_ideal ports ranks) ≡ Err fault
   stop_alike n rs fault fit stop =
@@ -92,8 +82,8 @@ module _ (ms : List Machine) (ports class_count : ℕ) (ranks : List (List ℕ))
 
   fewer : (m : ℕ) (s : Fabric) (ss : List SlotRecord) → m ≤ enough came →
       FabricRun IsInputBest ms 0 (first_slots came m) (empty_fabric ports ranks) ss s →
-      Beside ms ports class_count ranks came m ss s
-  fewer m s ss le x = beside ms ports class_count ranks came m ss s (search (arith, rules, fewer_fit, all_slots))
+      RunsAlike ms 0 (first_slots came m) (empty_ideal ports ranks) ss s
+  fewer m s ss le x = run_beside ports ranks ms class_count _ ss s (search (arith, rules, fewer_fit, all_slots))
       ((stable_too ms).run 0 (first_slots came m) (empty_fabric ports ranks) s ss x)
 
   -- the end of the ideal switch

@@ -10,12 +10,11 @@ use Rattle.cq_laws.proofs.Sound.{from_first, Sound, firsts_differ}
 use Rattle.cq_laws.proofs.OneSlot.{sound_from}
 
 pub can_cross : (slot : ℕ) (f : Fabric) → Sound slot f → FirstsCanCross f
-can_cross slot f sound =
-    record {
-      differ = firsts_differ f sound.apart;
-      keys = λ i j c found. let among = (from_first j (input f i) c found).0 in
-          all_from_has _ (buffer f j) (λ d h same. sound.apart.between i j c d among h (sym same));
-    }
+can_cross slot f sound = record {
+  differ = firsts_differ f sound.apart;
+  keys = λ i j c found. all_from_has _ (buffer f j)
+      (λ d h same. sound.apart.between i j c d (from_first j (input f i) c found).0 h (sym same));
+}
 
 module _ (ms : List Machine) (slot class_count : ℕ) (cells : List (Option Cell)) (came : List (Option Queued))
     (f : Fabric) (ideal : IdealState) (agrees : Agrees slot f ideal)
@@ -26,13 +25,9 @@ module _ (ms : List Machine) (slot class_count : ℕ) (cells : List (Option Cell
   fits_list ranks ranked i c is =
       let keyed = keyed_from ms slot (length f.inputs) class_count cells f.ranks _ ranked come in
       let sound = sound_from slot f ideal agrees in
-      let arrival = (came_from ms slot 0 cells f.ranks _ ranked i c is).cell_is in
-      record {
-        inside = come.inputs i c.cell arrival;
-        output = keyed.outputs i c is;
-        other_key = all_from_has _ (input f i) (λ d h. grind (arith, sound.early.waiting i d h, keyed.slot_is i c is));
-        ahead = λ s d at out lt. search (arith, rules, cushion_rises d.key c.key (buffer f d.cell.output) lt);
-      }
+      let arrival = came_from ms slot 0 cells f.ranks _ ranked i c is in
+      let rises = λ (d : Queued). cushion_rises d.key c.key (buffer f d.cell.output) in
+      search (arith, rules, come.inputs i, keyed.outputs, all_from_has, sound.early.waiting, keyed.slot_is i c, rises)
 
   module _ (arrived : Fabric) (arrive : Arrives ms slot cells came f arrived) where
     sound_arrived : Sound (slot + 1) arrived

@@ -3,7 +3,7 @@
 -- of their keys, one after the other, each new one is before or behind every other, so the list rises, and it has the
 -- same members. So the lists made of the cells that the fabric has for each output rise and have these cells: that is
 -- agreement. And two lists that rise and have the same members are one list.
-use Rattle.cq_laws.proofs.Terms.{flat_map, common_steps, rules, ◌≡◌, ◌↔◌, ◌≢◌, ℕ, List, [], ◌∷◌, length, sym, ◌∙◌, ⊎_elim, arith, zero, suc, filter, cases_lt, eqb-true, eq-eqb, ext_get_or, get_or_past, get_or-map-range_with_len, length-map-range_with_len, Queued, IdealState, Agrees, Fabric, IsAmong, IsFabric, buffer, ListsKeepOrder, IsBefore, IsRising, KeysDiffer, KeepsOrder, is_for, list_of, IsSoundFabric, ideal_of, in_order, cells_for, HasFor, has_cases, has_left, has_right, has_kept, kept_has, all_of_has, none_had, all_from_has, same_pairs, pairs_joined, pairs_kept_with}
+use Rattle.cq_laws.proofs.Terms.{flat_map, common_steps, rules, ◌≡◌, ◌↔◌, ℕ, List, [], ◌∷◌, length, sym, ◌∙◌, ⊎_elim, arith, zero, suc, filter, cases_lt, eqb-true, eq-eqb, ext_get_or, get_or_past, get_or-map-range_with_len, length-map-range_with_len, Queued, IdealState, Agrees, Fabric, IsAmong, IsFabric, buffer, ListsKeepOrder, IsBefore, IsRising, KeysDiffer, KeepsOrder, is_for, list_of, IsSoundFabric, ideal_of, in_order, cells_for, HasFor, has_cases, has_left, has_right, has_kept, kept_has, all_of_has, none_had, all_from_has, same_pairs, pairs_joined, pairs_kept_with}
 use Rattle.cq_laws.proofs.Sound.{among_put, rising_put, apart_from, not_before_itself, Apart, never_both}
 
 -- ## Lists whose keys differ
@@ -58,8 +58,7 @@ among_in_order d (x ∷ xs) = grind (arith, common_steps, among_put d x (in_orde
 
 rising_in_order : (xs : List Queued) → KeysDiffer xs → IsRising (in_order xs)
 rising_in_order [] differ = tt
-rising_in_order (x ∷ xs) differ = rising_put x (in_order xs) (rising_in_order xs differ.1) (λ d h.
-    all_of_has (λ (y : Queued). x.key ≢ y.key) xs d differ.0 ((among_in_order d xs).0 h))
+rising_in_order (x ∷ xs) differ = search (rules, rising_put, rising_in_order xs, all_of_has, among_in_order)
 
 -- ## The ideal switch of these cells
 

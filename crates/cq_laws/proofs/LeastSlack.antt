@@ -13,7 +13,7 @@ use Rattle.cq_laws.proofs.WholeRuns.{empty_agree, no_place, traffic_for_empty}
 
 -- ## Least numbers
 
-least_bounds : (x : ℕ) (xs : List ℕ) (v : ℕ) → Has (x ∷ xs) v → fold min x xs ≤ v
+pub least_bounds : (x : ℕ) (xs : List ℕ) (v : ℕ) → Has (x ∷ xs) v → fold min x xs ≤ v
 least_bounds x [] v h = grind (arith, common_steps)
 least_bounds x (y ∷ ys) v h = grind (arith, least_bounds (min x y) ys v, least_bounds (min x y) ys (min x y) (inl refl))
 
@@ -153,8 +153,7 @@ module _ (ms : List Machine) (slot class_count : ℕ) (cells : List (Option Cell
         }
 
 reduce-cons : (o : Option ℕ) (xs : List ℕ) → reduce min (cons_option o xs) ≡ either_by min o (reduce min xs)
-reduce-cons None xs = refl
-reduce-cons (Some n) xs = reduce-append min (λ a b c. omega arith) (n ∷ []) xs
+reduce-cons o xs = grind (arith, common_steps, reduce-append min (λ a b c. omega arith) (cons_option o []) xs)
 
 module _ (ms : List Machine) (class_count : ℕ) where
   least_run : (slot : ℕ) (traffic : List (List (Option Cell))) (f g : Fabric) (ideal : IdealState)

@@ -1,7 +1,7 @@
 -- Whole runs with limits, slot by slot from states that agree, and the runs without limits that they are: those of
 -- the arrivals that the ideal switch admits, which are those that the fabric admits.
 use Rattle.cq_laws.proofs.Recorded.{recorded}
-use Rattle.cq_laws.proofs.Terms.{common_steps, rules, ◌≡◌, ℕ, ◌+◌, List, [], ◌∷◌, length, Option, Err, refl, arith, AllByRecursion, Cell, TagFault, Machine, IdealState, AreForPorts, Partners, IsStable, FabricRun, FabricStops, Fabric, LimitedRecord, LimitedFabricRun, LimitedFabricStops, admissions_in, slots_in, empty_limited_fabric, HasSlack, limited_run, admitted_traffic, empty_limited, run_step, run_fault, admitted_step, admitted_are, Orders, LimitedAgrees, LimitedRunsAlike, AreJudged, Marked, whole_packets}
+use Rattle.cq_laws.proofs.Terms.{common_steps, rules, ◌≡◌, ℕ, ◌+◌, List, [], ◌∷◌, length, Option, Err, refl, arith, AllByRecursion, Cell, TagFault, Machine, IdealState, AreForPorts, Partners, IsStable, FabricRun, FabricStops, Fabric, LimitedRecord, LimitedFabricRun, LimitedFabricStops, admissions_in, slots_in, empty_limited_fabric, HasSlack, limited_run, admitted_traffic, empty_limited, admitted_step, admitted_are, Orders, LimitedAgrees, LimitedRunsAlike, AreJudged, Marked, whole_packets}
 use Rattle.cq_laws.proofs.LimitedSlots.{same_admission, same_limited_fault, same_limited_slot, limited_ports_kept, limited_slack_arrived}
 use Rattle.cq_laws.proofs.WholeRuns.{empty_agree, traffic_for_empty}
 
@@ -28,13 +28,13 @@ module _ (limits : List (Option ℕ)) (ms : List Machine) (class_count : ℕ) wh
       (ideal : Marked IdealState) (rs : List LimitedRecord) (fault : TagFault) → Stands slot traffic f ideal →
       LimitedFabricStops IsStable limits ms slot traffic f rs fault →
       limited_run limits ms slot traffic ideal ≡ Err fault
+  unfolding limited_run
   same_limited_stop slot [] f ideal rs fault s run = absurd run
-  same_limited_stop slot (cells ∷ traffic) f ideal [] fault s run = run_fault limits ms slot cells traffic ideal fault
-      ((same_limited_fault limits ms slot cells f ideal fault s.agrees).1 run)
+  same_limited_stop slot (cells ∷ traffic) f ideal [] fault s run =
+      grind (arith, common_steps, same_limited_fault limits ms slot cells f ideal fault s.agrees)
   same_limited_stop slot (cells ∷ traffic) f ideal (r ∷ rs) fault s run =
       let one = same_limited_slot limits ms slot class_count cells f run.0 ideal r s.agrees s.come.0 run.1 in
-      let rest = same_limited_stop (slot + 1) traffic run.0 one.next rs fault in
-      search (arith, rules, run_step limits ms slot cells traffic ideal _ one.sent, limited_ports_kept, rest)
+      search (arith, rules, limited_ports_kept, same_limited_stop (slot + 1) traffic run.0 one.next rs fault)
 
   -- after the arrivals of each slot no input thread is greater than its cushion
   pub limited_run_slack : (slot : ℕ) (traffic : List (List (Option Cell))) (f g : Marked Fabric)
@@ -86,5 +86,14 @@ pub begin : (limits : List (Option ℕ)) (ms : List Machine) (class_count ports 
     (traffic : List (List (Option Cell))) → AllByRecursion (AreForPorts ports class_count) traffic →
     Stands limits ms class_count 0 traffic (empty_limited_fabric ports ranks) (empty_limited ports ranks)
 begin limits ms class_count ports ranks traffic come = search (rules, limited_empty_agree, traffic_for_empty)
+
+-- so over any slots the ideal switch runs beside
+pub limited_beside : (limits : List (Option ℕ)) (ms : List Machine) (ports class_count : ℕ) (ranks : List (List ℕ))
+    (traffic : List (List (Option Cell))) (rs : List LimitedRecord) (g : Marked Fabric) →
+    AllByRecursion (AreForPorts ports class_count) traffic →
+    LimitedFabricRun IsStable limits ms 0 traffic (empty_limited_fabric ports ranks) rs g →
+    LimitedRunsAlike limits ms 0 traffic (empty_limited ports ranks) rs g
+limited_beside limits ms ports class_count ranks traffic rs g come run =
+    search (arith, rules, same_limited_run limits ms class_count, begin limits ms class_count)
 
 pub ruleset admitted_steps = (recorded, run_through, stop_through, whole_packets, fabric_judged)

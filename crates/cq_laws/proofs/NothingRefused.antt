@@ -41,9 +41,8 @@ module _ (MayChoose : Orders → Partners → Type 0) (limits : List (Option ℕ
         LimitedFabricStops MayChoose limits ms slot traffic (marked marks f) rs fault →
         FabricStops MayChoose ms slot traffic f (slots_in rs) fault
     stop_without slot [] f rs fault none run = absurd run
-    stop_without slot (cells ∷ traffic) f [] fault none run = rw (none.0 (fabric_held f)) at run
-    stop_without slot (cells ∷ traffic) f (r ∷ rs) fault none run =
-        grind (arith, common_steps, stop_without (slot + 1) traffic run.0.state rs fault none.1)
+    stop_without slot (cells ∷ traffic) f rs fault none run =
+        grind (arith, common_steps, stop_without (slot + 1) traffic)
 
     -- ## Slots without arrivals
 

@@ -3,7 +3,7 @@
 -- buffer is after it, as does a departure. So each state of a slot is one, and by induction the states and records of
 -- a run.
 pub use Rattle.cq_prefs.proofs.InputOrder.{outputs_at}
-use Rattle.cq_laws.proofs.Terms.{common_steps, arith, rules, ◌≡◌, ℕ, List, [], ◌∷◌, Option, Some, refl, sym, ◌∙◌, ⊎_elim, ◌+◌, ext_get_or, Cell, Queued, TagFault, Machine, Marked, Fabric, Arrives, Transfers, Departs, SlotRecord, FabricSlot, IsFault, IsOneRun, LimitedRecord, LimitedFabricSlot, IsLimitedFault, fabric_admission, partner_of, HasCellFor, list_of, orders_of, RunBy, StopBy, is_output_order, one_input_best, Partners, IsStable, IsInputBest}
+use Rattle.cq_laws.proofs.Terms.{common_steps, arith, rules, ◌≡◌, ℕ, List, [], ◌∷◌, Option, Some, refl, sym, ◌∙◌, ⊎_elim, ◌+◌, ext_get_or, Cell, Queued, TagFault, Machine, Marked, Fabric, Arrives, Transfers, Departs, SlotRecord, FabricSlot, IsFault, IsOneRun, LimitedRecord, LimitedFabricSlot, IsLimitedFault, partner_of, HasCellFor, list_of, orders_of, RunBy, StopBy, is_output_order, one_input_best, Partners, IsStable, IsInputBest}
 use Rattle.cq_laws.proofs.AfterPhases.{sender}
 
 -- ## Where a state and what arrives leave no choice in a slot, they leave none in a run
@@ -106,8 +106,4 @@ module _ (ms : List Machine) where
     pub only_limited_run : IsOneRun (LimitedFabricSlot IsInputBest limits ms) (IsLimitedFault limits ms)
     only_limited_run =
         one_of_each (LimitedFabricSlot IsInputBest limits ms) (IsLimitedFault limits ms)
-        (record {
-          slot = one_limited_slot;
-          fault = λ slot cells f u v x y. no_choice.fault slot (fabric_admission limits cells f).cells f.state u v x y;
-          never_both = search (arith, rules);
-        })
+        (record { slot = one_limited_slot; fault = search (rules, no_choice.fault); never_both = search rules })

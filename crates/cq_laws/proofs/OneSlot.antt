@@ -2,7 +2,7 @@
 -- after the arrivals, 1 after the first transfer, 0 after the departures, and 1 again after the second transfer.
 -- After the first transfer each cell that still waits at an input has slack 1, so it comes after a cell that its
 -- output has: the ideal list covers the buffer, both send the same cell, and the states agree again.
-use Rattle.cq_laws.proofs.Terms.{rules, ◌≡◌, ℕ, ◌+◌, ◌↔◌, List, length, Option, Err, sym, ap, ◌∙◌, inl, inr, ⊎_elim, arith, drop, zero, suc, ◌⊎◌, [], ◌∷◌, refl, common_steps, Cell, Queued, TagFault, Machine, AreForPorts, IsStable, Fabric, input, buffer, IsAmong, HasSlack, SlotRecord, FabricSlot, Partners, Agrees, IsWholeFabric, ListsKeepOrder, EachIsWhole, Arrives, Transfers, Departs, Key, IsBefore, IsRising, put_all, filled, fronts, rests, all_told, ideal_slot, list_of, HasFor, SendsAlike, slice_get, length-map-range_with_len, length-filled, ranks_kept, all_of_has, stands_at, ranking, orders_of, IdealState, length-map}
+use Rattle.cq_laws.proofs.Terms.{rules, ◌≡◌, ℕ, ◌+◌, ◌↔◌, List, length, Option, Err, sym, ap, ◌∙◌, inl, inr, arith, drop, zero, suc, ◌⊎◌, [], ◌∷◌, refl, common_steps, Cell, Queued, TagFault, Machine, AreForPorts, IsStable, Fabric, input, buffer, IsAmong, HasSlack, SlotRecord, FabricSlot, Partners, Agrees, IsWholeFabric, ListsKeepOrder, EachIsWhole, Arrives, Transfers, Departs, IsBefore, IsRising, put_all, filled, fronts, rests, all_told, ideal_slot, list_of, HasFor, SendsAlike, slice_get, length-map-range_with_len, length-filled, ranks_kept, all_of_has, stands_at, ranking, orders_of, IdealState, length-map}
 use Rattle.cq_laws.proofs.Cushions.{cushion_has}
 use Rattle.cq_laws.proofs.AfterPhases.{rest_of, Keyed, arrived_sound, arrived_slack, arrived_has, arrived_fabric, sent_sound, sent_slack, sent_buffer, rising_rest, sent_fabric, Moved, moved, moved_fabric}
 use Rattle.cq_laws.proofs.Sound.{Sound, apart_from, early_from, differ_from, all_before, Apart, never_both, not_before_itself, same_first}
@@ -105,23 +105,20 @@ module _ (ms : List Machine) (slot class_count : ℕ) (cells : List (Option Cell
   full_is j = list_after r.came ideal.lists (λ k q e. rw agrees.ports (keyed.outputs k q e)) j
 
   full_rises : (j : ℕ) → IsRising (full j)
-  full_rises j = rw (full_is j) (rising_put_all j r.came (list_of ideal.lists j) (agrees.rising j) (λ k q d e h same.
-      let lt = ⊎_elim (λ w. old_sound.early.waiting w.0 d w.1) (old_sound.early.crossed j d) ((agrees.same j d).0 h) in
-      let slots = ap (λ (x : Key). x.slot) same in omega (arith, keyed.slot_is k q e))
+  full_rises j = rw (full_is j) (rising_put_all j r.came (list_of ideal.lists j) (agrees.rising j)
+      (λ k q d e h same. search (arith, rules, old_sound.early, agrees.same, keyed.slot_is k q e))
       (λ k l q s e e' same. cc (keyed.input_is k q e, keyed.input_is l s e')))
 
   follow : (j : ℕ) → Follows (WaitsFor r.filled.inputs j) (full j) (buffer r.filled j)
   follow j =
-      let came = list_of ideal.lists j in
       let has = arrived_has ms slot cells r.came f r.arrived step.arrive keyed old_sound agrees.slack in
       follows (WaitsFor r.filled.inputs j) (full j) (buffer r.filled j)
       (record {
         up = full_rises j;
         up' = first.sound.fabric.rising j;
-        to = λ c h. (first.has j c).1 ((has j c).1 (⊎_elim (λ was. inl ((agrees.same j c).0 was)) (λ new. inr new)
-            (among_put_all j r.came came c (rw (full_is j) at h))));
-        back = λ c h. rw (full_is j) (⊎_elim (λ was. put_all_keeps j r.came came c ((agrees.same j c).1 was))
-            (λ new. put_all_new j r.came came c new.0 new.1 new.2) ((has j c).0 ((first.has j c).0 h)));
+        to = λ c h. (first.has j c).1 ((has j c).1 (search (arith, rules, agrees.same j c, among_put_all, full_is j)));
+        back = λ c h. let had = (has j c).0 ((first.has j c).0 h) in
+            search (arith, rules, had, agrees.same j c, put_all_keeps, put_all_new, full_is j);
         behind = behind_one r.filled (first.slack 0 slack_arrived) j;
       })
 
@@ -152,12 +149,11 @@ module _ (ms : List Machine) (slot class_count : ℕ) (cells : List (Option Cell
   pub same_slot : SendsAlike ms slot cells ideal r.gone f'
   unfolding ideal_slot
   same_slot =
-      let sound = second.sound in
       let sent = first.slack 0 slack_arrived in
       let slack = second.slack 0 (sent_slack ms r.gone (slot + 1) r.filled r.sent step.depart 0 sent) in
       let ports = length-map lists (λ (xs : List Queued). drop 1 xs) ∙ as_many ∙ sym ports_kept in
       let agree : Agrees (slot + 1) f' after =
-      search (arith, rules, same_gone, rest_of, rising_rest, full_rises, after_same, differ_from, all_before) in
+      search (rules, same_gone, rest_of, rising_rest, full_rises, after_same, differ_from, all_before, second.sound) in
       search (arith, rules, after, same_gone)
 
 -- ## Each phase keeps a fabric, and that each output has one rank state

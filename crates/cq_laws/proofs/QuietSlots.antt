@@ -1,6 +1,6 @@
 -- Where no cell waits and none comes, nothing is offered: the matching of nobody is the only one, nothing moves, and
 -- no figure changes. Only the rank machines are told that their outputs were idle.
-use Rattle.cq_laws.proofs.Terms.{common_steps, rules, ◌≡◌, ℕ, zero, suc, ◌+◌, false, List, [], ◌∷◌, length, map, Option, None, refl, ap, arith, All, is_some, filter_map, replicate, enumerate_from, length-map, length-replicate, ext_get_or, sum_by-replicate, Queued, Figures, no_arrivals, Machine, Fabric, empty_fabric, IsEmptyFabric, Transfers, FabricSlot, FabricRun, InputFigures, departures_in, departures_of, idle_at, length-idle, nobody_sends, none_at, nothing_left, ranked_none, all_empty, ports, outputs_of, proposals, orders_of, transfers_of, transfers_in, transfers_of_run, slacks, proposals_in, input_after, output_after, figures_after, OutputFigures, most_ports, IdealState, IsInputBest, no_departures}
+use Rattle.cq_laws.proofs.Terms.{common_steps, rules, ◌≡◌, ℕ, zero, suc, ◌+◌, false, List, [], ◌∷◌, length, map, Option, None, refl, arith, All, is_some, filter_map, replicate, enumerate_from, length-map, length-replicate, ext_get_or, sum_by-replicate, Queued, Figures, no_arrivals, Machine, Fabric, empty_fabric, IsEmptyFabric, Transfers, FabricSlot, FabricRun, departures_in, departures_of, idle_at, length-idle, nobody_sends, none_at, nothing_left, ranked_none, all_empty, ports, outputs_of, proposals, orders_of, transfers_of, transfers_in, transfers_of_run, slacks, proposals_in, input_after, output_after, figures_after, most_ports, IsInputBest, no_departures}
 use Rattle.std.proofs.lemmas.List.Elements.{All-replicate}
 use Rattle.std.proofs.lemmas.List.Folds.{list_any_none}
 use Rattle.cq_laws.specs.Quiet.{idled, quiet_slot, quiet_slots, idled_for, AddNothing, KeepLaws}
@@ -56,31 +56,21 @@ same_by_place : {X : Type 0} (g : ℕ → X → X) → ((i : ℕ) (x : X) → g 
 same_by_place g same n [] = refl
 same_by_place g same n (x ∷ xs) = λ k. same n x k ∷ same_by_place g same (n + 1) xs k
 
-same_input : (ms : List Machine) (slot n : ℕ) (ranks : List (List ℕ)) (i : ℕ) (x : InputFigures) →
-    input_after (quiet_slot ms slot n ranks) i x ≡ x
-unfolding input_after quiet_slot slacks
-same_input ms slot n ranks i x =
-    grind (arith, common_steps, empty_list n i, none_at {X = Queued} most_ports i)
-
-same_output : (ms : List Machine) (slot n : ℕ) (ranks : List (List ℕ)) (j : ℕ) (x : OutputFigures) →
-    output_after (quiet_slot ms slot n ranks) j x ≡ x
-unfolding output_after quiet_slot
-same_output ms slot n ranks j x = grind (arith, common_steps, none_at)
-
 pub quiet_figures : (ms : List Machine) (slot n : ℕ) (ranks : List (List ℕ)) (x : Figures) →
     figures_after x (quiet_slot ms slot n ranks) ≡ x
-unfolding figures_after quiet_slot proposals_in
+unfolding figures_after quiet_slot proposals_in input_after output_after slacks
 quiet_figures ms slot n ranks x =
     let r = quiet_slot ms slot n ranks in
-    let outputs = same_by_place (output_after r) (same_output ms slot n ranks) 0 x.outputs in
     let none = list_any_none is_some _ (All-replicate (λ (o : Option Queued). is_some o ≡ false) n None refl) in
-    grind (arith, common_steps, none, none_proposed n, same_by_place (input_after r) (same_input ms slot n ranks) 0)
+    let inputs = same_by_place (input_after r)
+    (λ i x. grind (arith, common_steps, empty_list n i, none_at {X = Queued} most_ports i)) 0 x.inputs in
+    let outputs = same_by_place (output_after r) (λ j x. grind (arith, common_steps, none_at)) 0 x.outputs in
+    grind (arith, common_steps, none, none_proposed n, inputs, outputs)
 
 -- ## A fabric in which no cell waits
 
 all_none : (lists : List (List Queued)) → All (λ cells. cells ≡ []) lists → lists ≡ replicate (length lists) []
-all_none lists empty =
-    ap (λ (s : IdealState). s.lists) (all_empty (record { lists = lists; ranks = [] }) (length lists) empty refl)
+all_none lists empty = search (rules, all_empty (record { lists = lists; ranks = [] }) (length lists) empty)
 
 pub empty_is : (f : Fabric) → IsEmptyFabric f → length f.buffers ≡ length f.inputs →
     f ≡ empty_fabric (length f.inputs) f.ranks

@@ -63,8 +63,7 @@ left_or_first j (x ∷ xs) c h = grind (arith, common_steps, cond_both, left_or_
 
 -- what is left was there
 pub left_among : (j : ℕ) (xs : List Queued) (c : Queued) → IsAmong c (without_first j xs) → IsAmong c xs
-left_among j xs c h =
-    let r = stands_at (without_first j xs) c h in let s = left_at j xs r.0 c r.1 in has_there xs s.place c s.at
+left_among j xs c h = let r = stands_at (without_first j xs) c h in search (rules, has_there, left_at j xs r.0 c)
 
 -- so a cell that waits at an input after a transfer waited there
 pub was_waiting : {m : Partners} {lists lists' buffers buffers' : List (List Queued)} →
@@ -89,11 +88,10 @@ rising_put c xs r ne = put_rises c xs r (all_from_has _ xs (λ d h e. ne d h (sy
 pub inserted_at : (xs : List Queued) (p t : ℕ) (n c : Queued) → slice_get (insert xs p n) t ≡ Some c →
     ((t ≤ p) × (n ≡ c)) ⊎ ((s : ℕ) × (slice_get xs s ≡ Some c) × (t ≤ suc s))
 inserted_at xs zero (suc t) n c h = inr (t, h, omega arith)
-inserted_at [] (suc p) (suc t) n c h = cc
 inserted_at (x ∷ xs) (suc p) zero n c h = inr (zero, h, omega arith)
 inserted_at (x ∷ xs) (suc p) (suc t) n c h =
     ⊎_elim (λ k. inl (omega arith, k.1)) (λ k. inr (suc k.0, k.1, omega arith)) (inserted_at xs p t n c h)
-inserted_at xs p t n c h = inl (omega arith, cc)
+inserted_at xs p t n c h = grind (arith, common_steps)
 
 pub insert_has : (xs : List Queued) (p : ℕ) (n c : Queued) → (n ≡ c) ⊎ IsAmong c xs → IsAmong c (insert xs p n)
 insert_has xs p n c h = grind (arith, common_steps, has_left, has_right, has_cases (take p xs), take-append-drop p xs)

@@ -9,7 +9,7 @@ unfoldable pub use Rattle.cq_base.specs.Key.{is_before}
 pub use Rattle.cq_base.specs.Limits.{most_ports}
 pub use Rattle.cq_ideal.proofs.Admitted.{admitted_for_ports, marks_kept, no_arrivals_refuse_none}
 pub use Rattle.cq_ideal.proofs.LimitedEnds.{ends, fewer_slots, found_end, limited_found_end, limited_whole_fault, not_more, whole_fault}
-pub use Rattle.cq_ideal.proofs.LimitedRuns.{admitted_are, admitted_step, none_in, none_refused_in, run_fault, run_step}
+pub use Rattle.cq_ideal.proofs.LimitedRuns.{admitted_are, admitted_step, none_in, none_refused_in}
 pub use Rattle.cq_ideal.proofs.Parted.{arriving_length, arriving_parts, departures_append, next_slot, quiet_from}
 pub use Rattle.cq_ideal.proofs.Resting.{all_empty, idle_at, length-idle, nobody_sends, none_at, nothing_left, ranked_none}
 pub use Rattle.cq_ideal.specs.Admission.{RefusesNone, marked, nothing_refused}
@@ -46,7 +46,7 @@ pub use Rattle.cq_laws.specs.SlotBySlot.{AfterBy, AreAlso, GoOn, HasParts, RunBy
 pub use Rattle.cq_laws.specs.Terms.{ActAlikeFromEmptyWithoutLimits, ActAlikeWithoutLimits, Agrees, AreForPorts, Arrival, Arrives, BeginsWhole, Cell, Departs, EachArrivesOr, EachIsWhole, EachRises, EndsAlike, Fabric, FabricRun, FabricSlot, FabricStops, Figures, FirstsCanCross, FitsList, HasMoreSlack, HasSlack, IdealState, IsAmong, IsEmptyFabric, IsFabric, IsFault, IsForSwitch, IsInputBest, IsLimitedFault, IsOneRun, IsRunOfRecorded, IsStable, IsWholeFabric, LimitedEndsAlike, LimitedFabricRun, LimitedFabricSlot, LimitedFabricStops, LimitedRecord, LimitedWholeRun, ListsKeepOrder, Machine, Marked, Partners, Queued, SlotRecord, TagFault, Transfers, WholeRun, admissions_in, buffer, came_to, cushion_of, empty_fabric, empty_limited_fabric, fabric_admission, first_come_all, for_output1, from_input2, ideal_held, idled_for, input, least_slack, list_arrived, no_arrivals, passed, place_of_arrival, quiet_slots, slots_in, three, three_empty, three_slots, worked_records}
 pub use Rattle.cq_base.proofs.Putting.{length_put}
 pub use Rattle.cq_base.proofs.Each.{all_front}
-pub use Rattle.cq_base.specs.{declared.cell.Transfer.Transfer, declared.figures.OutputFigures.OutputFigures}
+pub use Rattle.cq_base.specs.{declared.cell.Transfer.Transfer}
 pub use Rattle.cq_base.proofs.Having.{all_from_has, all_of_has, has_cases, has_kept, has_left, has_right, has_there, kept_has, none_had, stands_at}
 pub use Rattle.cq_base.proofs.Pooled.{pairs_joined, pairs_kept_with, same_pairs}
 pub use Rattle.cq_ideal.proofs.Waiting.{length-filled}

@@ -1,6 +1,6 @@
 -- Whole runs, slot by slot from states that agree. The empty states agree, so what holds of agreeing states holds
 -- from the first slot on.
-use Rattle.cq_laws.proofs.Terms.{common_steps, rules, ◌≡◌, ℕ, ◌+◌, ◌↔◌, List, [], ◌∷◌, length, Option, Some, Err, refl, ap, ◌∙◌, inl, arith, All, slice_get, replicate, AllByRecursion, length-replicate, get_or_past, get_or_default, cases_lt, Cell, Queued, TagFault, Machine, AreForPorts, IsStable, Fabric, IsAmong, next_slot, empty_fabric, IsEmptyFabric, HasSlack, SlotRecord, FabricRun, FabricStops, IsEmptyIdeal, ideal_run, empty_ideal, list_of, RunsAlike, none_had, IdealState, Agrees}
+use Rattle.cq_laws.proofs.Terms.{common_steps, rules, ◌≡◌, ℕ, ◌+◌, ◌↔◌, List, [], ◌∷◌, length, Option, Some, Err, ap, ◌∙◌, arith, All, slice_get, replicate, AllByRecursion, length-replicate, get_or_past, get_or_default, cases_lt, Cell, Queued, TagFault, Machine, AreForPorts, IsStable, Fabric, IsAmong, next_slot, empty_fabric, IsEmptyFabric, HasSlack, SlotRecord, FabricRun, FabricStops, IsEmptyIdeal, ideal_run, empty_ideal, list_of, RunsAlike, none_had, IdealState, Agrees}
 use Rattle.cq_laws.proofs.OneSlot.{same_fault, same_slot, slack_arrived, ports_kept}
 
 module _ (ms : List Machine) (class_count : ℕ) where
@@ -54,8 +54,7 @@ pub empty_together : (slot : ℕ) (f : Fabric) (ideal : IdealState) → Agrees s
 empty_together slot f ideal agrees = (
   λ empty. search (arith, rules, all_empty, none_in f.inputs, none_in f.buffers, agrees.same),
   λ empty. record {
-    inputs = all_empty f.inputs (λ i c h.
-        none_in ideal.lists empty c.cell.output c ((agrees.same c.cell.output c).1 (inl (i, h, refl))));
+    inputs = all_empty f.inputs (λ i c h. search (rules, none_in ideal.lists empty c.cell.output c, agrees.same));
     buffers = search (arith, rules, all_empty, none_in, agrees.same);
   },
 )
@@ -80,3 +79,11 @@ module _ (ports : ℕ) (ranks : List (List ℕ)) where
       AllByRecursion (AreForPorts ports class_count) traffic →
       AllByRecursion (AreForPorts (length (empty_fabric ports ranks).inputs) class_count) traffic
   traffic_for_empty class_count traffic h = grind (arith, common_steps, length-replicate)
+
+  -- so over any slots the ideal switch runs beside
+  pub run_beside : (ms : List Machine) (class_count : ℕ) (traffic : List (List (Option Cell))) (rs : List SlotRecord)
+      (g : Fabric) → AllByRecursion (AreForPorts ports class_count) traffic →
+      FabricRun IsStable ms 0 traffic (empty_fabric ports ranks) rs g →
+      RunsAlike ms 0 traffic (empty_ideal ports ranks) rs g
+  run_beside ms class_count traffic rs g come run =
+      search (rules, same_run ms class_count, empty_agree, traffic_for_empty)
