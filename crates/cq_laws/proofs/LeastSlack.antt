@@ -80,10 +80,6 @@ least_after x r i inside =
     let none : InputFigures = record { cells = 0; longest = 0; slack = None } in
     rw (at_row (input_after r) 0 x.inputs i i (omega arith), slice_get-get_or x.inputs i none inside) refl
 
-pub length-after : (x : Figures) (r : SlotRecord) → length (figures_after x r).inputs ≡ length x.inputs
-unfolding figures_after
-length-after x r = grind (arith, common_steps, length-map, length-enumerate_from)
-
 -- ## Over one slot
 
 module _ (ms : List Machine) (slot class_count : ℕ) (cells : List (Option Cell)) (f g : Fabric) (ideal : IdealState)
@@ -142,9 +138,10 @@ module _ (ms : List Machine) (slot class_count : ℕ) (cells : List (Option Cell
   -- arrivals, and each has risen since.
   module _ (x : Figures) (as_many : length x.inputs ≡ length f.inputs) where
     pub more_after : HasMoreSlack (figures_after x r) g
+    unfolding figures_after
     more_after =
         record {
-          ports = search (arith, rules, length-after, ports_kept);
+          ports = search (arith, rules, length-map, length-enumerate_from, ports_kept);
           more = λ i t c at.
               let rise = slot_rises i t c at in
               let within = slack_arrived ms slot class_count cells f g ideal r agrees come step in

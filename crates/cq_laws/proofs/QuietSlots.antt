@@ -1,6 +1,6 @@
 -- Where no cell waits and none comes, nothing is offered: the matching of nobody is the only one, nothing moves, and
 -- no figure changes. Only the rank machines are told that their outputs were idle.
-use Rattle.cq_laws.proofs.Terms.{common_steps, rules, ◌≡◌, ℕ, zero, suc, ◌+◌, false, List, [], ◌∷◌, length, map, Option, None, refl, arith, All, is_some, filter_map, replicate, enumerate_from, length-map, length-replicate, ext_get_or, sum_by-replicate, Queued, Figures, no_arrivals, Machine, Fabric, empty_fabric, IsEmptyFabric, Transfers, FabricSlot, FabricRun, departures_in, departures_of, idle_at, length-idle, nobody_sends, none_at, nothing_left, ranked_none, all_empty, ports, outputs_of, proposals, orders_of, transfers_of, transfers_in, transfers_of_run, slacks, proposals_in, input_after, output_after, figures_after, most_ports, IsInputBest, no_departures}
+use Rattle.cq_laws.proofs.Terms.{common_steps, rules, ◌≡◌, ℕ, zero, suc, ◌+◌, false, List, [], ◌∷◌, length, map, Option, None, refl, arith, All, is_some, filter_map, replicate, enumerate_from, length-map, length-replicate, ext_get_or, sum_by-replicate, Queued, Figures, no_arrivals, Machine, Fabric, empty_fabric, IsEmptyFabric, Transfers, FabricSlot, FabricRun, departures_in, departures_of, idle_at, length-idle, nobody_sends, none_at, nothing_left, ranked_none, all_empty, ports, proposals, orders_of, transfers_of, transfers_in, transfers_of_run, slacks, proposals_in, input_after, output_after, figures_after, most_ports, IsInputBest, no_departures}
 use Rattle.std.proofs.lemmas.List.Elements.{All-replicate}
 use Rattle.std.proofs.lemmas.List.Folds.{list_any_none}
 use Rattle.cq_laws.specs.Quiet.{idled, quiet_slot, quiet_slots, idled_for, AddNothing, KeepLaws}
@@ -10,16 +10,13 @@ use Rattle.cq_laws.proofs.WholeRuns.{empty_list}
 
 -- ## Nothing is offered
 
-no_outputs : (n i : ℕ) → outputs_of (orders_of (replicate n [])) i ≡ []
-no_outputs n i = cc (outputs_at (replicate n []) i, empty_list n i)
-
 pub none_proposed : (n : ℕ) → proposals (orders_of (replicate n [])) (replicate n None) ≡ 0
 none_proposed n =
     let zeros = sum_by-replicate (λ (x : ℕ). x) (ports (orders_of (replicate n []))) 0 in
-    search (arith, rules, map-constant, none_at, no_outputs)
+    search (arith, rules, map-constant, none_at, outputs_at, empty_list)
 
 pub nobody_best : (n : ℕ) → IsInputBest (orders_of (replicate n [])) (replicate n None)
-nobody_best n = search (arith, rules, none_at, no_outputs, length-replicate, length-map)
+nobody_best n = search (arith, rules, none_at, outputs_at, empty_list, length-replicate, length-map)
 
 pub nothing_moves : (n : ℕ) (f : Fabric) → Transfers (replicate n None) f f
 nothing_moves n f = grind (arith, common_steps, none_at)
