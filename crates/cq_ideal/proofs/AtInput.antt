@@ -4,7 +4,7 @@
 -- the arrivals at one input rise in their slots, so where the first is taken off the list every later slot shows the
 -- same: from a slot on the cells that come to an input are its arrivals of these slots in their order. And all cells
 -- of a flow stand at the place of its input, so what comes of a flow is what was to come of it, in its order.
-use Rattle.cq_ideal.proofs.Terms.{◌-◌, cond, filter_all, all_from_has, le-ltb, rules, common_steps, ◌≡◌, ℕ, zero, suc, ◌+◌, ◌<◌, List, [], ◌∷◌, Option, refl, ⊎_elim, arith, AllByRecursion, cases_lt, get_or_past, unwrap_or-slice_get, Cell, Arrival, enough, traffic_of, arrival_at, RiseByInput, came_in_flow, came_at, cells_at, most_ports, all_weaker, IsRunnable, IsForSwitch, Machine, ◌≤◌, not, ◌++◌, Bool, None, map, ◌==◌, nat_lt, filter, cond_both, cases_eq, eq-eqb, lt-ltb, get_or-map-range_with_len, arriving, arriving_at, end_of, all_by, arriving_from, all_made, Some, range_with_len, and_parts, eqb-true, cond-true, filter-append, Admission, admitted, mark_at, refused, where_up, refused_in, AreJudged}
+use Rattle.cq_ideal.proofs.Terms.{◌-◌, cond, cond-false, filter_all, all_from_has, le-ltb, rules, common_steps, ◌≡◌, ℕ, zero, suc, ◌+◌, ◌<◌, List, [], ◌∷◌, Option, refl, ⊎_elim, arith, AllByRecursion, cases_lt, get_or_past, unwrap_or-slice_get, Cell, Arrival, enough, traffic_of, arrival_at, RiseByInput, came_in_flow, came_at, cells_at, most_ports, all_weaker, IsRunnable, IsForSwitch, Machine, ◌≤◌, not, ◌++◌, Bool, None, map, ◌==◌, nat_lt, filter, cond_both, cases_eq, eq-eqb, lt-ltb, get_or-map-range_with_len, arriving, arriving_at, end_of, all_by, arriving_from, all_made, Some, range_with_len, and_parts, eqb-true, cond-true, filter-append, Admission, admitted, mark_at, refused, where_up, refused_in, AreJudged}
 use Rattle.cq_ideal.proofs.Parted.{all_slots}
 use Rattle.cq_ideal.proofs.FlowCount.{cell_listed, found, found_none, length-arriving, listed_same, before_end, found_here, listed, other_input, other_slot}
 use Rattle.cq_ideal.proofs.FlowStands.{present, is_of_flow, of_flow}
@@ -49,16 +49,13 @@ module _ (i : ℕ) where
   abbrev pub of_input : List Cell → List Cell
   of_input cells = filter (λ cell. cell.id.input == i) cells
 
-  none_refused_past : (a : ℕ) (marks : List Bool) (cells : List (Option Cell)) → StandAt a cells → i < a →
-      of_input (refused marks cells) ≡ []
-  none_refused_past a [] cells at lt = refl
-  none_refused_past a (mark ∷ marks) cells at lt = grind (arith, common_steps, refused, none_refused_past (a + 1) marks)
-
-  refused_at_place : (a k : ℕ) (marks : List Bool) (cells : List (Option Cell)) → StandAt a cells → i ≡ a + k →
-      of_input (refused marks cells) ≡ cell_listed (where_up (mark_at marks k) (arrival_at cells k))
-  refused_at_place a k [] cells at e = refl
-  refused_at_place a zero marks cells at e = search (arith, rules, none_refused_past, cond-true, of_input, refused, eq-eqb)
-  refused_at_place a (suc k) marks cells at e = grind (arith, common_steps, refused_at_place (a + 1) k)
+  -- what is refused of it from this input on is the cell at its place, and nothing where that place is before
+  refused_at_place : (a : ℕ) (marks : List Bool) (cells : List (Option Cell)) → StandAt a cells →
+      of_input (refused marks cells)
+      ≡ cond (nat_lt i a) [] (cell_listed (where_up (mark_at marks (i - a)) (arrival_at cells (i - a))))
+  refused_at_place a (mark ∷ marks) (cell ∷ cells) at =
+      search (arith, rules, cond-true, cond-false, of_input, refused, eq-eqb, refused_at_place (a + 1) marks)
+  refused_at_place a marks cells at = search (arith, rules)
 
   pub refused_are : (limits : List (Option ℕ)) (marks : List Bool) (traffic : List (List (Option Cell)))
       (admissions : List Admission) → AreJudged limits marks traffic admissions → AllByRecursion (StandAt 0) traffic →
@@ -68,7 +65,7 @@ module _ (i : ℕ) where
   refused_are limits marks (cells ∷ traffic) (a ∷ admissions) judged at =
       let is = its_marks limits marks cells a judged.0 in
       let rest = refused_are limits a.marks traffic admissions judged.1 at.1 in
-      grind (arith, common_steps, filter-append, refused_at_place 0 i a.marks cells, listed, rest)
+      grind (arith, common_steps, filter-append, refused_at_place 0 a.marks cells, listed, rest)
 
 -- ## The arrivals at an input
 

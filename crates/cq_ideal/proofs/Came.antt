@@ -38,13 +38,6 @@ came_to_ports ms slot ports class_count cells ranks r h are places =
 
 -- ## Keys that are apart
 
-pub arrived_later : (a b : ℕ) (lists : List (List Queued)) → a ≤ b → AllArrivedBefore a lists → AllArrivedBefore b lists
-arrived_later a b lists le arrived j = grind (arith, common_steps, all_weaker)
-
--- no cell waits where no list has one
-pub arrived_none : (slot n : ℕ) → AllArrivedBefore slot (replicate n [])
-arrived_none slot n j = grind (arith, common_steps)
-
 module _ (ms : List Machine) (slot : ℕ) (cells : List (Option Cell)) (ranks : List (List ℕ)) (r : Ranking)
     (ok : ranking ms slot 0 cells ranks ≡ Ok r) (lists : List (List Queued))
     (arrived : AllArrivedBefore slot lists) where
@@ -69,15 +62,10 @@ module _ (ms : List Machine) (slot : ℕ) (cells : List (Option Cell)) (ranks : 
 -- ## Cells that are ranked one after another
 
 -- they stand in front of what came to the others, and nothing changes a fault
-in_front : (came : List (Option Queued)) (x : Result Ranking TagFault) → after_inputs came x
+pub in_front : (came : List (Option Queued)) (x : Result Ranking TagFault) → after_inputs came x
     ≡ elim x [ Ok r ↦ Ok (record { came = came ++ r.came; ranks = r.ranks }) | Err fault ↦ Err fault ]
 in_front [] x = grind (arith, common_steps)
 in_front (c ∷ came) x = grind (arith, common_steps, in_front came)
-
--- a cell at the end of those that came
-after_inputs-snoc : (came : List (Option Queued)) (q : Option Queued) (x : Result Ranking TagFault) →
-    after_inputs (came ++ q ∷ []) x ≡ after_inputs came (after_input q x)
-after_inputs-snoc came q x = grind (arith, common_steps, in_front, append_assoc)
 
 -- where no cell arrives any more nobody comes
 none_ranked : (ms : List Machine) (slot input : ℕ) (cells : List (Option Cell)) (states : List (List ℕ)) →
@@ -122,14 +110,7 @@ module _ {M : List ℕ → Machine} {slot : ℕ} {cells : List (Option Cell)} {f
       ≡ after_input q (ranking (map M ranks.fixed) slot (input + 1) rest ranks_new.states)) →
       InTurn M slot cells first (input + 1) ranks_new (set came input q)
   in_turn_next ranks_new cell q places inside port is fixed many one =
-      grind (arith, common_steps, length-set, get_or-set_other, take_more_set, after_inputs-snoc, from_input cells)
-
-  -- a fault
-  pub in_turn_fault : (cell : Option Cell) (fault : TagFault) → length cells ≡ most_ports → input < most_ports →
-      cell ≡ arrival_at cells input →
-      ((rest : List (Option Cell)) → ranking (map M ranks.fixed) slot input (cell ∷ rest) ranks.states ≡ Err fault) →
-      ranking (map M first.fixed) slot 0 cells first.states ≡ Err fault
-  in_turn_fault cell fault places inside is one = search (rules, in_front, from_input cells input cell)
+      grind (arith, common_steps, length-set, get_or-set_other, take_more_set, in_front, append_assoc, from_input cells)
 
   -- no port is left
   pub in_turn_last : (class_count : ℕ) → AreForPorts (length first.fixed) class_count cells →

@@ -1,7 +1,7 @@
 -- Lists that are made item by item, what is seen of one item, and lists that are new up to a place, and old from it on.
 -- So the list and the machine of one output among those of all: what stands at its place is read through the lists of
 -- all.
-use Rattle.cq_ideal.proofs.Terms.{length-append, length-take, length-set, get_or-set_other, map-set, map-set_same, length-drop, on_ok_weaker, on_err_weaker, common_steps, ◌≡◌, ℕ, zero, suc, refl, ◌+◌, ◌<◌, ◌≤◌, List, [], ◌∷◌, ◌++◌, length, map, get_or, replicate, set, take, drop, sym, ap, ◌∙◌, arith, append-nil, drop_all, drop_more, get_or_at, get_or-map, length-map, length-take-le, map_push, replicate_more, set_at, take_all, take_more, Option, None, length-replicate, Queued, ◌^◌, eqb, Bool, All, IsTrue, ◌↔◌, list_all, All-push, list_all-map, list_all-from_AllPass, IsWithin, QueueView, QueuesView, list_at, Machine, machine_at, first_come, RanksView, most_ports, cases_lt, get_or_past}
+use Rattle.cq_ideal.proofs.Terms.{length-append, length-take, length-set, get_or-set_other, map-set, map-set_same, length-drop, on_ok_weaker, on_err_weaker, common_steps, ◌≡◌, ℕ, zero, suc, refl, ◌+◌, ◌<◌, ◌≤◌, List, [], ◌∷◌, ◌++◌, length, map, get_or, replicate, set, take, drop, sym, ap, ◌∙◌, arith, append-nil, drop_all, drop_more, get_or_at, get_or-map, length-map, length-take-le, map_push, replicate_more, set_at, take_all, take_more, Option, None, length-replicate, Queued, ◌^◌, eqb, Bool, All, IsTrue, ◌↔◌, list_all, list_all-map, list_all-from_AllPass, IsWithin, QueueView, QueuesView, list_at, Machine, machine_at, first_come, RanksView, most_ports, cases_lt, get_or_past}
 use Rattle.cq_ideal.specs.Newcomers.{AreUsed}
 
 -- ## One item more
@@ -80,12 +80,6 @@ pub record Made (rooms : List ℕ) (n : ℕ) (items : List QueueView) : Type 0 w
   pub lists : map (λ q. q.cells) items ≡ replicate n []
   pub rooms_are : map (λ q. q.room) items ≡ take n rooms
   pub few : All (λ q. q.room < 2 ^ 64) items
-
-pub one_made : (rooms : List ℕ) (n : ℕ) (items more : List QueueView) (q : QueueView) → Made rooms n items →
-    more ≡ items ++ q ∷ [] → n < length rooms → q.cells ≡ [] → q.room ≡ get_or rooms n 0 → q.room < 2 ^ 64 →
-    Made rooms (n + 1) more
-one_made rooms n items more q made is inside empty room one =
-    grind (arith, common_steps, map_same, map_next, All-push)
 
 -- empty lists are within any room
 pub empty_within : (items : List QueueView) (n : ℕ) → map (λ q. q.cells) items ≡ replicate n [] →

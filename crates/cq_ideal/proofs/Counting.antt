@@ -15,11 +15,7 @@ use Rattle.cq_ideal.proofs.Came.{from_input, none_beyond}
 abbrev pub one_if : Bool → ℕ
 one_if b = cond b 1 0
 
--- the counts of a cell that is for another output, and of one that is for this
-pub other_output : (r : Refused) (cell : Cell) → eqb cell.output r.output ≡ false → r ≡ with_cells (cell ∷ []) r
-unfolding cells_refused packets_refused
-other_output r cell other = grind (arith, common_steps)
-
+-- the counts of a cell that is for this output
 pub this_output : (r : Refused) (cell : Cell) (first : ℕ) → eqb cell.output r.output ≡ true →
     first ≡ one_if (is_first cell) →
     record { output = r.output; limit = r.limit; packets = r.packets + first; cells = r.cells + 1 }
@@ -59,8 +55,9 @@ module _ (cell : Cell) (first : List Refused) (place : ℕ) (now : List Refused)
   -- a count of another output stays as it is
   pub untouched_next : (d : Refused) → (get_or now place d).output ≢ cell.output →
       now ≡ changed_to (with_refused (cell ∷ []) first) first (place + 1)
+  unfolding cells_refused packets_refused
   untouched_next d other =
-      search (arith, rules, set-get_or now place d, tallied_next d (get_or now place d), other_output, ne_eqb)
+      search (arith, rules, set-get_or now place d, tallied_next d (get_or now place d), ne_eqb)
 
 pub ruleset counted_one_by_one = (can_count_here, tallied_next, untouched_next)
 

@@ -40,15 +40,6 @@ module _ (ms : List Machine) (j slot : ℕ) (laws : KeepsLaws (machine_at ms j))
   served cells old sent h in_lists in_ranks stands are = sends_ok (λ s. Served (present cells) old s) ms old
       (ranking ms slot 0 cells old.ranks) sent h (λ r is. search (arith, rules, served_from, present, filled_from))
 
--- ## The ports
-
--- each slot has an entry for each port and keeps their number
-pub slot_ports : (ms : List Machine) (slot : ℕ) (cells : List (Option Cell)) (old : IdealState) (sent : Sent) →
-    ideal_slot ms slot cells old ≡ Ok sent →
-    (length sent.gone ≡ length old.lists) × (length sent.after.lists ≡ length old.lists)
-unfolding ideal_slot
-slot_ports ms slot cells old sent h = grind (arith, common_steps, sends_ok, length-filled, length-map)
-
 -- ## What an output sends
 
 module _ (i c j slot : ℕ) where
@@ -116,7 +107,7 @@ module _ (ms : List Machine) (j : ℕ) (laws : KeepsLaws (machine_at ms j)) (i c
 pub no_port : (ms : List Machine) (i c j : ℕ) (traffic : List (List (Option Cell))) (slot : ℕ) (state : IdealState)
     (ran : Ran) → ideal_run ms slot traffic state ≡ Ok ran → length state.lists ≤ j →
     left_in_flow i c j (departures_of slot ran.gone) ≡ []
-unfolding ideal_run departures_of
+unfolding ideal_run departures_of ideal_slot
 no_port ms i c j [] slot state ran h outside = cc ((only_ok refl h))
 no_port ms i c j (cells ∷ traffic) slot state ran h outside =
-    search (rules, slot_ports, left_later, get_or_past, no_port ms i c j traffic (slot + 1))
+    search (rules, sends_ok, length-filled, length-map, left_later, get_or_past, no_port ms i c j traffic (slot + 1))

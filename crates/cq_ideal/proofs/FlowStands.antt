@@ -47,14 +47,6 @@ module _ (p : Queued → Bool) (n : Queued) where
   filter-put [] h e a = cond-true (p n) (n ∷ []) [] h
   filter-put (x ∷ xs) h e a = grind (arith, common_steps, filter_none, none_behind, filter-put xs h e.1 a.1)
 
--- ## Keys that are not the lesser
-
--- a cell of the same level and no greater rank that came no later, and in the same slot at no later input
-no_later_from : (a b : Queued) → a.key.level ≡ b.key.level → a.key.rank ≤ b.key.rank → a.key.slot ≤ b.key.slot →
-    (b.key.slot ≡ a.key.slot → a.key.input ≤ b.key.input) → NoLater a b
-unfolding is_before
-no_later_from a b l r s i = search (arith, rules, cond_both, ltb-true, eqb-true)
-
 -- ## What stands in a list
 
 -- what is known of a waiting cell, in this slot before this input's arrival, where the machine is in this state
@@ -102,13 +94,10 @@ module _ (m : Machine) (laws : KeepsLaws m) (state : List ℕ) (slot input : ℕ
   module _ (n : Queued) (known : n.cell.class < m.classes) (level_is : n.key.level ≡ m.level n.cell.class)
       (rank_is : n.key.rank ≡ m.ranked state n.cell.class) (slot_is : n.key.slot ≡ slot)
       (input_is : n.key.input ≡ input) where
-    -- what is known of the list with the new cell
-    pub stands_put : Stands m (m.given state n.cell.class) slot (input + 1) (put n xs)
-    stands_put = grind (arith, common_steps, in_order_put, all_put, all_weaker, given_floor)
-
     -- no waiting cell of its class is less urgent
     class_no_later : (x : Queued) → x.cell.class ≡ n.cell.class → HasWaited m state slot input x → NoLater x n
-    class_no_later x same w = search (arith, rules, no_later_from, w.before)
+    unfolding is_before
+    class_no_later x same w = search (arith, rules, cond_both, ltb-true, eqb-true, w.before)
 
     -- each flow's cells are those from before, and then the new one if it is of the flow
     pub shown-put : (i c j : ℕ) → n.cell.output ≡ j → shown i c (put n xs) ≡ shown i c xs ++ of_flow i c j (n.cell ∷ [])
@@ -162,7 +151,7 @@ module _ (ms : List Machine) (j slot : ℕ) (laws : KeepsLaws (machine_at ms j))
   unfolding of_flow
   one_filled cell input ranks xs inside stands are =
       let q = with_key ranks input cell in
-      ⊎_elim (search (arith, rules, stands_put _ laws _ slot input xs stands q, shown-put))
+      ⊎_elim (search (arith, rules, in_order_put, all_put, all_weaker, given_floor, shown-put))
       (search (arith, rules, cond-false, ne_eqb, get_or-set_other, stands_on, and_left, append-nil))
       (cases_eq cell.output j)
 

@@ -1,28 +1,12 @@
 -- How many cells the outputs hold. The number of each is the length of its list, and stays that as cells are put into
--- the lists and taken out of them.
-use Rattle.cq_ideal.proofs.Terms.{common_steps, ◌≡◌, ℕ, ◌+◌, ◌<◌, List, [], length, map, get_or, set, drop, replicate, Option, arith, IfSome, slice_get, ext_get_or, get_or-map, length-replicate, map-set, set-get_or, length-map, Cell, Queued, count_for, filled, HoldsLists, LimiterView, held_without, count_to, list_at, rules}
+-- the lists.
+use Rattle.cq_ideal.proofs.Terms.{◌≡◌, ℕ, ◌+◌, ◌<◌, List, [], length, map, get_or, replicate, Option, arith, ext_get_or, get_or-map, length-replicate, length-map, Cell, Queued, count_for, filled, HoldsLists, LimiterView, count_to, rules}
 use Rattle.cq_ideal.proofs.Changed.{map-replicate}
 use Rattle.cq_ideal.proofs.Waiting.{filled_long, length-filled}
 
 pub holds_none : (limiter : LimiterView) (ports : ℕ) (lists : List (List Queued)) → length limiter.limits ≡ ports →
     limiter.held ≡ replicate ports 0 → lists ≡ replicate ports [] → HoldsLists lists limiter
 holds_none limiter ports lists limits held empty = search (arith, rules, map-replicate, length-replicate)
-
--- ## A cell that leaves
-
-module _ (lists : List (List Queued)) (limiter : LimiterView) (output : ℕ) (inside : output < length lists)
-    (holds : HoldsLists lists limiter) where
-  pub holds_some : (left : Option Queued) → left ≡ slice_get (list_at lists output) 0 →
-      IfSome left (λ _. 0 < get_or limiter.held output 0)
-  holds_some left is = grind (arith, common_steps, get_or-map)
-
-  pub holds_without : (left : Option Queued) (lists' : List (List Queued)) (after : LimiterView) →
-      left ≡ slice_get (list_at lists output) 0 → lists' ≡ set lists output (drop 1 (list_at lists output)) →
-      after.held ≡ held_without left output limiter.held → after.limits ≡ limiter.limits → HoldsLists lists' after
-  holds_without left lists' after is taken held limits =
-      grind (arith, common_steps, set-get_or, get_or-map, map-set)
-
--- ## Cells that come
 
 -- the lists with the cells that came, where each output holds as many more as were admitted for it
 pub holds_filled : (came : List (Option Queued)) (cells : List (Option Cell)) (lists lists' : List (List Queued))

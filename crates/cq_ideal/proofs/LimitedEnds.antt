@@ -39,25 +39,24 @@ module _ (limits : List (Option ℕ)) (ms : List Machine) (ports : ℕ) (ranks :
   abbrev pub last : ℕ
   last = slots_of_limited_run limits ms came (empty_limited ports ranks)
 
-  last_is : last ≡ position_or_len over (range_with_len 0 (enough came))
-  unfolding slots_of_limited_run
-  last_is = refl
-
   pub limited_not_more : last ≤ enough came
-  limited_not_more = grind (arith, common_steps, last_is, prefix_len-le-length, length-range_with_len)
+  unfolding slots_of_limited_run
+  limited_not_more = grind (arith, common_steps, prefix_len-le-length, length-range_with_len)
 
   pub not_before : (m : ℕ) → m < last → over m ≡ false
+  unfolding slots_of_limited_run
   not_before m lt =
       let at = get_or-range_with_len 0 (enough came) m 0 in
-      grind (arith, common_steps, last_is, limited_not_more, at, fails_before_first over)
+      grind (arith, common_steps, limited_not_more, at, fails_before_first over)
 
   least : (m : ℕ) → over m ≡ true → last ≤ m
   least m is = grind (arith, common_steps, cases_lt m last, not_before m)
 
   over_at_last : last < enough came → over last ≡ true
+  unfolding slots_of_limited_run
   over_at_last lt =
       let passes = passes_at_first over (range_with_len 0 (enough came)) 0 in
-      search (arith, rules, last_is, length-range_with_len, passes, get_or-range_with_len)
+      search (arith, rules, length-range_with_len, passes, get_or-range_with_len)
 
   pub run_all : run_to (enough came) ≡ limited_run limits ms 0 (traffic_of came) (empty_limited ports ranks)
   run_all = ap (λ l. limited_run limits ms 0 l (empty_limited ports ranks)) (all_slots came)
@@ -177,17 +176,13 @@ module _ (ms : List Machine) (ports : ℕ) (ranks : List (List ℕ)) (came : Lis
       limited n ≡ none_refused_ran (marks_down ports) (first_slots came n) x
   refusing_none n x is = grind (arith, common_steps, run_of_none, none_refused_in, no_limit)
 
-  plain_after : (n : ℕ) (s : Marked IdealState) → IsOkAnd (limited n) (λ ran. ran.after ≡ s) →
-      IsOkAnd (plain_run n) (λ ran. ran.after ≡ s.state)
-  plain_after n s e = grind (arith, common_steps, its_runs n)
-
   its_ends : (n : ℕ) (end : IdealState) → IdealEnds ms came (empty_ideal ports ranks) n end →
       LimitedIdealEnds [] ms came (empty_limited ports ranks) n (marked (marks_down ports) end)
   its_ends n end y = record {
     after = search (arith, rules, refusing_none n (plain_run n) refl);
     all_came = y.all_came;
     empty = y.empty;
-    first = λ m s after le empty. y.first m s.state (plain_after m s after) le empty;
+    first = λ m s. search (arith, rules, y.first m s.state, its_runs m);
   }
 
   pub not_more : slots_of_run ms came (empty_ideal ports ranks) ≤ enough came

@@ -1,7 +1,7 @@
 -- Counts of what is refused. A count over two lists is the sum of the counts over each, so counts add up slot by
 -- slot, output by output. And an arriving cell is admitted or refused by the mark of its input, so it is counted
 -- once.
-use Rattle.cq_ideal.proofs.Terms.{drop_more, drop_all, common_steps, ◌≡◌, ℕ, ◌+◌, Bool, List, [], ◌∷◌, ◌++◌, length, filter, Option, refl, ap, ◌∙◌, append_assoc, arith, enumerate_from, filter_map, option_map, append-nil, length-append, filter-append, Cell, Refused, Admission, admitted, refused, count_for, AreAllZero, cells_refused, packets_refused, refused_at, refused_counts, refused_in, with_refused}
+use Rattle.cq_ideal.proofs.Terms.{drop_more, drop_all, common_steps, ◌≡◌, ℕ, ◌+◌, Bool, List, [], ◌∷◌, ◌++◌, length, filter, Option, refl, ap, ◌∙◌, append_assoc, arith, enumerate_from, filter_map, option_map, append-nil, length-append, filter-append, Cell, Refused, admitted, refused, count_for, AreAllZero, cells_refused, packets_refused, refused_at, refused_counts, with_refused}
 
 -- ## Two lists of refused cells
 
@@ -31,10 +31,6 @@ pub zero_from : (j : ℕ) (limits : List (Option ℕ)) → AreAllZero (counts_fr
 unfolding cells_refused packets_refused
 zero_from j [] = tt
 zero_from j (o ∷ limits) = grind (arith, common_steps, zero_from (j + 1) limits)
-
-pub one_slot_more : (admissions : List Admission) (a : Admission) →
-    refused_in (admissions ++ a ∷ []) ≡ refused_in admissions ++ a.refused
-one_slot_more admissions a = grind (arith, common_steps, append-nil, append_assoc)
 
 -- ## Each cell once
 

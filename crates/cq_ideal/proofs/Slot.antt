@@ -1,6 +1,6 @@
 -- A slot is what the parts do one after the other: the arrivals are judged, those that are admitted are ranked and go
 -- into the lists, and then the outputs send.
-use Rattle.cq_ideal.proofs.Terms.{◌≡◌, ℕ, ◌+◌, ◌<◌, ◌^◌, Bool, false, List, length, map, get_or, Option, Ok, Err, refl, ap, ◌∙◌, arith, common_steps, get_or-map, Cell, Queued, TagFault, Departure, RoomView, Machine, class_count, Admission, admission, admitted, marked, refused, IdealSwitch, HasRoomFor, SpareFollows, marked_state, IdealState, Sent, ideal_slot, ideal_sends, filled, fronts, rests, all_told, LimitedSent, limited_slot, with_admission, HoldsLists, LimiterView, AreParts, AreWithinRooms, CameToPorts, FitTogether, RanksView, QueuesView, AllArrivedBefore, HaveOwnKeys, HaveRoomFor, state_of, AreForPorts, Ranking, ranking, rules}
+use Rattle.cq_ideal.proofs.Terms.{◌≡◌, ℕ, ◌+◌, ◌<◌, ◌^◌, Bool, false, List, length, map, get_or, Option, Ok, Err, refl, ap, ◌∙◌, arith, common_steps, get_or-map, Cell, Queued, TagFault, Departure, RoomView, Machine, class_count, Admission, admission, admitted, marked, refused, IdealSwitch, SpareFollows, marked_state, IdealState, Sent, ideal_slot, ideal_sends, filled, fronts, rests, all_told, LimitedSent, limited_slot, with_admission, HoldsLists, LimiterView, AreParts, AreWithinRooms, CameToPorts, FitTogether, RanksView, QueuesView, AllArrivedBefore, HaveOwnKeys, HaveRoomFor, state_of, AreForPorts, Ranking, ranking, rules}
 use Rattle.cq_ideal.specs.OneSlot.{CanHaveSlot}
 use Rattle.cq_ideal.specs.Taking.{CanTakeIn, HasJudged, HasTakenIn}
 use Rattle.cq_ideal.proofs.Admitted.{admitted_for_ports}
@@ -84,10 +84,6 @@ module _ {M : List ℕ → Machine} {slot : ℕ} {cells : List (Option Cell)} {v
       CanTakeIn (map M ranks.fixed) cells old
   can_take_in within few = grind (arith, common_steps, comes, lists_are, get_or-map length queues.lists)
 
-  -- what is admitted finds room too
-  pub admitted_room : (marks : List Bool) → HasRoomFor (admitted marks cells) v
-  admitted_room marks j inside = omega (arith, each_once j marks cells)
-
   module _ {judged : LimiterView} (judges : HasJudged cells old judged) where
     judged_slot : limited_slot v.limits (map M v.fixed) slot cells (marked_state v)
         ≡ with_admission (by_marks judged.marks cells)
@@ -120,7 +116,7 @@ module _ {M : List ℕ → Machine} {slot : ℕ} {cells : List (Option Cell)} {v
       pub have_room : HaveRoomFor came queues
       have_room j inside =
           let count = came_for (map M ranks.fixed) slot (admitted judged.marks cells) ranks.states r taken.ranked j in
-          search (arith, rules, admitted_room, lists_are)
+          search (arith, rules, each_once, lists_are)
 
       pub have_keys : HaveOwnKeys came queues.lists
       have_keys = search (arith, rules, own_keys (map M ranks.fixed) slot (admitted judged.marks cells) ranks.states r)
@@ -140,5 +136,5 @@ module _ {M : List ℕ → Machine} {slot : ℕ} {cells : List (Option Cell)} {v
             arrived = rw lists (arrived_next (map M ranks.fixed) slot (admitted judged.marks cells) ranks.states r
                 taken.ranked queues.lists known.parts.arrived);
             limited_ok = judged_slot ∙ ap (with_admission (by_marks judged.marks cells)) ok;
-            spare = search (arith, rules, admitted_room, lists_are, counted (map M v.fixed) slot _ v.state _ ok);
+            spare = search (arith, rules, each_once, lists_are, counted (map M v.fixed) slot _ v.state _ ok);
           }

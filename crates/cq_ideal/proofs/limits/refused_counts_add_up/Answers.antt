@@ -1,7 +1,7 @@
-use Rattle.cq_ideal.proofs.Terms.{arith, rules, admission, refused_counts}
-use Rattle.cq_ideal.proofs.Refusals.{counts_more, each_once, one_slot_more, zero_from}
+use Rattle.cq_ideal.proofs.Terms.{arith, rules, admission, refused_counts, flat_map-append, append-nil, append_assoc}
+use Rattle.cq_ideal.proofs.Refusals.{counts_more, each_once, zero_from}
 use Rattle.cq_ideal.proofs.limits.refused_counts_add_up.Goals as goal
 
 pub returns : goal.returns
 unfolding admission refused_counts
-returns c = search (arith, rules, zero_from, counts_more, one_slot_more, each_once)
+returns c = search (arith, rules, zero_from, counts_more, flat_map-append, append-nil, append_assoc, each_once)

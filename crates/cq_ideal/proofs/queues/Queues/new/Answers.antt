@@ -1,11 +1,9 @@
-use Rattle.cq_ideal.proofs.Terms.{arith, rules}
-use Rattle.cq_ideal.proofs.Changed.{empty_within, one_made}
+use Rattle.cq_ideal.proofs.Terms.{All-push, arith, rules}
+use Rattle.cq_ideal.proofs.Changed.{empty_within, map_next, map_same}
 use Rattle.cq_ideal.proofs.queues.Queues.new.Goals as goal
 
 pub loop-room-preserved : goal.loop-room-preserved
-loop-room-preserved c =
-    let next = one_made c.args.rooms.now c.loop-room.room-index c.loop-room.queues.items c.push.new.self.items in
-    search (arith, rules, next)
+loop-room-preserved c = search (arith, rules, map_same, map_next, All-push)
 
 pub invariant_of-result : goal.invariant_of-result
 invariant_of-result c = search (arith, rules, empty_within)

@@ -1,6 +1,6 @@
 use Rattle.cq_ideal.proofs.Terms.{rules, None, Some, arith, err_from_is_err_and}
 use Rattle.cq_ideal.proofs.Admitted.{admitted_for_ports}
-use Rattle.cq_ideal.proofs.Came.{in_turn_next, in_turn_fault, in_turn_last}
+use Rattle.cq_ideal.proofs.Came.{from_input, in_front, in_turn_next, in_turn_last}
 use Rattle.cq_ideal.proofs.ranks.Ranks.take.Goals as goal
 use Rattle.cq_ideal.proofs.ranks.Ranks.take.Goals.{in-None, in-Some+in_ok-queued-in-Some}
 
@@ -16,7 +16,7 @@ inputs-preserved g c =
 pub returns-in_err-queued-in-Some-clause-fault : goal.returns-in_err-queued-in-Some-clause-fault
 returns-in_err-queued-in-Some-clause-fault g c =
     let p = err_from_is_err_and c.from_residual.result c.from_residual.ensures.1 in
-    rw (p.1, p.2) (search (arith, rules, in_turn_fault c.inputs.invariant (Some c.in-Some.cell)))
+    rw (p.1, p.2) (search (arith, rules, in_front, from_input, c.inputs.invariant))
 
 pub returns-clause-came : goal.returns-clause-came
 returns-clause-came g c =
