@@ -1,19 +1,17 @@
 -- The machines of a switch know the same classes: each knows those of the switch.
-use Rattle.std.proofs.Common.{rules, ◌≡◌, ℕ, ◌<◌, ◌≤◌, List, [], ◌∷◌, length, map, refl, sym, ◌∙◌, arith}
+use Rattle.std.proofs.Common.{rules, ◌≡◌, ℕ, ◌<◌, ◌≤◌, List, [], ◌∷◌, length, map, sym, ◌∙◌, arith}
 use Rattle.std.specs.List.{AllByRecursion}
+use Rattle.std.proofs.lemmas.Grind.{common_steps}
 use Rattle.std.proofs.lemmas.List.{length-map}
 use Rattle.cq_base.specs.declared.setup.ClassRow.{ClassRow}
 use Rattle.cq_base.specs.declared.setup.Kind.{Kind}
-use Rattle.cq_base.specs.declared.setup.Kind.TheVariants.{FirstCome, Priority, Fair}
 use Rattle.cq_base.specs.declared.setup.Setup.{Setup}
 use Rattle.cq_rank.specs.Machine.{Machine}
 use Rattle.cq_rank.specs.Switch.{AreForOneSwitch, class_count}
 use Rattle.cq_scfq.specs.Disciplines.{machine_of, machines_of}
 
 classes_of : (kind : Kind) (rows : List ClassRow) → (machine_of kind rows).classes ≡ length rows
-classes_of FirstCome rows = refl
-classes_of Priority rows = refl
-classes_of Fair rows = refl
+classes_of kind rows = grind (arith, common_steps)
 
 all_of : (rows : List ClassRow) (n : ℕ) (kinds : List Kind) → n ≡ length rows →
     AllByRecursion (λ (m : Machine). m.classes ≡ n) (map (λ kind. machine_of kind rows) kinds)
