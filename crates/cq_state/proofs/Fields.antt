@@ -16,12 +16,9 @@ fits_within [] [] h = record { enough = omega arith; few = omega arith; each = �
 fits_within (r ∷ rs) (f ∷ fs) h = search (arith, rules, fits_within rs fs h.1)
 fits_within _ _ h = absurd h
 
-own_within : (i : ℕ) → i < 2 ^ 128 → InRange (between i i) (Some i)
-own_within i small = search (arith, rules)
-
 pub seen_within : (i : ℕ) (x : Seen) → i < 2 ^ 128 → IsSeen x →
     Within (between i i ∷ count ∷ count_or_none ∷ []) 0 (Some i ∷ Some x.longest ∷ x.slack ∷ [])
-seen_within i x small is = search (arith, rules, fits_within, own_within)
+seen_within i x small is = search (arith, rules, fits_within)
 
 numbers_within : (ns : List ℕ) → AllByRecursion (λ n. n < 2 ^ 128) ns → (i : ℕ) → i < length ns →
     InRange any_number (get_or (map Some ns) i None)
@@ -30,7 +27,7 @@ numbers_within (n ∷ ns) all i inside = grind (arith, common_steps, numbers_wit
 
 pub rank_within : (j : ℕ) (ns : List ℕ) → j < 2 ^ 128 → AreRankNumbers ns →
     Within (between j j ∷ []) 32 (Some j ∷ map Some ns)
-rank_within j ns small is = search (arith, rules, length-map, own_within, numbers_within, is.0)
+rank_within j ns small is = search (arith, rules, length-map, numbers_within, is.0)
 
 pub named_fits : (ports : ℕ) (c : Named) → ports ≤ 64 → IsNamed ports c → Fits (cell ports) (map Some (cell_numbers c))
 named_fits ports c few is = grind (arith, common_steps)
@@ -85,8 +82,7 @@ rest_told : (gs : List (Option ℕ)) → ((i : ℕ) → i < length gs → InRang
     (gs ≡ map Some (map (λ f. unwrap_or f 0) gs)) × AllByRecursion (λ n. n < 2 ^ 128) (map (λ f. unwrap_or f 0) gs)
 rest_told [] each = (refl, tt)
 rest_told (g ∷ gs) each =
-    let rest = rest_told gs (λ i inside. each (suc i) (omega arith)) in
-    search (arith, rules, is_number g 0 (2 ^ 128 - 1), each 0)
+    search (arith, rules, is_number g 0 (2 ^ 128 - 1), each 0, rest_told gs, λ (i : ℕ). each (suc i))
 
 pub rank_told : (j : ℕ) (fs : List (Option ℕ)) → Within (between j j ∷ []) 32 fs →
     (fs ≡ Some j ∷ map Some (rank_of fs)) × AreRankNumbers (rank_of fs)

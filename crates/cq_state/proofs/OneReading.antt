@@ -1,9 +1,9 @@
 -- A state's text is read in one way. The words of the kinds differ, and each ends where its first field or the line
 -- ends, so a line tells its kind, and then its fields. The kinds of the table are different, so a kind is due once, and
 -- a line leads to one place.
-use Rattle.cq_state.proofs.Terms.{rules, ◌≡◌, ℕ, ltb, cond, List, [], ◌∷◌, ◌++◌, Option, refl, arith, append_assoc, append-nil, Kind, Line, Place, ComesAt, Comes, MayEnd, word, spelled, start, kinds, IsStateExact, ◌≢◌, AllByRecursion, common_steps}
+use Rattle.cq_state.proofs.Terms.{rules, ◌≡◌, ℕ, ltb, cond, List, [], ◌∷◌, ◌++◌, Option, refl, arith, append_assoc, append-nil, Kind, Line, Place, ComesAt, Comes, MayEnd, spelled, start, kinds, IsStateExact, ◌≢◌, AllByRecursion, common_steps}
 use Rattle.cq_base.specs.Items.{EachPair}
-use Rattle.cq_lines.specs.Lines.{line, ending}
+use Rattle.cq_lines.specs.Lines.{ending}
 use Rattle.cq_lines.proofs.Exact.{exact}
 use Rattle.cq_lines.proofs.Walk.{one_line, line_is_some}
 use Rattle.cq_state.proofs.Written.{line_of}
@@ -19,11 +19,8 @@ no_word : (fs : List (Option ℕ)) (more : List ℕ) → first_word (ending fs +
 no_word [] more = refl
 no_word (f ∷ fs) more = refl
 
-one_kind : (j k : Kind) (fs gs : List (Option ℕ)) (a b : List ℕ) → line (word j) fs ++ a ≡ line (word k) gs ++ b → j ≡ k
-one_kind j k fs gs a b e = search (arith, rules, append-nil, append_assoc, no_word)
-
 same_line : (x y : Line) (a b : List ℕ) → spelled x ++ a ≡ spelled y ++ b → (x ≡ y) × (a ≡ b)
-same_line x y a b e = grind (arith, common_steps, one_kind, one_line, line_of)
+same_line x y a b e = grind (arith, common_steps, append-nil, append_assoc, no_word, one_line, line_of)
 
 -- ## A kind is due once
 

@@ -1,9 +1,6 @@
 -- Reading a state's text line by line. What is gathered is what the lines that were read tell, and one line more adds
 -- what it tells: its numbers are within what the state keeps of them, since they are within the ranges of its kind.
--- Where the text may end, its lines are those of a state, so what is gathered is that state.
-use Rattle.cq_state.proofs.Terms.{rules, ◌≡◌, ◌≢◌, ℕ, ◌+◌, ◌^◌, ◌<◌, ◌≤◌, true, List, [], ◌∷◌, ◌++◌, length, refl, arith, length-append, common_steps, ◌==◌, eqb-true, append-nil, one_line_more, Kind, State, AreLow, added, gathered, nothing, place_of, IsInRange, state_text, Line, Place, ComesAt, Comes, MayEnd, spelled, IsStateFault, Option, Within, ranges, further, SoFar, start}
-use Rattle.cq_state.proofs.OneText.{each_told, state_again}
-use Rattle.cq_state.proofs.Written.{Completes}
+use Rattle.cq_state.proofs.Terms.{rules, ◌≡◌, ◌≢◌, ℕ, ◌+◌, ◌^◌, ◌<◌, ◌≤◌, List, [], ◌∷◌, ◌++◌, length, refl, arith, length-append, common_steps, one_line_more, Kind, State, AreLow, added, gathered, nothing, place_of, Line, Place, ComesAt, Comes, MayEnd, spelled, IsStateFault, Option, Within, ranges, further, SoFar, start}
 use Rattle.cq_lines.proofs.Going.{ends_well}
 use Rattle.cq_state.specs.declared.next.Place as kept
 
@@ -43,13 +40,6 @@ line_told text told after line place next rest behind x had comes e adds shorter
     let so_far : SoFar spelled Comes start text (had.lines ++ x ∷ []) (place_of next) behind =
     search (arith, rules, one_line_more, had.lines) in
     search (arith, rules, so_far, length-append, gathered_more)
-
-pub state_told : (text : List ℕ) (told : State) (line : ℕ) (place : kept.Place) (rest : List ℕ) →
-    ReadSoFar text told line place rest → true ≡ (length rest == 0) → MayEnd (place_of place) →
-    IsInRange told × (text ≡ state_text told)
-unfolding Completes
-state_told text told line place rest had none may =
-    grind (arith, common_steps, each_told had.lines, state_again, append-nil, eqb-true)
 
 pub fault_told : (text : List ℕ) (told : State) (line : ℕ) (place : kept.Place) (rest : List ℕ) →
     ReadSoFar text told line place rest → ((x : Line) (next : Place) (more : List ℕ) →
