@@ -49,7 +49,7 @@ impl Classes {
     }
 
     /// The level of a class, which is below 16.
-    #[tactic(auto, using(crate::proofs::Rows::level_few))]
+    #[tactic(auto, using(crate::proofs::Rows::level_steps))]
     pub fn level(&self, class: Class) -> u8
         requires { class < length self.now }
         ensures level { result ≡ (row_at self.now class).level }
