@@ -1,12 +1,7 @@
 -- How many cells the outputs hold. The number of each is the length of its list, and stays that as cells are put into
 -- the lists.
-use Rattle.cq_ideal.proofs.Terms.{◌≡◌, ℕ, ◌+◌, ◌<◌, List, [], length, map, get_or, replicate, Option, arith, ext_get_or, get_or-map, length-replicate, length-map, Cell, Queued, count_for, filled, HoldsLists, LimiterView, count_to, rules}
-use Rattle.cq_ideal.proofs.Changed.{map-replicate}
+use Rattle.cq_ideal.proofs.Terms.{◌≡◌, ℕ, ◌+◌, ◌<◌, List, [], length, map, get_or, Option, arith, ext_get_or, get_or-map, length-map, Cell, Queued, count_for, filled, HoldsLists, LimiterView, count_to, rules}
 use Rattle.cq_ideal.proofs.Waiting.{filled_long, length-filled}
-
-pub holds_none : (limiter : LimiterView) (ports : ℕ) (lists : List (List Queued)) → length limiter.limits ≡ ports →
-    limiter.held ≡ replicate ports 0 → lists ≡ replicate ports [] → HoldsLists lists limiter
-holds_none limiter ports lists limits held empty = search (arith, rules, map-replicate, length-replicate)
 
 -- the lists with the cells that came, where each output holds as many more as were admitted for it
 pub holds_filled : (came : List (Option Queued)) (cells : List (Option Cell)) (lists lists' : List (List Queued))

@@ -1,7 +1,7 @@
 -- The walk over the outputs. Behind this output all is as the slot leaves it, and from it on as the slot found it:
 -- that is so for the lists and for the states of the machines. What is sent so far, and then the departures of the
 -- outputs from this one on, are all departures of the slot. Each output that sends a cell holds it no longer.
-use Rattle.cq_ideal.proofs.Terms.{rules, ◌≡◌, ℕ, ◌+◌, ◌<◌, ◌≤◌, List, [], ◌∷◌, ◌++◌, length, map, get_or, set, drop, Option, Some, None, arith, append_assoc, length-append, length-set, common_steps, slice_get, get_or-map, length-map, get_or-map-range_with_len, length-map-range_with_len, Departure, Queued, RoomView, Machine, machine_at, told, HaveLeft, all_told, fronts, rests, departures_from, departures_in, AreTold, FirstsHaveLeft, FitTogether, RanksView, QueuesView, list_at, HoldsLists, JudgesAsBefore, LimiterView}
+use Rattle.cq_ideal.proofs.Terms.{rules, ◌≡◌, ℕ, ◌+◌, ◌<◌, ◌≤◌, List, [], ◌∷◌, ◌++◌, length, map, get_or, set, drop, Option, Some, None, arith, append_assoc, length-append, length-set, common_steps, slice_get, get_or-map, length-map, get_or-map-range_with_len, length-map-range_with_len, Departure, Queued, RoomView, Machine, machine_at, told, all_told, fronts, rests, departures_from, departures_in, RanksView, QueuesView, list_at, HoldsLists, JudgesAsBefore, LimiterView}
 use Rattle.cq_ideal.proofs.Changed.{at_place, changed_to, put_next}
 
 -- ## The machines
@@ -80,13 +80,3 @@ module _ {M : List ℕ → Machine} {slot : ℕ} {first_ranks : RanksView} {firs
       let both : one_sent slot output gone ++ departures_from slot (output + 1) (drop (output + 1) (fronts old))
       ≡ departures_from slot output (drop output (fronts old)) = grind (arith, common_steps) in
       search (arith, rules, length-append, length-set, told_next, put_next, append_assoc)
-
-  -- what the slot leaves
-  pub record AreSent : Type 0 where
-    pub told : AreTold (map M first_ranks.fixed) (fronts first_queues.lists) first_ranks ranks
-    pub gone : FirstsHaveLeft first_queues queues
-    pub left : HaveLeft slot (fronts first_queues.lists) first_sent sent
-
-  pub sending_last : FitTogether (map M first_ranks.fixed) first_ranks first_queues →
-      length first_queues.lists ≤ output → AreSent
-  sending_last fit end = grind (arith, common_steps, length-told)

@@ -15,7 +15,7 @@ unfoldable pub use Rattle.cq_ideal.specs.Admission.{admission}
 pub use Rattle.cq_ideal.specs.Ending.{IdealEnds, first_slots, is_over, slots_of}
 unfoldable pub use Rattle.cq_ideal.specs.Ending.{arriving_from, slots_of_run, whole_ideal_run}
 pub use Rattle.cq_ideal.specs.Flows.{FlowsLeaveAsTheyCame, IsForSwitch, IsRunnable, RiseByInput, came_in_flow, leaves_in_flow, left_in_flow}
-pub use Rattle.cq_ideal.specs.Ideal.{HaveLeft, IdealSwitch, SpareFollows, count_for, marked_state}
+pub use Rattle.cq_ideal.specs.Ideal.{IdealSwitch, SpareFollows, count_for, marked_state}
 pub use Rattle.cq_ideal.specs.IdealRun.{IsEmptyIdeal, Ran, departures_ran, empty_ideal, nothing_sent, then_ran}
 unfoldable pub use Rattle.cq_ideal.specs.IdealRun.{departures_of, ideal_run}
 pub use Rattle.cq_ideal.specs.IdealSlot.{IdealState, Sent, departures_from, fronts, ideal_sends, put_all, rests}
@@ -25,7 +25,7 @@ unfoldable pub use Rattle.cq_ideal.specs.LimitedEnding.{slots_of_limited_run, wh
 pub use Rattle.cq_ideal.specs.LimitedIdeal.{LimitedRan, LimitedSent, empty_limited, in_front, nothing_came, unlimited, with_admission}
 unfoldable pub use Rattle.cq_ideal.specs.LimitedIdeal.{admitted_traffic, limited_run, limited_slot}
 pub use Rattle.cq_ideal.specs.Limiter.{CanCount, ComeToPorts, HasPorts, HoldsLists, JudgesAsBefore, LimiterView, where_up}
-pub use Rattle.cq_ideal.specs.Parts.{AllArrivedBefore, AreParts, AreTold, AreWithinRooms, CameToPorts, CanPut, FirstsHaveLeft, FitTogether, HaveOwnKeys, HaveRoomFor, IsWithin, QueueView, QueuesView, RanksView, after_inputs, count_to, given_at, level_at, list_at, rank_at, state_of, with_came, with_cell}
+pub use Rattle.cq_ideal.specs.Parts.{AllArrivedBefore, AreParts, AreWithinRooms, CameToPorts, CanPut, FitTogether, HaveOwnKeys, HaveRoomFor, IsWithin, QueueView, QueuesView, RanksView, after_inputs, count_to, given_at, level_at, list_at, rank_at, state_of, with_came, with_cell}
 pub use Rattle.cq_ideal.specs.Ranking.{AreForPorts, Ranking, after_input, keyed, ranking}
 pub use Rattle.cq_ideal.specs.Refused.{AreAllZero, refused_at, refused_in, with_cells, with_refused}
 unfoldable pub use Rattle.cq_ideal.specs.Refused.{cells_refused, packets_refused, refused_counts}

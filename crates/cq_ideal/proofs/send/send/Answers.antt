@@ -1,12 +1,11 @@
 use Rattle.cq_ideal.proofs.Terms.{rules, arith, length-map, append-nil, get_or-map, set-get_or, map-set, common_steps, HoldsLists}
-use Rattle.cq_ideal.proofs.Sending.{HasSent, sending_next, sending_last, length-told}
+use Rattle.cq_ideal.proofs.Sending.{HasSent, sending_next, length-told}
 use Rattle.cq_ideal.proofs.Came.{fit_same}
 use Rattle.cq_ideal.proofs.send.send.Goals as goal
 use Rattle.cq_ideal.proofs.send.send.Goals.{in-Some, in_default}
 
 pub sent-requires : goal.sent-requires
-sent-requires g c =
-    search (arith, rules, length-map, get_or-map)
+sent-requires g c = search (arith, rules, length-map, get_or-map)
 
 pub outputs-preserved : goal.outputs-preserved
 outputs-preserved g c =
@@ -22,4 +21,4 @@ outputs-preserved g c =
     search (arith, rules, next, holds)
 
 pub returns : goal.returns
-returns g c = search (arith, rules, sending_last c.outputs.invariant, fit_same, length-told)
+returns g c = grind (arith, common_steps, fit_same, length-told, length-map)
