@@ -28,8 +28,7 @@ module _ (ms : List Machine) (slot : ℕ) (cells : List (Option Cell)) (came : L
   arrivals_fall i t c at = fall i t c (came_to came i) refl (ap (λ xs. slice_get xs t) (sym (arrive.lists i)) ∙ at)
 
 pub rest_of : (lists : List (List Queued)) (j : ℕ) → list_of (rests lists) j ≡ drop 1 (list_of lists j)
-rest_of (xs ∷ lists) (suc j) = rest_of lists j
-rest_of lists j = refl
+rest_of lists j = grind (arith, common_steps)
 
 pub departures_fall : (ms : List Machine) (gone : List (Option Queued)) (old new : Fabric) → Departs ms gone old new →
     EachFalls 1 old new

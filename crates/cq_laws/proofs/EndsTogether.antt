@@ -114,10 +114,8 @@ module _ (ms : List Machine) (ports class_count : ℕ) (ranks : List (List ℕ))
         after = search (arith, rules, cut, take_all);
         all_came = rw cut done.1.all_came;
         empty = empty_end;
-        first = λ m u at late over. rw cut (⊎_elim (λ lt.
-            let b = fewer m u (take m (take n rs)) (omega arith) at in
-            done.1.first m b.after (rw b.ran) late ((empty_together _ u b.after b.agrees).0 over)) (λ ge. ge)
-            (cases_lt m n));
+        first = λ m u at late over. rw cut (⊎_elim (λ lt. let b = fewer m u (take m (take n rs)) (omega arith) at in
+            search (rules, done.1.first m b.after, empty_together _ u b.after b.agrees)) (λ ge. ge) (cases_lt m n));
       }
 
   -- what follows are quiet slots
