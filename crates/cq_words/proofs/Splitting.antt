@@ -117,8 +117,6 @@ config_of word get = option_and_then (with_config word) (get (codes "CONFIG"))
 -- `clap` splits the words of each command, and takes them
 pub command_split : (words : List Text) → is_some (command_for words) ≡ true → IsSplit words
 unfolding walked walk_passes
-command_split [] h = let bad : false ≡ true = h in cc
-command_split (word ∷ []) h = let bad : false ≡ true = h in cc
 command_split (word ∷ v ∷ []) h =
     let vs : List Text = v ∷ [] in
     let w = command_values (list_all is_value vs) _ h in
@@ -143,7 +141,7 @@ command_split (word ∷ v ∷ u ∷ t ∷ []) h =
     as_form (codes "part") (placed 1 (codes "CONFIG" ∷ codes "SLOTS" ∷ codes "STATE" ∷ [])) vs w.0 (search rules)
     (λ _ get. slots_in (get (codes "CONFIG")) (get (codes "SLOTS")) (get (codes "STATE"))) refl refl refl refl word _
     _ h (λ bad. cc))
-command_split (word ∷ a ∷ b ∷ c ∷ d ∷ rest) h = search (arith, rules)
+command_split words h = search (arith, rules)
 
 -- ## The line is made form by form
 
