@@ -73,10 +73,8 @@ module _ {M : List ℕ → Machine} {slot : ℕ} {first_ranks : RanksView} {firs
       put =
       let old = first_queues.lists in
       let none = None in
-      let dropped = length-map old (λ (xs : List Queued). drop 1 xs) in
-      let here = at_place (rests old) old output [] dropped inside in
       let front = get_or-map (λ (xs : List Queued). slice_get xs 0) old output [] none inside in
       let rest = get_or-map (λ (xs : List Queued). drop 1 xs) old output [] [] inside in
       let both : one_sent slot output gone ++ departures_from slot (output + 1) (drop (output + 1) (fronts old))
-      ≡ departures_from slot output (drop output (fronts old)) = grind (arith, common_steps) in
-      search (arith, rules, length-append, length-set, told_next, put_next, append_assoc)
+      ≡ departures_from slot output (drop output (fronts old)) = grind (arith, common_steps, at_place) in
+      search (arith, rules, length-append, length-set, length-map, at_place, told_next, put_next, append_assoc)

@@ -1,6 +1,6 @@
 -- A slot is what the parts do one after the other: the arrivals are judged, those that are admitted are ranked and go
 -- into the lists, and then the outputs send.
-use Rattle.cq_ideal.proofs.Terms.{◌≡◌, ℕ, ◌+◌, ◌<◌, ◌^◌, Bool, false, List, length, map, get_or, Option, Ok, Err, refl, ap, ◌∙◌, arith, common_steps, get_or-map, Cell, Queued, TagFault, Departure, RoomView, Machine, class_count, Admission, admission, admitted, marked, refused, IdealSwitch, SpareFollows, marked_state, IdealState, Sent, ideal_slot, ideal_sends, filled, fronts, rests, all_told, LimitedSent, limited_slot, with_admission, HoldsLists, LimiterView, AreParts, AreWithinRooms, CameToPorts, FitTogether, RanksView, QueuesView, AllArrivedBefore, HaveOwnKeys, HaveRoomFor, state_of, AreForPorts, Ranking, ranking, rules}
+use Rattle.cq_ideal.proofs.Terms.{◌≡◌, ℕ, ◌+◌, ◌<◌, ◌^◌, Bool, false, List, length, map, get_or, Option, Ok, refl, ap, ◌∙◌, arith, common_steps, get_or-map, Cell, Queued, Departure, RoomView, Machine, class_count, Admission, admission, admitted, marked, refused, IdealSwitch, SpareFollows, marked_state, IdealState, Sent, ideal_slot, ideal_sends, filled, fronts, rests, all_told, LimitedSent, limited_slot, with_admission, HoldsLists, LimiterView, AreParts, AreWithinRooms, CameToPorts, FitTogether, RanksView, QueuesView, AllArrivedBefore, HaveOwnKeys, HaveRoomFor, state_of, AreForPorts, Ranking, ranking, rules}
 use Rattle.cq_ideal.specs.OneSlot.{CanHaveSlot}
 use Rattle.cq_ideal.specs.Taking.{CanTakeIn, HasJudged, HasTakenIn}
 use Rattle.cq_ideal.proofs.Admitted.{admitted_for_ports}
@@ -85,22 +85,17 @@ module _ {M : List ℕ → Machine} {slot : ℕ} {cells : List (Option Cell)} {v
   can_take_in within few = grind (arith, common_steps, comes, lists_are, get_or-map length queues.lists)
 
   module _ {judged : LimiterView} (judges : HasJudged cells old judged) where
-    judged_slot : limited_slot v.limits (map M v.fixed) slot cells (marked_state v)
+    pub judged_slot : limited_slot v.limits (map M v.fixed) slot cells (marked_state v)
         ≡ with_admission (by_marks judged.marks cells)
         (ideal_slot (map M v.fixed) slot (admitted judged.marks cells) v.state)
     unfolding limited_slot admission
     judged_slot = let lists = lists_are in grind (arith, common_steps)
 
-    ideal_is : ideal_slot (map M v.fixed) slot (admitted judged.marks cells) v.state
+    pub ideal_is : ideal_slot (map M v.fixed) slot (admitted judged.marks cells) v.state
         ≡ ideal_sends (map M ranks.fixed) (state_of ranks queues)
         (ranking (map M ranks.fixed) slot 0 (admitted judged.marks cells) ranks.states)
     unfolding ideal_slot
     ideal_is = grind (arith, common_steps)
-
-    pub limited_fault : {fault : TagFault} →
-        ranking (map M ranks.fixed) slot 0 (admitted judged.marks cells) ranks.states ≡ Err fault →
-        limited_slot v.limits (map M v.fixed) slot cells (marked_state v) ≡ Err fault
-    limited_fault err = search (arith, rules, judged_slot, ideal_is)
 
     module _ {ranks_new : RanksView} {came : List (Option Queued)}
         (taken : HasTakenIn (map M ranks.fixed) slot cells ranks ranks_new old judged came) where

@@ -1,5 +1,5 @@
 use Rattle.cq_ideal.proofs.Terms.{rules, ◌+◌, arith}
-use Rattle.cq_ideal.proofs.Slot.{Begun, can_take_in, come_to_ports, have_keys, have_room, limited_fault, placed, seen}
+use Rattle.cq_ideal.proofs.Slot.{Begun, can_take_in, come_to_ports, have_keys, have_room, ideal_is, judged_slot, placed, seen}
 use Rattle.cq_ideal.proofs.ideal.Ideal.slot.Given as given
 use Rattle.cq_ideal.proofs.ideal.Ideal.slot.Goals as goal
 use Rattle.cq_ideal.proofs.ideal.Ideal.slot.Goals.{After-self}
@@ -32,7 +32,9 @@ invariant_of-self-2 g c =
     search (arith, rules, placed begins c.take_in.ensures.judged c.in_default.ensures.taken c.arrive.new.self)
 
 pub returns-in-Err : goal.returns-in-Err
-returns-in-Err g c = search (arith, rules, limited_fault (known g (goal.at.returns-in-Err g c).After-self))
+returns-in-Err g c =
+    let begins = known g (goal.at.returns-in-Err g c).After-self in
+    search (arith, rules, judged_slot begins c.take_in.ensures.judged, ideal_is begins c.take_in.ensures.judged)
 
 pub returns : goal.returns
 returns g c =
