@@ -84,12 +84,9 @@ pub use Rattle.cq_resume.specs.Told.{arriving_cell, class_of, is_ahead, is_named
 unfoldable pub use Rattle.cq_resume.specs.Told.{fabric_told}
 pub use Rattle.cq_resume.specs.declared.taken.Taken.{Taken}
 pub use Rattle.cq_engine.specs.Engine.{CanGoOn, EngineView, HaveListRoom, IsMadeAs, IsReadyFor, SlotDone, fresh_engine, frozen_of, its_admission, marked_fabric}
-pub use Rattle.cq_traffic.proofs.ForPorts.{arrivals_for, slots_fit}
-pub use Rattle.cq_traffic.proofs.FromInputs.{arrives_found, bit, first_more, from_here, no_more_from, one_if, some_one}
-unfoldable pub use Rattle.cq_traffic.proofs.FromInputs.{come_from}
-pub use Rattle.cq_traffic.proofs.Quiet.{arrives_before, none_up_to, quiet_of, quiet_slots, within_both}
-pub use Rattle.cq_traffic.proofs.ToOutputs.{come_for-traffic_of, for_here, no_more_to}
-unfoldable pub use Rattle.cq_traffic.proofs.ToOutputs.{come_for}
+pub use Rattle.cq_traffic.proofs.Arriving.{arrivals_for, slots_fit, arrives_before, none_up_to, quiet_of, quiet_slots, within_both}
+pub use Rattle.cq_traffic.proofs.ToCome.{arrives_found, bit, first_more, from_here, no_more_from, one_if, some_one, come_for-traffic_of, for_here, no_more_to}
+unfoldable pub use Rattle.cq_traffic.proofs.ToCome.{come_from, come_for}
 pub use Rattle.cq_simulate.specs.FabricRuns.{AlwaysHasSlack, AreChosen, AreInputBest, AreStable, IsFabricRun, IsKeptOf, SendsSlotBySlot, departures_in_run, refused_in_run, unpacked_run}
 pub use Rattle.cq_simulate.specs.GoingOn.{HasKept, HasPartedTo, HasRunOn, IsReadyOn, IsRefusalOn, RanTo, StopsWithin, WentOn, kept_with, to_come}
 unfoldable pub use Rattle.cq_simulate.specs.GoingOn.{fabric_listed}

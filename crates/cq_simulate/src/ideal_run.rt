@@ -79,7 +79,7 @@ fn is_over<R: Rank>(ideal: &Ideal<R>, schedule: &Schedule, slot: Slot) -> bool
 
 // The cells of the slot come. Where none comes and none waits, the slots up to the next arrival are skipped: the switch
 // rests, and the cells of that slot come. The answer is the slot whose cells came.
-#[tactic(auto, unfolding(cq_ideal::specs::LimitedIdeal::limited_run), using(cq_traffic::proofs::Quiet::quiet_of))]
+#[tactic(auto, unfolding(cq_ideal::specs::LimitedIdeal::limited_run), using(cq_traffic::proofs::Arriving::quiet_of))]
 fn skip<R: Rank>(ideal: &mut Ideal<R>, schedule: &Schedule, slot: Slot, coming: &mut Coming) -> Slot
     requires running { ideal.old.stopped ≡ false }
     requires next { ideal.old.next ≡ slot }

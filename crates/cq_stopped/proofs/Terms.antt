@@ -79,7 +79,7 @@ pub use Rattle.cq_state.specs.declared.state.Seen.{Seen}
 pub use Rattle.cq_laws.proofs.{AfterTransfer.rest_of, IdealLists.among_put_all, IdealLists.list_after, IdealLists.put_all_keeps, IdealLists.put_all_new, IdealLists.rising_put_all, InputBest.stable_slot, InputBest.stable_limited_too, LimitedSlots.admission_for_ports, WholeRuns.empty_list}
 pub use Rattle.cq_resume.proofs.{Coming.is_between, Coming.one_comes, Judging.packets_alike, Judging.tally_is, Scheduling.schedule_known, Tallied.whole, Upheld.all_stand, Upheld.tallies_up, Walking.cells_in}
 pub use Rattle.cq_resume.specs.declared.found.Name.{Name}
-pub use Rattle.cq_traffic.proofs.{ForPorts.arrivals_for, ForPorts.place_of}
+pub use Rattle.cq_traffic.proofs.{Arriving.arrivals_for, Arriving.place_of}
 pub use Rattle.cq_simulate.proofs.{FabricCounts.all_wait, OnceASlot.AreNumbered}
 pub use Rattle.cq_simulate.proofs.{Departed.small_cells, EachPacket.all_arriving, EachPacket.all_judged, OnceASlot.limited_numbered, OfPackets.keeps_laws, OfPackets.kind, OfPackets.machine_is, OfPackets.right_classes, OfPackets.right_size, Tallies.filter_images, Tallies.kinds_summed, Tallies.tests_turned}
 pub use Rattle.cq_simulate.specs.{FabricRuns.IsFabricRun}

@@ -1,5 +1,3 @@
 mod Terms
-pub mod ForPorts
-pub mod Quiet
-pub mod ToOutputs
-pub mod FromInputs
+pub mod Arriving
+pub mod ToCome

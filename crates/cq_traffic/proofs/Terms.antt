@@ -1,5 +1,5 @@
 -- The words of this crate's proofs that stand elsewhere, each passed on from its place.
-pub use Rattle.cq_base.proofs.Library.{AllByRecursion, Bool, List, None, Option, Some, [], arith, cases_eq, cases_lt, common_steps, cond, eq-eqb, fill_by_all, get_or-replicate, get_or_past, is_some, length, length-replicate, map, map-range_with_len_more, min, ne_eqb, range_with_len, refl, replicate, rules, suc, sym, unwrap_or, unwrap_or-slice_get, zero, ℕ, ◌++◌, ◌+◌, ◌<◌, ◌==◌, ◌∙◌, ◌∷◌, ◌≡◌, ◌≤◌}
+pub use Rattle.cq_base.proofs.Library.{AllByRecursion, Bool, List, None, Option, Some, [], arith, cases_eq, cases_lt, common_steps, cond, eq-eqb, fill_by_all, get_or-replicate, get_or_past, is_some, length, length-replicate, map, map-range_with_len_more, min, ne_eqb, range_with_len, refl, replicate, rules, suc, sum_by, sum_by-append, sum_by-cons, sym, unwrap_or, unwrap_or-slice_get, zero, ℕ, ◌++◌, ◌+◌, ◌<◌, ◌∙◌, ◌∷◌, ◌≡◌, ◌≤◌}
 pub use Rattle.cq_base.specs.Arrivals.{arrival_at, no_arrivals}
 pub use Rattle.cq_base.specs.Arriving.{Arrival, arriving, arriving_at, end_of, enough}
 unfoldable pub use Rattle.cq_base.specs.Arriving.{traffic_of}
