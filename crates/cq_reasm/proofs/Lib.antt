@@ -1,5 +1,4 @@
 mod Terms
 pub mod Tables
 pub mod Joins
-pub mod Pieces
 pub mod Runs

@@ -6,7 +6,7 @@ ghost use Rattle.cq_reasm.specs.Whole.{WholeAreTaken};
 /// A captured frame is cut into the pieces of its cells: they have one length, from its first byte on,
 /// but that the last ends with the frame; a frame of no bytes has one cell of no bytes. The pieces of all
 /// its cells, in order, give the frame.
-#[tactic(auto, using(crate::proofs::Pieces::pieces_give_frame))]
+#[tactic(auto, using(crate::proofs::Runs::pieces_give_frame))]
 pub fn pieces_give_the_frame()
     ensures { PiecesGiveFrame }
 {}
