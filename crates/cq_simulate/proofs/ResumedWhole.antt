@@ -2,7 +2,7 @@
 -- state says was sent, and then what waits in it, are the arrivals that it names, in their order. What waits leaves
 -- first, as it does from the list of the ideal switch beside it, and then what is admitted of what comes. A packet
 -- that the state names is named with all its cells, and goes on as it began.
-use Rattle.cq_simulate.proofs.Terms.{common_steps, rules, map-append, ◌≡◌, ℕ, ◌<◌, Bool, true, false, List, [], ◌∷◌, ◌++◌, length, map, filter, Option, Some, refl, sym, ap, ◌∙◌, arith, ◌⊎◌, ◌+◌, ◌≤◌, not, cond, ◌&&◌, ◌==◌, All, slice_index_or, nat_lt, if◌then◌else◌, AllByRecursion, AllPairs, and_from, and_parts, cases_lt, eq-eqb, eqb-true, lt-ltb, ltb-true, cases_eq, cond-false, cond-true, le-ltb, ne_eqb, Arrival, IsBefore, Departure, Queued, IsLater, IsTraffic, comes_in_flow, leaves_in_flow, left_in_flow, is_kind, shown, HasWaited, Stands, line_at, rest_of, Agrees, Fabric, ideal_of, list_of, departure_of, sent_told, firsts_at, is_refused, latest, IsSound, OfOneFlow, IsBelowFloor, AllNamed, AreWholePackets, NoneNamed, HasShape, Switch, HasLimit, arriving_cell, class_of, fabric_told, is_ahead, is_named, key_of, named_in, output_of, queued_in, queued_of, packet_before, EachPair, each_pair, buffer_is, comes, found_at, in_buffer, in_list, in_order, is_cell_of, its_output, its_slot, list_is, of_traffic, ports_are, queued_differ, queued_named, some_cell, Has, all_from_has, all_of_has, has_cases, has_image, has_kept, has_left, has_right, image_has, kept_has, pair_of_has, IsInRange, Sent, State, NoLater, all_weaker, Machine, machine_at, AreOfPackets, key_laws, all_has, looked_up, pairs_kept, pairs_kept_with, pairs_looked_up, pairs_with, Named, any_has, has_any, any_alike, pairs_mapped, pairs_joined, has_looked_up, same_pairs, filter_none, filter_all, append_assoc, take_all, filter-append, get_or-map-range_with_len, Cell, traffic_is, arrivals, schedule_of, comes_at_input, AreOfClasses, present, flow_came, no_port, is_of_flow, of_flow, is_run_of, comes_from, Marked, arriving_from, IsRunnable, came_in_flow, departures_of, IdealState, LimitedRan, cells_at, agrees_of, empty_together, LimitedRunsAlike, LimitedFabricRun, LimitedRecord, admissions_in, slots_in, gone_in, Captured, IsInputBest, frozen_told, marks_told, taken_of, IsResumed, Kept, switch_of, Taken, GoesOn, goes_on, AreTables, ports_of, Tables, openings_of, LeaveInOrder, LeaveWhole, LeftInOrder, CanBeTakenUp, slots_fit, all_filter, all_in_range, class_in_slot, none_came, flow_on, whole_on, StandAt, stand_in, best_act_alike, most_ports, filter_both, filter_agree, of_images}
+use Rattle.cq_simulate.proofs.Terms.{common_steps, rules, map-append, ◌≡◌, ℕ, ◌<◌, Bool, true, false, List, [], ◌∷◌, ◌++◌, length, map, filter, Option, Some, refl, sym, ap, ◌∙◌, arith, ◌+◌, ◌≤◌, not, cond, ◌&&◌, ◌==◌, All, slice_index_or, nat_lt, AllByRecursion, AllPairs, and_from, and_parts, cases_lt, eq-eqb, eqb-true, lt-ltb, ltb-true, cases_eq, cond-false, le-ltb, Arrival, IsBefore, Departure, Queued, IsLater, IsTraffic, comes_in_flow, leaves_in_flow, left_in_flow, is_kind, shown, HasWaited, Stands, line_at, rest_of, Agrees, Fabric, ideal_of, list_of, departure_of, sent_told, firsts_at, is_refused, latest, IsSound, OfOneFlow, IsBelowFloor, AreWholePackets, HasShape, Switch, arriving_cell, class_of, fabric_told, is_ahead, is_named, key_of, named_in, output_of, queued_in, queued_of, EachPair, each_pair, buffer_is, comes, found_at, in_buffer, in_list, in_order, is_cell_of, its_output, its_slot, list_is, of_traffic, ports_are, queued_differ, queued_named, some_cell, Has, all_from_has, all_of_has, has_cases, has_image, has_kept, has_left, has_right, image_has, kept_has, pair_of_has, IsInRange, Sent, State, NoLater, all_weaker, Machine, machine_at, AreOfPackets, key_laws, all_has, looked_up, pairs_kept, pairs_kept_with, pairs_looked_up, pairs_with, Named, any_has, has_any, any_alike, pairs_mapped, pairs_joined, has_looked_up, same_pairs, filter_none, filter_all, append_assoc, take_all, filter-append, get_or-map-range_with_len, Cell, traffic_is, arrivals, schedule_of, comes_at_input, AreOfClasses, present, flow_came, no_port, is_of_flow, of_flow, is_run_of, comes_from, Marked, arriving_from, IsRunnable, came_in_flow, departures_of, IdealState, LimitedRan, cells_at, agrees_of, empty_together, LimitedRunsAlike, LimitedFabricRun, LimitedRecord, admissions_in, slots_in, gone_in, Captured, IsInputBest, frozen_told, marks_told, taken_of, IsResumed, Kept, switch_of, Taken, GoesOn, goes_on, AreTables, ports_of, Tables, openings_of, LeaveInOrder, LeaveWhole, LeftInOrder, CanBeTakenUp, slots_fit, all_filter, all_in_range, class_in_slot, none_came, flow_on, whole_on, StandAt, stand_in, best_act_alike, most_ports, filter_both, filter_agree, of_images, LineStands, as_first, line_ends, mark_is, is_line, packets_alike, schedule_known, ArePackets, coming, has_limit, has_name, mark_on, Name, le-leb, list_any, inl, IsScheduleOf, None}
 use Rattle.std.proofs.lemmas.Simd.{map-map}
 use Rattle.cq_ideal.proofs.AtInput.{cells_of}
 use Rattle.cq_simulate.proofs.OfPackets.{as_packets, line_packets, none_at, none_from, right_classes, runnable}
@@ -12,8 +12,7 @@ use Rattle.cq_simulate.proofs.Tallies.{filter_images, filter_same}
 -- ## Packet after packet
 
 -- The arrivals at one input, packet after packet, and a part of them. The number of a packet is no less than those of
--- the packets ahead of it, and the first cell of each is there. And the last of some arrivals, by slot, is no earlier
--- than any of them.
+-- the packets ahead of it, and the first cell of each is there.
 
 abbrev pub packet : Arrival → ℕ
 packet a = a.cell.id.packet
@@ -24,90 +23,50 @@ next_after n [] = n
 next_after n (a ∷ line) = next_after (packet a + 1) line
 
 -- both parts are of packets, the second from there on
-pub of_parts : (n : ℕ) (xs ys : List Arrival) → AreOfPackets n (cells_of (xs ++ ys)) →
+of_parts : (n : ℕ) (xs ys : List Arrival) → AreOfPackets n (cells_of (xs ++ ys)) →
     AreOfPackets n (cells_of xs) × AreOfPackets (next_after n xs) (cells_of ys)
 unfolding next_after
 of_parts n [] ys are = (tt, are)
 of_parts n (x ∷ xs) ys are = let rest = of_parts (packet x + 1) xs ys are.1 in ((are.0, rest.0), rest.1)
 
 -- no number is below that from which they begin, and each is below that from which the next one begins
-pub within : (m n : ℕ) (xs : List Arrival) → m ≤ n → AreOfPackets n (cells_of xs) →
+within : (m n : ℕ) (xs : List Arrival) → m ≤ n → AreOfPackets n (cells_of xs) →
     (n ≤ next_after n xs) × AllByRecursion (λ a. (m ≤ packet a + 1) × (packet a + 1 ≤ next_after n xs)) xs
 unfolding next_after
 within m n [] le are = (omega arith, tt)
 within m n (x ∷ xs) le are = grind (arith, common_steps, within m (packet x + 1) xs)
 
--- slots and packets rise together
-abbrev pub Rises : Arrival → Arrival → Type 0
-Rises x y = (x.slot < y.slot) × (packet x ≤ packet y)
-
-pub both_rise : (n : ℕ) (xs : List Arrival) → EachPair (λ x y. x.slot < y.slot) xs → AreOfPackets n (cells_of xs) →
-    EachPair Rises xs
-both_rise n [] rising are = tt
-both_rise n (x ∷ xs) rising are =
-    grind (arith, common_steps, within (packet x + 1), all_from_has, all_of_has, both_rise (packet x + 1) xs rising.1)
-
 -- each of another packet than the one that goes on is of one that begins: its first cell is there
-pub begun : (n : ℕ) (xs : List Arrival) → AreOfPackets n (cells_of xs) → (a : Arrival) → Has xs a →
+begun : (n : ℕ) (xs : List Arrival) → AreOfPackets n (cells_of xs) → (a : Arrival) → Has xs a →
     (packet a + 1 ≡ n → ⊥) →
     (f : Arrival) × Has xs f × (f.cell.id.index ≡ 0) × (packet f ≡ packet a)
 begun n [] are a has other = absurd has
 begun n (x ∷ xs) are a has other = search (arith, rules, eqb-true, cases_eq, begun (packet x + 1) xs are.1 a)
 
--- ## The last by slot
+-- a walk ends with the mark of its last cell
+last_is : (named : Arrival → Bool) (limited : ℕ → Bool) (n : ℕ) (was mark : Bool) (line : List Arrival) →
+    mark_on named limited was line ≡ Some mark → (a : Arrival) → Has line a →
+    (z : Arrival) × Has line z × (packet z + 1 ≡ next_after n line) × (mark ≡ not (named z))
+unfolding next_after
+last_is named limited n was mark [] ends a has = absurd has
+last_is named limited n was mark (x ∷ []) ends a has = (x, inl refl, refl, grind (arith, common_steps))
+last_is named limited n was mark (x ∷ y ∷ line) ends a has =
+    let step : mark_on named limited (not (named x)) (y ∷ line) ≡ Some mark = grind (arith, common_steps) in
+    let it = last_is named limited (packet x + 1) (not (named x)) mark (y ∷ line) step y (inl refl) in
+    search (arith, rules)
 
-pub record IsLatest (xs : List Arrival) (g : Arrival) : Type 0 where
-  pub has : Has xs g
-  pub after : (y : Arrival) → Has xs y → y.slot ≤ g.slot
+-- ## Names that stand for those of a state
 
-latest_on : (x : Arrival) (xs : List Arrival) → (g : Arrival) × (latest (x ∷ xs) ≡ Some g) × IsLatest (x ∷ xs) g
-latest_on x [] = (x, refl, search (arith, rules))
-latest_on x (z ∷ zs) =
-    let later = if nat_lt x.slot z.slot then z else x in
-    let it = latest_on later zs in
-    (it.0, it.1, grind (arith, common_steps, lt-ltb, le-ltb, cases_lt, it.2.after later))
+abbrev no_cell : Cell
+no_cell =
+    record { id = record { input = 0; packet = 0; index = 0 }; output = 0; class = 0; last = false; at = 0; len = 0 }
 
-pub latest_is : (xs : List Arrival) (y : Arrival) → Has xs y → (g : Arrival) × (latest xs ≡ Some g) × IsLatest xs g
-latest_is [] y has = absurd has
-latest_is (x ∷ xs) y has = latest_on x xs
+abbrev pub as_name : Named → Name
+as_name c = record { queued = record { cell = no_cell; key = key_of c }; sent = None }
 
--- ## Before a slot, and from it on
-
-abbrev pub is_early : ℕ → Arrival → Bool
-is_early next a = nat_lt a.slot next
-
-abbrev pub early_of : ℕ → List Arrival → List Arrival
-early_of next line = filter (is_early next) line
-
-abbrev pub IsEarlier : Arrival → Arrival → Type 0
-IsEarlier a b = a.slot < b.slot
-
-pub parted_at : (next : ℕ) (line : List Arrival) → EachPair IsEarlier line →
-    line ≡ early_of next line ++ rest_of next line
-parted_at next [] rising = refl
-parted_at next (a ∷ line) rising =
-    search (rules, lt-ltb, all_weaker, filter_none, filter_all, le-ltb, cases_lt, parted_at next line rising.1)
-
--- ## By number
-
-module _ (named : Arrival → Bool) (taken : ℕ → Bool) where
-  -- whether a packet is named, if one of these cells is of it, and otherwise whether it is taken
-  unfoldable pub named_or_taken : List Arrival → ℕ → Bool
-  named_or_taken [] p = taken p
-  named_or_taken (a ∷ line) p = cond (packet a == p) (named a) (named_or_taken line p)
-
-  pub as_named : (line : List Arrival) →
-      ((a b : Arrival) → Has line a → Has line b → packet a ≡ packet b → named a ≡ named b) → (b : Arrival) →
-      Has line b → named_or_taken line (packet b) ≡ named b
-  unfolding named_or_taken
-  as_named [] alike b has = absurd has
-  as_named (a ∷ line) alike b has = search (rules, cond-true, eq-eqb, cond-false, ne_eqb, cases_eq, as_named line)
-
-  pub as_taken : (line : List Arrival) (p : ℕ) →
-      ((a : Arrival) → Has line a → packet a ≡ p → named a ≡ taken p) → named_or_taken line p ≡ taken p
-  unfolding named_or_taken
-  as_taken [] p same = refl
-  as_taken (a ∷ line) p same = grind (arith, common_steps, as_taken line p)
+pub has_as_name : (names : List Named) (a : Arrival) → is_named names a ≡ has_name (map as_name names) a
+has_as_name [] a = refl
+has_as_name (c ∷ names) a = grind (arith, common_steps, has_as_name names a)
 
 -- ## What a sound state says
 
@@ -116,12 +75,15 @@ module _ (named : Arrival → Bool) (taken : ℕ → Bool) where
 -- over the slot both say the same: it is the last that began, and the mark of the input is up exactly where the state
 -- does not name it.
 
+abbrev pub IsEarlier : Arrival → Arrival → Type 0
+IsEarlier a b = a.slot < b.slot
+
 module _ (w : Switch) (s : State) (i : ℕ) where
   abbrev pub line : List Arrival
   line = line_at i w.came
 
   abbrev pub before : List Arrival
-  before = early_of s.head.next line
+  before = filter (λ a. nat_lt a.slot s.head.next) line
 
   abbrev pub behind : List Arrival
   behind = rest_of s.head.next line
@@ -133,65 +95,67 @@ module _ (w : Switch) (s : State) (i : ℕ) where
   abbrev pub begin_from : ℕ
   begin_from = next_after 0 before
 
-  module _ (whole : AreWholePackets w s) (rising : EachPair IsEarlier line) (packets : AreOfPackets 0 (cells_of line))
-    where
-      packets_parted : AreOfPackets 0 (cells_of before) × AreOfPackets begin_from (cells_of behind)
-      packets_parted = of_parts 0 before behind (rw (parted_at s.head.next line rising) at packets)
+  abbrev pub mark : Bool
+  mark = is_refused w.came s (latest (firsts_at w.came s i))
 
-      pub packets_behind : AreOfPackets begin_from (cells_of behind)
-      packets_behind = packets_parted.1
+  pub parted_at : (line : List Arrival) → EachPair IsEarlier line →
+      line ≡ filter (λ a. nat_lt a.slot s.head.next) line ++ rest_of s.head.next line
+  parted_at [] rising = refl
+  parted_at (a ∷ line) rising =
+      search (rules, lt-ltb, all_weaker, filter_none, filter_all, le-ltb, cases_lt, parted_at line rising.1)
 
-      -- a cell of the same packet that came before the slot is among those of which the state is asked
-      in_packet : (f a : Arrival) → Has before f → Has before a → packet f ≡ packet a →
-          Has (packet_before w.came s.head.next f) a
-      in_packet f a first has same = grind (arith, common_steps, kept_has, has_kept, and_from, eqb-true, eq-eqb)
+  module _ (ports : ℕ) (are : ArePackets ports w.came) (whole : AreWholePackets w s) (rising : EachPair IsEarlier line)
+      (packets : AreOfPackets 0 (cells_of line)) where
+    packets_parted : AreOfPackets 0 (cells_of before) × AreOfPackets begin_from (cells_of behind)
+    packets_parted = of_parts 0 before behind (rw (parted_at line rising) at packets)
 
-      -- and all of those are named, or none is
-      one_answer : (f : Arrival) → Has before f → f.cell.id.index ≡ 0 → (a : Arrival) →
-          Has (packet_before w.came s.head.next f) a → is_told a ≡ is_told f
-      one_answer f has begins =
-          let all = packet_before w.came s.head.next f in
-          let said = all_has (λ (a : Arrival). a.cell.id.index ≡ 0 → a.slot < s.head.next
-          → AllNamed s (packet_before w.came s.head.next a)
-          ⊎ (NoneNamed s (packet_before w.came s.head.next a) × HasLimit w.limits a.cell.output)) w.came f whole in
-          let is = λ (yes_ : Bool). all_has (λ (b : Arrival). is_told b ≡ yes_) all in
-          grind (arith, common_steps, said, kept_has, ltb-true, is true, is false, in_packet f f has has)
+    abbrev standing : List Name
+    standing = map as_name (named_in s)
 
-      pub alike : (a b : Arrival) → Has before a → Has before b → packet a ≡ packet b → is_told a ≡ is_told b
-      alike a b first second same = search (arith, rules, one_answer, in_packet, begun 0 before packets_parted.0 a)
+    early : coming i 0 s.head.next w.came ≡ before
+    early = search (rules, filter_agree, le-leb)
 
-      -- the packet that goes on is named exactly where the mark is down
-      pub mark_says : (a : Arrival) → Has before a → packet a + 1 ≡ begin_from →
-          not (is_refused w.came s (latest (firsts_at w.came s i))) ≡ is_told a
-      mark_says a has last =
-          let it = begun 0 before packets_parted.0 a has (λ none. omega arith) in
-          let f = it.0 in
-          let there : Has (firsts_at w.came s i) f =
-          search (arith, rules, kept_has, eqb-true, ltb-true, has_kept, and_from, eq-eqb, lt-ltb) in
-          let found = latest_is (firsts_at w.came s i) f there in
-          let g = found.0 in
-          let first : Has before g × (g.cell.id.index ≡ 0) =
-          search (arith, rules, kept_has, and_parts, eqb-true, ltb-true, has_kept) in
-          let high = all_of_has _ before g (within 0 0 before (omega arith) packets_parted.0).1 first.0 in
-          let low : packet f ≤ packet g =
-          search (arith, rules, packet, pair_of_has, both_rise 0 before, pairs_kept, found.2.after f there) in
-          search (arith, rules, any_alike is_told (is_told g), in_packet, one_answer g, alike g a)
+    stands_by : LineStands w.limits ports s.head.next w.came standing are i
+    stands_by = as_first w.limits ports s.head.next w.came standing are
+        ((packets_alike w s standing (has_as_name (named_in s))).0 whole) i
 
-      -- ## Together
+    -- all cells of a packet are named, or none
+    alike : (a b : Arrival) → Has before a → Has before b → packet a ≡ packet b → is_told a ≡ is_told b
+    alike a b first second same =
+        grind (arith, common_steps, early, stands_by, has_as_name (named_in s), begun 0 before packets_parted.0 a)
 
-      module _ (taken : ℕ → Bool)
-          (goes_on : (p : ℕ) → p + 1 ≡ begin_from →
-          taken p ≡ not (is_refused w.came s (latest (firsts_at w.came s i)))) where
-        abbrev pub is_taken : ℕ → Bool
-        is_taken = named_or_taken is_told taken before
+    -- the walk over them ends with the mark
+    ends : i < ports → mark_on is_told (has_limit w.limits) false before ≡ Some mark
+    ends inside =
+        let named : has_name standing ≡ is_named (named_in s) = λ k a. sym (has_as_name (named_in s) a) k in
+        let over = line_ends (has_name standing) (has_limit w.limits) (coming i 0 s.head.next w.came)
+        (is_line w.limits ports s.head.next w.came standing are i inside) stands_by in
+        let is = mark_is w.limits ports s.head.next w.came standing are i inside stands_by in
+        rw (← early, ← named) (search (arith, rules, over, is, named))
 
-        pub taken_before : AllByRecursion (λ a. is_taken (packet a) ≡ is_told a) before
-        taken_before = grind (arith, common_steps, all_from_has, packet, as_named, alike)
+    -- those of the last one just where the mark is down
+    mark_says : (a : Arrival) → Has before a → packet a + 1 ≡ begin_from → not mark ≡ is_told a
+    mark_says a has last =
+        let inside : i < ports = search (arith, rules, kept_has, all_of_has, are.inputs, eqb-true) in
+        let it = last_is is_told (has_limit w.limits) 0 false mark before (ends inside) a has in
+        grind (arith, common_steps, alike it.0 a it.1 has)
 
-        pub taken_behind : AllByRecursion (λ b. is_taken (packet b) ≡ taken (packet b)) behind
-        taken_behind =
-            let high = within 0 0 before (omega arith) packets_parted.0 in
-            search (arith, rules, within begin_from, packets_behind, all_from_has, all_of_has, as_taken, mark_says)
+    -- ## Together
+
+    module _ (taken : ℕ → Bool) (goes_on : (p : ℕ) → p + 1 ≡ begin_from → taken p ≡ not mark) where
+      abbrev pub is_taken : ℕ → Bool
+      is_taken p =
+          cond (nat_lt (p + 1) begin_from) (list_any is_told (filter (λ a. packet a == p) before)) (taken p)
+
+      pub taken_before : AllByRecursion (λ a. is_taken (packet a) ≡ is_told a) before
+      taken_before = all_from_has _ before (λ a has.
+          let high = all_of_has _ before a (within 0 0 before (omega arith) packets_parted.0).1 has in
+          let own = filter (λ (b : Arrival). packet b == packet a) before in
+          let any = any_alike is_told (is_told a) own a in
+          search (arith, rules, any, kept_has, has_kept, alike, mark_says, lt-ltb, le-ltb, cases_lt, eq-eqb, eqb-true))
+
+      pub taken_behind : AllByRecursion (λ b. is_taken (packet b) ≡ taken (packet b)) behind
+      taken_behind = search (arith, rules, within begin_from, packets_parted, all_weaker, le-ltb, cond-false)
 
 -- ## Arrivals that rise by slot
 
@@ -396,7 +360,7 @@ module _ (w : Switch) (s : State) (in_range : IsInRange s) (shape : HasShape w s
     is_there : (x : Arrival) → Has told x → Has (map as_arrival (gone ++ waiting)) x
     is_there x has =
         let one : Has w.came x × (x.slot < next) × (comes_in_flow i c j x ≡ true) × (named x ≡ true) =
-        grind (arith, common_steps, kept_has, early_of, line_at, is_early, ltb-true) in
+        grind (arith, common_steps, kept_has, line_at, ltb-true) in
         let (n, has_name, same_name) = has_any (is_name_of x) names one.3 in
         let some = some_cell (arriving_cell w.came n) (comes w s in_range shape sound traffic n has_name).1 in
         let same = one_arrival (found_at w.came n.slot n.input some.0 some.1).arrival x in
@@ -406,7 +370,7 @@ module _ (w : Switch) (s : State) (in_range : IsInRange s) (shape : HasShape w s
         search (arith, rules, is, has_right, among_listed, among_buffered, has_cases, has_left, among_gone)
 
     told_rises : EachPair IsEarlier told
-    told_rises = grind (arith, common_steps, pairs_kept, IsEarlier, early_of, line_at, is_early, line_rises)
+    told_rises = grind (arith, common_steps, pairs_kept, IsEarlier, line_at, line_rises)
 
     -- what was sent of the flow, and then what waits of it
     pub told_flow : left_in_flow i c j (sent_told w.came s) ++ shown i c there ≡ cells_of told
@@ -440,7 +404,7 @@ module _ (w : Switch) (s : State) (in_range : IsInRange s) (shape : HasShape w s
   module _ (ports : ℕ) (openings : List (List ℕ)) (as_many : length w.machines ≡ ports) (few : ports ≤ most_ports)
       (runs : IsRunnable w.machines ports openings w.came)
       (classes : (j : ℕ) → j < ports → (machine_at w.machines j).classes ≡ w.classes)
-      (packets : (i : ℕ) → AreOfPackets 0 (cells_of (line_at i w.came))) (kept : Kept)
+      (are : ArePackets ports w.came) (packets : (i : ℕ) → AreOfPackets 0 (cells_of (line_at i w.came))) (kept : Kept)
       (resumed : IsResumed w (taken_of w s) kept) where
     many_are : (length f.inputs ≡ ports) × (length f.ranks ≡ ports)
     unfolding frozen_told fabric_told
@@ -493,22 +457,21 @@ module _ (w : Switch) (s : State) (in_range : IsInRange s) (shape : HasShape w s
       rises = line_rises w.came traffic.one_by_one i
 
       late_packets : AreOfPackets (begin_from w s i) (cells_at i slots)
-      late_packets = rw late_are (packets_behind w s i sound.packets rises (packets i))
+      late_packets = rw late_are (packets_parted w s i ports are sound.packets rises (packets i)).1
 
       -- what is taken of the packets that come
       abbrev taken : ℕ → Bool
       taken = (whole_on w.limits w.machines next slots beside ran ideal_alike.ran stand over i (begin_from w s i)
           late_packets).is_taken
 
-      goes_as_marked : (p : ℕ) → p + 1 ≡ begin_from w s i →
-          taken p ≡ not (is_refused w.came s (latest (firsts_at w.came s i)))
+      goes_as_marked : (p : ℕ) → p + 1 ≡ begin_from w s i → taken p ≡ not (mark w s i)
       unfolding next_after
       goes_as_marked p last =
           search (arith, rules, whole_on, over, late_packets, get_or-map-range_with_len, none_at, cases_lt i ports)
 
       -- and of all packets
       abbrev takes : ℕ → Bool
-      takes = is_taken w s i sound.packets rises (packets i) taken goes_as_marked
+      takes = is_taken w s i ports are sound.packets rises (packets i) taken goes_as_marked
 
       abbrev taken_cell : Cell → Bool
       taken_cell cell = taken cell.id.packet
@@ -525,17 +488,17 @@ module _ (w : Switch) (s : State) (in_range : IsInRange s) (shape : HasShape w s
 
         early_taken : filter takes_cell (cells_of (filter its_flow (before w s i))) ≡ cells_of (told i c j)
         early_taken =
-            let all = taken_before w s i sound.packets rises (packets i) taken goes_as_marked in
+            let all = taken_before w s i ports are sound.packets rises (packets i) taken goes_as_marked in
             search (rules, filter_images, filter_same, all_filter, all)
 
         late_taken : filter takes_cell later ≡ filter taken_cell later
         late_taken =
-            let all = taken_behind w s i sound.packets rises (packets i) taken goes_as_marked in
+            let all = taken_behind w s i ports are sound.packets rises (packets i) taken goes_as_marked in
             search (rules, filter_same, of_images, all_filter, all)
 
         takes_parts : filter takes_cell (came_in_flow i c j w.came) ≡ cells_of (told i c j) ++ filter taken_cell later
         takes_parts =
-            let parts = parted_at next (line w s i) rises in
+            let parts = parted_at w s i (line w s i) rises in
             grind (arith, common_steps, flow_at, map-append, filter-append, cells_of, early_taken, late_taken)
 
         flow_late : flow_came i c j slots ≡ later
@@ -575,9 +538,12 @@ resumed_in_order t captures from kept are many up resumed =
     let come = traffic_is t captures are many in
     let runs = runnable t.setup (arrivals t captures) are.setup come in
     let it = up.comes in
+    let of : IsScheduleOf t (schedule_of t captures) = record { captures = captures; ports = many; schedule = refl } in
+    let known = schedule_known t (schedule_of t captures) are of in
     leaves_in_order (switch_of t (schedule_of t captures)) up.state it.in_range it.shape it.sound
     (rw (machines_many t) come) (ports_of t.setup) (openings_of t.setup) (machines_many t) (omega arith) runs
-    (right_classes t.setup) (λ i. line_packets t captures i are many) kept (rw it.told at resumed)
+    (right_classes t.setup) (rw many at known.packets) (λ i. line_packets t captures i are many) kept
+    (rw it.told at resumed)
 
 pub resumed_whole : (t : Tables) (captures : List (List Captured)) (from : Taken) (kept : Kept) → AreTables t →
     length captures ≡ ports_of t.setup → CanBeTakenUp (switch_of t (schedule_of t captures)) from →

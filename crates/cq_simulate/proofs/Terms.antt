@@ -1,5 +1,5 @@
 -- The words of this crate's proofs that stand elsewhere, each passed on from its place.
-pub use Rattle.cq_base.proofs.Library.{All, All-from_recursion, All-push, AllByRecursion, AllPairs, Bool, Err, IfErr-weaker, IfOk-weaker, IfSome, IsTrue, List, None, Ok, Option, Result, Some, [], and_from, and_left, and_parts, and_right, ap, append-nil, append_assoc, arith, cases_eq, cases_lt, common_steps, cond, cond-false, cond-true, cond_both, cons_option, div_ceil_times, drop, drop_all, drop_more, enumerate_from, eq-eqb, eqb-true, err_from_is_err_and, false, filter, filter-append, filter_agree, filter_map, flat_map, flat_map-append, fold, get_or, get_or-map, get_or-map-range_with_len, get_or-replicate, get_or-set_other, get_or-set_same, get_or_default, get_or_from_slice_get, get_or_past, if◌then◌else◌, inl, is_some, le-leb, le-ltb, leb-false, length, length-append, length-drop, length-filter, length-filter_both, length-insert, length-map, length-map-range_with_len, length-replicate, length-set, list_any, lt-leb, lt-ltb, ltb-true, map, map-append, max, min, mul-le-mul, nat_lt, ne_eqb, nil_from_length, not, range_with_len, recursion_from_All, refl, replicate, rules, set, slice_get_within, slice_index, slice_index_or, suc, sum, sum-map, sum_by, sum_by-cons, sum_by-le, sym, take, take-add, take-append-le, take_all, take_min, true, unwrap_or, vec_len, zero, ℕ, ◌&&◌, ◌*◌, ◌++◌, ◌+◌, ◌-◌, ◌<◌, ◌==◌, ◌^◌, ◌↔◌, ◌∙◌, ◌∷◌, ◌≡◌, ◌≢◌, ◌≤◌, ◌⊎◌}
+pub use Rattle.cq_base.proofs.Library.{All, All-from_recursion, All-push, AllByRecursion, AllPairs, Bool, Err, IfErr-weaker, IfOk-weaker, IfSome, IsTrue, List, None, Ok, Option, Result, Some, [], and_from, and_left, and_parts, and_right, ap, append-nil, append_assoc, arith, cases_eq, cases_lt, common_steps, cond, cond-false, cond-true, cond_both, cons_option, div_ceil_times, drop, drop_all, drop_more, enumerate_from, eq-eqb, eqb-true, err_from_is_err_and, false, filter, filter-append, filter_agree, filter_map, flat_map, flat_map-append, fold, get_or, get_or-map, get_or-map-range_with_len, get_or-replicate, get_or-set_other, get_or-set_same, get_or_default, get_or_from_slice_get, get_or_past, if◌then◌else◌, inl, is_some, le-leb, le-ltb, leb-false, length, length-append, length-drop, length-filter, length-filter_both, length-insert, length-map, length-map-range_with_len, length-replicate, length-set, list_any, lt-leb, lt-ltb, ltb-true, map, map-append, max, min, mul-le-mul, nat_lt, ne_eqb, nil_from_length, not, range_with_len, recursion_from_All, refl, replicate, rules, set, slice_get_within, slice_index, slice_index_or, suc, sum, sum-map, sum_by, sum_by-cons, sum_by-le, sym, take, take-add, take-append-le, take_all, take_min, true, unwrap_or, vec_len, zero, ℕ, ◌&&◌, ◌*◌, ◌++◌, ◌+◌, ◌-◌, ◌<◌, ◌==◌, ◌^◌, ◌↔◌, ◌∙◌, ◌∷◌, ◌≡◌, ◌≢◌, ◌≤◌}
 pub use Rattle.cq_base.specs.Arrivals.{arrival_at, no_arrivals}
 pub use Rattle.cq_base.specs.Arriving.{Arrival, arriving_at, end_of}
 unfoldable pub use Rattle.cq_base.specs.Arriving.{arriving, enough, traffic_of}
@@ -73,16 +73,18 @@ pub use Rattle.cq_laws.specs.LimitedFabric.{IsLimitedFault, LimitedFabricRun, Li
 pub use Rattle.cq_laws.specs.Measures.{sends}
 unfoldable pub use Rattle.cq_laws.specs.Measures.{figures_after, figures_of, output_after, proposals_in}
 unfoldable pub use Rattle.cq_laws.specs.Records.{transfers_in, transfers_of_run}
-pub use Rattle.cq_resume.proofs.{Cut.filter_both, Joining.kept_both, Joining.kept_quiet}
+pub use Rattle.cq_resume.proofs.{Cut.filter_both, Joining.kept_both, Joining.kept_quiet, Judging.packets_alike, Scheduling.schedule_known}
+pub use Rattle.cq_resume.proofs.Tallied.{LineStands, as_first, line_ends, mark_is, whole as is_line}
+pub use Rattle.cq_resume.specs.Finding.{ArePackets, coming, has_limit, has_name, mark_on}
 pub use Rattle.cq_resume.proofs.GoesOn.{GoesOn, buffer_is, came_before, comes, found_at, goes_on, in_buffer, in_list, in_order, is_cell_of, its_output, its_slot, list_is, of_traffic, ports_are, queued_differ, queued_named, some_cell}
 pub use Rattle.cq_resume.specs.Counted.{departure_of, firsts_at, is_refused, latest, marks_told, sent_told, taken_of}
 unfoldable pub use Rattle.cq_resume.specs.Counted.{figures_told, frozen_told}
 pub use Rattle.cq_resume.specs.Resumed.{IsResumed, Kept, RunsOn, kept_on}
-pub use Rattle.cq_resume.specs.Sound.{AllNamed, AreWholePackets, IsBelowFloor, IsSentBefore, IsSound, NoneNamed, OfOneFlow}
-pub use Rattle.cq_resume.specs.Switch.{HasLimit, HasShape, Switch, switch_of}
-pub use Rattle.cq_resume.specs.Told.{arriving_cell, class_of, is_ahead, is_named, key_of, named_in, output_of, packet_before, queued_in, queued_of}
+pub use Rattle.cq_resume.specs.Sound.{AreWholePackets, IsBelowFloor, IsSentBefore, IsSound, OfOneFlow}
+pub use Rattle.cq_resume.specs.Switch.{HasShape, IsScheduleOf, Switch, switch_of}
+pub use Rattle.cq_resume.specs.Told.{arriving_cell, class_of, is_ahead, is_named, key_of, named_in, output_of, queued_in, queued_of}
 unfoldable pub use Rattle.cq_resume.specs.Told.{fabric_told}
-pub use Rattle.cq_resume.specs.declared.taken.Taken.{Taken}
+pub use Rattle.cq_resume.specs.{declared.found.Name.Name, declared.taken.Taken.Taken}
 pub use Rattle.cq_engine.specs.Engine.{CanGoOn, EngineView, HaveListRoom, IsMadeAs, IsReadyFor, SlotDone, fresh_engine, frozen_of, its_admission, marked_fabric}
 pub use Rattle.cq_traffic.proofs.Arriving.{arrivals_for, slots_fit, arrives_before, none_up_to, quiet_of, quiet_slots, within_both}
 pub use Rattle.cq_traffic.proofs.ToCome.{arrives_found, bit, first_more, from_here, no_more_from, one_if, some_one, come_for-traffic_of, for_here, no_more_to}

@@ -56,7 +56,7 @@ pub use Rattle.cq_resume.specs.Resumed.{Kept, Runs}
 pub use Rattle.cq_resume.specs.Sound.{AreArrivals, AreBelowFloors, AreWholePackets, HaveSlack, IsBelowFloor, IsBufferedBefore, IsSentBefore, KeepArrivalOrder, OfOneFlow, StandInOrder}
 pub use Rattle.cq_resume.specs.Switch.{HasShape, IsScheduleOf, Switch, switch_of}
 pub use Rattle.cq_resume.specs.Terms.{IsTransferBefore}
-pub use Rattle.cq_resume.specs.Told.{arriving_cell, buffer_told, class_in, class_of, is_ahead, is_named, key_of, list_told, named_in, output_in, output_of, queued_in, queued_of}
+pub use Rattle.cq_resume.specs.Told.{arriving_cell, buffer_told, class_in, class_of, is_ahead, list_told, named_in, output_in, output_of, queued_in, queued_of}
 unfoldable pub use Rattle.cq_resume.specs.Told.{fabric_told}
 pub use Rattle.cq_resume.specs.declared.taken.Taken.{Taken}
 pub use Rattle.cq_stopped.specs.Stopped.{AreRecorded, CanBeTakenUp, StoppedRunsAreSound, told_state}
@@ -81,5 +81,5 @@ pub use Rattle.cq_resume.proofs.{Coming.is_between, Coming.one_comes, Judging.pa
 pub use Rattle.cq_resume.specs.declared.found.Name.{Name}
 pub use Rattle.cq_traffic.proofs.{Arriving.arrivals_for, Arriving.place_of}
 pub use Rattle.cq_simulate.proofs.{FabricCounts.all_wait, OnceASlot.AreNumbered}
-pub use Rattle.cq_simulate.proofs.{Departed.small_cells, EachPacket.all_arriving, EachPacket.all_judged, OnceASlot.limited_numbered, OfPackets.keeps_laws, OfPackets.kind, OfPackets.machine_is, OfPackets.right_classes, OfPackets.right_size, Tallies.filter_images, Tallies.kinds_summed, Tallies.tests_turned}
+pub use Rattle.cq_simulate.proofs.{Departed.small_cells, EachPacket.all_arriving, EachPacket.all_judged, OnceASlot.limited_numbered, OfPackets.keeps_laws, OfPackets.kind, OfPackets.machine_is, OfPackets.right_classes, OfPackets.right_size, ResumedWhole.as_name, ResumedWhole.has_as_name, Tallies.filter_images, Tallies.kinds_summed, Tallies.tests_turned}
 pub use Rattle.cq_simulate.specs.{FabricRuns.IsFabricRun}

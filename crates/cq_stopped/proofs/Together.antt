@@ -4,7 +4,7 @@
 -- since the walk over the arrivals of each input ends with its mark, and those that are not named are, counted by any
 -- test, those that were refused. The text of that state is read as what was left, so what goes on from there is the
 -- run.
-use Rattle.cq_stopped.proofs.Terms.{recursion_from_All, get_or_default, come_count-first, IsCount, IsInputBest, recorded, slots_of_figures, rules, ◌≡◌, ℕ, ◌-◌, ◌<◌, ◌≤◌, ◌^◌, List, [], ◌∷◌, length, map, fold, max, sym, ap, ◌∙◌, arith, common_steps, length-map, length-map-range_with_len, AllByRecursion, enumerate_from, flat_map, Queued, Scheduled, arriving_from, departures_of, Fabric, cushion_of, input, SlotRecord, fabric_in, marked_in, LimitedRecord, slots_in, figures_of, input_figures, slacks, gone_in, list_of, each_pair, all_both, Differ, Has, all_from_has, all_of_has, has_image, has_left, has_right, image_has, figures_told, frozen_told, taken_of, opening, IsWhole, IsParted, seen_as, sent_as, state_of, IsRead, Kept, Runs, Switch, switch_of, named_in, queued_in, Taken, Tables, openings_of, AreRankNumbers, IsInRange, IsNamed, IsSeen, IsSent, state_text, Named, Sent, State, told_state, CanBeTakenUp, StoppedRunsAreSound, few_kept, of_images, all_weaker, written_in_run, arriving_length, counts_more, figures_fold, stable_limited_too, empty_list, limited_numbered, IsFabricRun, all_made, all_give, length-replicate, ◌==◌, Bool, Some, false, filter, refl, get_or-map, get_or-replicate, range_with_len, Cell, mark_at, refused_counts, refused_in, with_refused, fabric_judged, admissions_in, coming, has_name, unnamed, AreWholePackets, Name, refused_here, Refused, whole, all_stand, tallies_up, packets_alike, tally_is, IsTally, cells_in, all_arriving, all_in_range, all_judged, sum, proposals_in, ◌*◌, kinds_summed, tests_turned, kept_has}
+use Rattle.cq_stopped.proofs.Terms.{recursion_from_All, get_or_default, come_count-first, IsCount, IsInputBest, recorded, slots_of_figures, rules, ◌≡◌, ℕ, ◌-◌, ◌<◌, ◌≤◌, ◌^◌, List, [], ◌∷◌, length, map, fold, max, sym, ap, ◌∙◌, arith, common_steps, length-map, length-map-range_with_len, AllByRecursion, enumerate_from, flat_map, Queued, Scheduled, arriving_from, departures_of, Fabric, cushion_of, input, SlotRecord, fabric_in, marked_in, LimitedRecord, slots_in, figures_of, input_figures, slacks, gone_in, list_of, each_pair, all_both, Differ, Has, all_from_has, all_of_has, has_image, has_left, has_right, image_has, figures_told, frozen_told, taken_of, opening, IsWhole, IsParted, seen_as, sent_as, state_of, IsRead, Kept, Runs, Switch, switch_of, named_in, queued_in, Taken, Tables, openings_of, AreRankNumbers, IsInRange, IsNamed, IsSeen, IsSent, state_text, Named, Sent, State, told_state, CanBeTakenUp, StoppedRunsAreSound, few_kept, of_images, all_weaker, written_in_run, arriving_length, counts_more, figures_fold, stable_limited_too, empty_list, limited_numbered, IsFabricRun, all_made, all_give, length-replicate, ◌==◌, Bool, Some, false, filter, refl, get_or-map, get_or-replicate, range_with_len, Cell, mark_at, refused_counts, refused_in, with_refused, fabric_judged, admissions_in, coming, has_name, unnamed, AreWholePackets, Name, refused_here, Refused, whole, all_stand, tallies_up, packets_alike, tally_is, IsTally, cells_in, all_arriving, all_in_range, all_judged, sum, proposals_in, ◌*◌, kinds_summed, tests_turned, kept_has, as_name, has_as_name}
 use Rattle.cq_audit.proofs.Following.{run_within as of_its_slots}
 use Rattle.cq_resume.proofs.Cut.{filter_both}
 use Rattle.cq_resume.proofs.Joining.{parts_join as join}
@@ -13,7 +13,7 @@ use Rattle.cq_stopped.proofs.Ran.{least_of, AreLow, IsConfigured, configured, Kn
 use Rattle.cq_stopped.proofs.Lined.{AreMoved, inputs_same, names_counted, output_same}
 use Rattle.cq_stopped.proofs.Standing.{is_of_one, state_sized, states_many, fabric_same, sent_same, arrivals_are, named_at, below_floors, keep_order, stand_in_order, has_shape, slack_kept}
 use Rattle.cq_stopped.proofs.Stepping.{none_first, most_of_all, IsRecordedWithin, Ended, known_first, run_known}
-use Rattle.cq_stopped.proofs.Walk.{Walks, as_name, counted_flat, has_as_name, same_counts, walked}
+use Rattle.cq_stopped.proofs.Walk.{Walks, counted_flat, same_counts, walked}
 use Rattle.cq_ideal.proofs.AtInput.{of_input, refused_are as refused_of_input, stand_in}
 use Rattle.cq_resume.proofs.Adding.{Tallied, left_before, mark_at as walk_mark}
 use Rattle.cq_stopped.proofs.Joined.{by_places}

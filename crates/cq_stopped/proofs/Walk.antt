@@ -3,7 +3,7 @@
 -- where its output has a limit, and the other cells of the packet are for the same output. So a walk over the arrivals
 -- that compares each with the mark before it ends, with the mark of the run: each packet is named whole or not at all,
 -- and the mark is that of the packet that began last. And what was refused slot by slot is what is not named.
-use Rattle.cq_stopped.proofs.Terms.{fits_ok, after_input_ok, only_ok, came_to, Ok, ranking, Ranking, Machine, sum_by, sum_by-cons, rules, ◌≡◌, ℕ, zero, suc, ◌+◌, ◌<◌, eqb, Bool, true, false, List, [], ◌∷◌, length, Option, None, Some, refl, arith, length-append, map, and_parts, and_right, cases_Bool, cases_lt, eq-eqb, eqb-true, le-ltb, lt-leb, common_steps, map-append, filter-append, cons_option, filter, is_some, not, flat_map, arrival_at, Arrival, arriving, arriving_at, Cell, Queued, is_from, admitted_at, marks_kept, Marked, admission, held_after, mark_after, mark_at, marks_after, arriving_from, cells_refused, packets_refused, with_refused, Fabric, fabric_held, LimitedRecord, admissions_in, all_from_has, found_at, ComeBehind, IsLine, coming, has_limit, mark_on, has_name, Runs, Switch, is_named, key_of, Named, ArrivesIn, refused_here, where_up, Refused, is_between, one_comes, whole, cells_in, Name, filter_none, most_ports}
+use Rattle.cq_stopped.proofs.Terms.{fits_ok, after_input_ok, only_ok, came_to, Ok, ranking, Ranking, Machine, sum_by, sum_by-cons, rules, ◌≡◌, ℕ, zero, suc, ◌+◌, ◌<◌, eqb, Bool, true, false, List, [], ◌∷◌, length, Option, None, Some, refl, arith, length-append, and_parts, and_right, cases_Bool, cases_lt, eq-eqb, eqb-true, le-ltb, lt-leb, common_steps, map-append, filter-append, cons_option, filter, is_some, not, flat_map, arrival_at, Arrival, arriving, arriving_at, Cell, Queued, is_from, admitted_at, marks_kept, Marked, admission, held_after, mark_after, mark_at, marks_after, arriving_from, cells_refused, packets_refused, with_refused, Fabric, fabric_held, LimitedRecord, admissions_in, all_from_has, found_at, ComeBehind, IsLine, coming, has_limit, mark_on, Runs, Switch, ArrivesIn, refused_here, where_up, Refused, is_between, one_comes, whole, cells_in, filter_none, most_ports}
 use Rattle.cq_ideal.proofs.AtInput.{is_shown}
 use Rattle.cq_stopped.proofs.Ran.{came_in, came_of}
 
@@ -123,16 +123,3 @@ pub same_counts : (xs ys : List Cell) → ((p : Cell → Bool) → length (filte
 unfolding cells_refused packets_refused
 same_counts xs ys same [] = refl
 same_counts xs ys same (r ∷ counts) = grind (arith, common_steps, r.output, same_counts xs ys same counts)
-
--- ## Names that stand for those of a state
-
-abbrev pub no_cell : Cell
-no_cell =
-    record { id = record { input = 0; packet = 0; index = 0 }; output = 0; class = 0; last = false; at = 0; len = 0 }
-
-abbrev pub as_name : Named → Name
-as_name c = record { queued = record { cell = no_cell; key = key_of c }; sent = None }
-
-pub has_as_name : (names : List Named) (a : Arrival) → is_named names a ≡ has_name (map as_name names) a
-has_as_name [] a = refl
-has_as_name (c ∷ names) a = grind (arith, common_steps, has_as_name names a)
