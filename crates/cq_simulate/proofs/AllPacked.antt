@@ -5,8 +5,7 @@ use Rattle.cq_simulate.proofs.Terms.{if◌then◌else◌, cons_option, Has, appe
 unfoldable use Rattle.cq_base.specs.Pieces.{cells_of}
 use Rattle.cq_pcap.specs.Written.{written}
 use Rattle.cq_simulate.specs.declared.packing.Packing.{Packing}
-use Rattle.cq_simulate.proofs.Departed.{departed_captured, departed_class, departed_output}
-use Rattle.cq_simulate.proofs.OfPackets.{flow_is, packet_cells, parts_of}
+use Rattle.cq_simulate.proofs.OfPackets.{departed_captured, departed_class, departed_output, flow_is, packet_cells, parts_of}
 
 -- The pieces of an output's cells, joined packet by packet. Of each input and class the cells for an output are
 -- those of one packet after another, each whole and in order; those that leave are all cells of some of these

@@ -1,12 +1,10 @@
 -- Every packet leaves its output whole or is counted as refused there, once. The fabric sends and refuses what the
 -- ideal switch does, and there each packet of an input leaves or is refused: what comes are whole packets, and the
 -- cells of one are for one output.
-use Rattle.cq_simulate.proofs.Terms.{all_in_range, bit, common_steps, rules, append-nil, ◌≡◌, ℕ, ◌<◌, List, length, Ok, ap, arith, ◌+◌, Bool, [], ◌∷◌, map, Option, cond, not, filter, refl, sym, ◌∙◌, ◌-◌, AllByRecursion, range_with_len, All-from_recursion, all_from_has, all_of_has, Arrival, arriving, Departure, traffic_is, at_input, arrivals, packets_of, arrivals_at, cell_of, cells, packet_at, come_in_order, departures_of, departures_limited, whole_limited_run, slots_of_limited_run, LimitedRan, refused_in, packets_refused, AreOfPackets, came_at, AreJudged, LimitedRecord, Captured, AreTables, ports_of, Tables, machines_of, IsFabricRun, departures_in_run, refused_in_run, ideal_departures, ran_ideal, Cell, all_found, all_present, all_weaker, present, judged, Admission, Marked, admission, refused, is_first, arriving_from, IdealState, Machine, ◌&&◌, ◌==◌, length-map, length-filter, sum-map, came_in_flow, ends_packet_at, packets_out, eq-eqb, cells_above, route, each_leaves_or_is_refused, refuses_none_elsewhere, KeepTheirOutput, LeaveOrAreRefused, most_ports, filter_agree, cases_eq, ne_eqb, kept_has, all_both, of_images, all_filter, eqb-true, filter_both, length-append, filter-append, ◌++◌, leaves_in_flow, left_in_flow}
-use Rattle.cq_simulate.proofs.Departed.{all_cells, came_as, left_in_packets}
+use Rattle.cq_simulate.proofs.Terms.{all_in_range, bit, common_steps, rules, append-nil, ◌≡◌, ℕ, ◌<◌, List, length, Ok, ap, arith, ◌+◌, Bool, [], ◌∷◌, map, Option, cond, not, filter, refl, sym, ◌∙◌, ◌-◌, AllByRecursion, range_with_len, All-from_recursion, all_from_has, all_of_has, Arrival, arriving, Departure, traffic_is, at_input, arrivals, packets_of, arrivals_at, cell_of, cells, packet_at, come_in_order, departures_of, whole_limited_run, slots_of_limited_run, LimitedRan, refused_in, packets_refused, AreOfPackets, came_at, AreJudged, LimitedRecord, Captured, AreTables, ports_of, Tables, machines_of, IsFabricRun, departures_in_run, refused_in_run, ideal_departures, ran_ideal, Cell, all_found, all_present, all_weaker, present, judged, Admission, Marked, admission, refused, is_first, arriving_from, IdealState, Machine, ◌&&◌, ◌==◌, length-map, length-filter, sum-map, came_in_flow, ends_packet_at, packets_out, eq-eqb, cells_above, route, each_leaves_or_is_refused, refuses_none_elsewhere, KeepTheirOutput, LeaveOrAreRefused, most_ports, filter_agree, cases_eq, ne_eqb, kept_has, all_both, of_images, all_filter, eqb-true, filter_both, length-append, filter-append, ◌++◌, leaves_in_flow, left_in_flow}
+use Rattle.cq_simulate.proofs.OfPackets.{all_cells, came_as, left_in_packets, by_packet, flow_in_line, line_cells, packet_cells, packets_come, runnable, filter_images, filter_same, kinds_summed, of_kind, one_is, one_where, tally, tests_turned}
 use Rattle.cq_simulate.proofs.FabricLaws.{slot_by_slot}
-use Rattle.cq_simulate.proofs.OfPackets.{by_packet, flow_in_line, line_cells, packet_cells, packets_come, runnable}
 use Rattle.cq_simulate.specs.EachPacket.{EachPacketOnce, number_for, number_from, output_of, times_left, times_refused}
-use Rattle.cq_simulate.proofs.Tallies.{filter_images, filter_same, kinds_summed, of_kind, one_is, one_where, tally, tests_turned}
 
 -- Each packet leaves its output or is refused there, once, and so are all of them together. Where a packet is one of
 -- those that are taken in at its input its last cell leaves in its flow, and where it is not its first cell is one of
@@ -82,8 +80,7 @@ module _ (t : Tables) (captures : List (List Captured)) (sent : List Departure) 
     last_one : tally (λ cell. in_flow cell && cell.last) its ≡ bit goes
     unfolding cell_of cells
     last_one =
-        let some = cells_above (length (packet_at captures input k).body) t.cell_bytes in
-        one_cell _ (cells t captures input k - 1) (omega arith) (search (arith, rules, cases_eq, eq-eqb, ne_eqb))
+        search (arith, rules, cells_above, one_cell (λ cell. in_flow cell && cell.last), cases_eq, eq-eqb, ne_eqb)
 
     first_one : tally begins its ≡ bit goes
     unfolding cell_of cells
@@ -109,11 +106,10 @@ module _ (t : Tables) (captures : List (List Captured)) (sent : List Departure) 
 
     is_refused : times_refused input k j refused ≡ cond (not (taken k)) (bit goes) 0
     is_refused =
-        let p = parted input in_captures in
         let line = came_at input (arrivals t captures) in
         let its_own = of_kind (λ (cell : Cell). cell.id.packet) k (λ n. not (taken n)) line in
         let turned = tests_turned begins (λ (cell : Cell). of_input cell && own cell) refused in
-        grind (arith, common_steps, p.others, in_line, first_one, filter_both own)
+        grind (arith, common_steps, (parted input in_captures).others, in_line, first_one, filter_both own)
 
     pub each_once : times_left input k j sent + times_refused input k j refused ≡ bit goes
     each_once = search (arith, rules, leaves, is_refused, bit)
@@ -192,8 +188,7 @@ module _ (t : Tables) (captures : List (List Captured)) (tables : AreTables t)
     left : AllByRecursion (λ d. IsOfPacket t captures d.queued.cell) sent
     unfolding ideal_departures
     left =
-        let whole = left_in_packets t captures sent tables many (ap departures_limited is) in
-        search (arith, rules, all_from_has, came_as came sent whole, all_of_has, all_of_packets t captures)
+        search (rules, all_from_has, came_as came, left_in_packets t captures, is, all_of_has, all_of_packets t)
 
     lost : AllByRecursion (IsOfPacket t captures) (refused_in ran.admissions)
     unfolding ran_ideal
@@ -202,16 +197,14 @@ module _ (t : Tables) (captures : List (List Captured)) (tables : AreTables t)
     pub packets_of_ran : EachPacketOnce t captures sent (refused_in ran.admissions)
     unfolding ran_ideal
     packets_of_ran =
-        let ports : ℕ = ports_of t.setup in
         let runs = runnable t.setup came tables.setup (traffic_is t captures tables many) in
         let packets : (input : ℕ) → input < most_ports → AreOfPackets 0 (came_at input came) =
         search (arith, rules, come_in_order, packets_come t captures) in
-        let parted = each_leaves_or_is_refused t.limits (machines_of t.setup) ports _ came ran runs is in
+        let parted = each_leaves_or_is_refused t.limits (machines_of t.setup) (ports_of t.setup) _ came ran runs is in
         search (arith, rules, each_once, left, lost, all_once, refuses_none_elsewhere, keep_output, parted, packets)
 
 pub each_packet_once : (t : Tables) (captures : List (List Captured)) (rs : List LimitedRecord) → AreTables t →
     length captures ≡ ports_of t.setup → IsFabricRun t (arrivals t captures) rs →
     EachPacketOnce t captures (departures_in_run rs) (refused_in_run rs)
 each_packet_once t captures rs tables many is =
-    let slot_by_slot-here = slot_by_slot t (arrivals t captures) rs in
-    search (arith, rules, traffic_is t captures tables many, packets_of_ran t captures tables many)
+    search (arith, rules, traffic_is, packets_of_ran t captures, slot_by_slot t (arrivals t captures) rs)

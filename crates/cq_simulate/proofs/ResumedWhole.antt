@@ -5,9 +5,8 @@
 use Rattle.cq_simulate.proofs.Terms.{common_steps, rules, map-append, ◌≡◌, ℕ, ◌<◌, Bool, true, false, List, [], ◌∷◌, ◌++◌, length, map, filter, Option, Some, refl, sym, ap, ◌∙◌, arith, ◌+◌, ◌≤◌, not, cond, ◌&&◌, ◌==◌, All, slice_index_or, nat_lt, AllByRecursion, AllPairs, and_from, and_parts, cases_lt, eq-eqb, eqb-true, lt-ltb, ltb-true, cases_eq, cond-false, le-ltb, Arrival, IsBefore, Departure, Queued, IsLater, IsTraffic, comes_in_flow, leaves_in_flow, left_in_flow, is_kind, shown, HasWaited, Stands, line_at, rest_of, Agrees, Fabric, ideal_of, list_of, departure_of, sent_told, firsts_at, is_refused, latest, IsSound, OfOneFlow, IsBelowFloor, AreWholePackets, HasShape, Switch, arriving_cell, class_of, fabric_told, is_ahead, is_named, key_of, named_in, output_of, queued_in, queued_of, EachPair, each_pair, buffer_is, comes, found_at, in_buffer, in_list, in_order, is_cell_of, its_output, its_slot, list_is, of_traffic, ports_are, queued_differ, queued_named, some_cell, Has, all_from_has, all_of_has, has_cases, has_image, has_kept, has_left, has_right, image_has, kept_has, pair_of_has, IsInRange, Sent, State, NoLater, all_weaker, Machine, machine_at, AreOfPackets, key_laws, all_has, looked_up, pairs_kept, pairs_kept_with, pairs_looked_up, pairs_with, Named, any_has, has_any, any_alike, pairs_mapped, pairs_joined, has_looked_up, same_pairs, filter_none, filter_all, append_assoc, take_all, filter-append, get_or-map-range_with_len, Cell, traffic_is, arrivals, schedule_of, comes_at_input, AreOfClasses, present, flow_came, no_port, is_of_flow, of_flow, is_run_of, comes_from, Marked, arriving_from, IsRunnable, came_in_flow, departures_of, IdealState, LimitedRan, cells_at, agrees_of, empty_together, LimitedRunsAlike, LimitedFabricRun, LimitedRecord, admissions_in, slots_in, gone_in, Captured, IsInputBest, frozen_told, marks_told, taken_of, IsResumed, Kept, switch_of, Taken, GoesOn, goes_on, AreTables, ports_of, Tables, openings_of, LeaveInOrder, LeaveWhole, LeftInOrder, CanBeTakenUp, slots_fit, all_filter, all_in_range, class_in_slot, none_came, flow_on, whole_on, StandAt, stand_in, best_act_alike, most_ports, filter_both, filter_agree, of_images, LineStands, as_first, line_ends, mark_is, is_line, packets_alike, schedule_known, ArePackets, coming, has_limit, has_name, mark_on, Name, le-leb, list_any, inl, IsScheduleOf, None}
 use Rattle.std.proofs.lemmas.Simd.{map-map}
 use Rattle.cq_ideal.proofs.AtInput.{cells_of}
-use Rattle.cq_simulate.proofs.OfPackets.{as_packets, line_packets, none_at, none_from, right_classes, runnable}
+use Rattle.cq_simulate.proofs.OfPackets.{as_packets, line_packets, none_at, none_from, right_classes, runnable, filter_images, filter_same}
 use Rattle.cq_simulate.proofs.TakenUp.{machines_many}
-use Rattle.cq_simulate.proofs.Tallies.{filter_images, filter_same}
 
 -- ## Packet after packet
 
@@ -128,10 +127,9 @@ module _ (w : Switch) (s : State) (i : ℕ) where
     ends : i < ports → mark_on is_told (has_limit w.limits) false before ≡ Some mark
     ends inside =
         let named : has_name standing ≡ is_named (named_in s) = λ k a. sym (has_as_name (named_in s) a) k in
-        let over = line_ends (has_name standing) (has_limit w.limits) (coming i 0 s.head.next w.came)
-        (is_line w.limits ports s.head.next w.came standing are i inside) stands_by in
+        let whole = is_line w.limits ports s.head.next w.came standing are i inside in
         let is = mark_is w.limits ports s.head.next w.came standing are i inside stands_by in
-        rw (← early, ← named) (search (arith, rules, over, is, named))
+        rw (← early, ← named) (search (arith, rules, line_ends (has_name standing), whole, stands_by, is, named))
 
     -- those of the last one just where the mark is down
     mark_says : (a : Arrival) → Has before a → packet a + 1 ≡ begin_from → not mark ≡ is_told a
@@ -275,8 +273,7 @@ module _ (w : Switch) (s : State) (in_range : IsInRange s) (shape : HasShape w s
 
     ahead : (a b : Named) → Has (queued_in s) a → Has (queued_in s) b → Ahead a b
     ahead a b first second =
-        all_has (Ahead a) (queued_in s) b
-        (all_has (λ (m : Named). All (Ahead m) (queued_in s)) (queued_in s) a sound.flows.queued first) second
+        search (rules, all_has (λ (m : Named). All (Ahead m) (queued_in s)), all_has (Ahead a), sound.flows.queued)
 
     one_name : (a b : Named) → Has (queued_in s) a → Has (queued_in s) b → a.slot ≡ b.slot → a.input ≡ b.input → a ≡ b
     one_name a b first second slots inputs = grind (arith, common_steps, pair_of_has, queued_differ)
@@ -354,8 +351,7 @@ module _ (w : Switch) (s : State) (in_range : IsInRange s) (shape : HasShape w s
 
     among_buffered : (n : Named) (q : Queued) → InFlow n q → Has s.buffered n → Has waiting q
     among_buffered n q of has =
-        let low = of_traffic w s in_range shape sound traffic n q of.is in
-        search (arith, rules, has_kept, has_looked_up, buffer_is, is_kind, agrees)
+        search (rules, of_traffic w s in_range shape sound traffic n q, has_kept, has_looked_up, buffer_is, agrees)
 
     is_there : (x : Arrival) → Has told x → Has (map as_arrival (gone ++ waiting)) x
     is_there x has =
@@ -387,11 +383,10 @@ module _ (w : Switch) (s : State) (in_range : IsInRange s) (shape : HasShape w s
 
       has_waited : (q : Queued) → Has there q → HasWaited m (slice_index_or s.ranks j []) s.head.next 0 q
       has_waited q has =
-          let it = waits_there q has in
-          let n = it.0 in
-          let floor = all_has (IsBelowFloor w s) (queued_in s) n sound.floors it.1 in
-          let early = comes w s in_range shape sound traffic n (queued_named w s in_range shape sound traffic n it.1) in
-          search (arith, rules, of_traffic w s in_range shape sound traffic n q, is_cell_of w.came n q it.2)
+          let (n, own, is, here) = waits_there q has in
+          let floor = all_has (IsBelowFloor w s) (queued_in s) n sound.floors own in
+          let early = comes w s in_range shape sound traffic n (queued_named w s in_range shape sound traffic n own) in
+          search (arith, rules, of_traffic w s in_range shape sound traffic n q, is_cell_of w.came n q is)
 
       pub stands_there : Stands m (slice_index_or (ideal_of f).ranks j []) s.head.next 0 there
       unfolding fabric_told
@@ -467,7 +462,7 @@ module _ (w : Switch) (s : State) (in_range : IsInRange s) (shape : HasShape w s
       goes_as_marked : (p : ℕ) → p + 1 ≡ begin_from w s i → taken p ≡ not (mark w s i)
       unfolding next_after
       goes_as_marked p last =
-          search (arith, rules, whole_on, over, late_packets, get_or-map-range_with_len, none_at, cases_lt i ports)
+          search (arith, rules, whole_on, over, late_packets, get_or-map-range_with_len, none_at, cases_lt i)
 
       -- and of all packets
       abbrev takes : ℕ → Bool
@@ -498,8 +493,7 @@ module _ (w : Switch) (s : State) (in_range : IsInRange s) (shape : HasShape w s
 
         takes_parts : filter takes_cell (came_in_flow i c j w.came) ≡ cells_of (told i c j) ++ filter taken_cell later
         takes_parts =
-            let parts = parted_at w s i (line w s i) rises in
-            grind (arith, common_steps, flow_at, map-append, filter-append, cells_of, early_taken, late_taken)
+            search (rules, parted_at w s i, rises, flow_at, map-append, filter-append, early_taken, late_taken)
 
         flow_late : flow_came i c j slots ≡ later
         unfolding of_flow
@@ -515,9 +509,8 @@ module _ (w : Switch) (s : State) (in_range : IsInRange s) (shape : HasShape w s
         at_port : j < ports → left_in_flow i c j kept.sent ≡ filter takes_cell (came_in_flow i c j w.came)
         at_port inside =
             let ranks = ap (λ (l : List (List ℕ)). length l) agrees.ranks in
-            let all = many_are in
             let flow = flow_on w.limits w.machines next slots beside ran ideal_alike.ran stand over i (begin_from w s i)
-            late_packets c j (runs.machines j inside) (omega (arith, agrees.ports)) (omega arith)
+            late_packets c j (runs.machines j inside) (omega (arith, agrees.ports, many_are)) (omega (arith, many_are))
             (stands_there i c j (omega arith) (classes j inside)) (of_classes j) in
             grind (arith, common_steps, left_is, flow, append_assoc, told_flow i c j, flow_late, takes_parts)
 
@@ -539,11 +532,10 @@ resumed_in_order t captures from kept are many up resumed =
     let runs = runnable t.setup (arrivals t captures) are.setup come in
     let it = up.comes in
     let of : IsScheduleOf t (schedule_of t captures) = record { captures = captures; ports = many; schedule = refl } in
-    let known = schedule_known t (schedule_of t captures) are of in
     leaves_in_order (switch_of t (schedule_of t captures)) up.state it.in_range it.shape it.sound
     (rw (machines_many t) come) (ports_of t.setup) (openings_of t.setup) (machines_many t) (omega arith) runs
-    (right_classes t.setup) (rw many at known.packets) (λ i. line_packets t captures i are many) kept
-    (rw it.told at resumed)
+    (right_classes t.setup) (rw many at (schedule_known t (schedule_of t captures) are of).packets)
+    (λ i. line_packets t captures i are many) kept (rw it.told at resumed)
 
 pub resumed_whole : (t : Tables) (captures : List (List Captured)) (from : Taken) (kept : Kept) → AreTables t →
     length captures ≡ ports_of t.setup → CanBeTakenUp (switch_of t (schedule_of t captures)) from →

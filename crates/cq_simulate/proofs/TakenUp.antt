@@ -100,8 +100,7 @@ module _ {t : Tables} {s : Scheduled} {taken : Taken} (sound : CanBeTakenUp (swi
       IsReadyOn (map machine_from engine.fixed) s.came engine sent note
   runs_on engine is sent note counted all few sent_room note_room =
       let goes = goes_of t s taken sound fit.traffic in
-      let holds : HoldsSome s.came engine = search (arith, rules, machines_many, machine_count, All-from_recursion) in
-      search (arith, rules, goes_from engine sent note fit holds)
+      search (arith, rules, goes_from engine sent note fit, goes, machines_many, machine_count, All-from_recursion)
 
 -- How a run of tables begins: the machines are those of the setup's disciplines, each in its opening state, all
 -- marks are down, and there is room for all cells that arrive.

@@ -23,7 +23,7 @@ pub use Rattle.cq_scfq.specs.Disciplines.{machine_of, machines_of, openings_of}
 pub use Rattle.cq_ideal.proofs.AtInput.{come_in_order, comes_at_input, comes_from, line_at, rest_of}
 pub use Rattle.cq_ideal.proofs.Counting.{counts_fit, none_counted, zero_fits}
 pub use Rattle.cq_ideal.proofs.Parted.{all_slots, none_waits, nothing_left, arriving_here, arriving_length, arriving_parts, departures_append}
-pub use Rattle.cq_ideal.proofs.FlowCount.{come_count-first, come_count-traffic_of, none_after, all_found, all_present, arriving_is}
+pub use Rattle.cq_ideal.proofs.FlowCount.{come_count-first, come_count-traffic_of, none_after, all_found, all_present}
 unfoldable pub use Rattle.cq_ideal.proofs.FlowCount.{found}
 pub use Rattle.cq_ideal.proofs.FlowStands.{NoLater, HasWaited, Stands, is_kind, is_of_flow, shown, AreOfClasses, present}
 pub use Rattle.cq_ideal.proofs.FlowRun.{flow_came, no_port}

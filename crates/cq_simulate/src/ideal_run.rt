@@ -28,7 +28,7 @@ pub struct IdealRun {
 ///
 /// - `Tag`: a rank does not fit 128 bits; the first such fault of the ideal switch.
 /// - `NoMemory`: there was not the memory for the lists and the departures.
-#[tactic(auto, using(crate::proofs::Departed::slots_are, crate::proofs::Departed::last_departs_without_limits))]
+#[tactic(auto, using(crate::proofs::OfPackets::slots_are, crate::proofs::OfPackets::last_departs_without_limits))]
 pub fn run_ideal(
     alloc: Global,
     tables: &Tables,

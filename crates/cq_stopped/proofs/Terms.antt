@@ -80,6 +80,6 @@ pub use Rattle.cq_laws.proofs.{AfterTransfer.rest_of, IdealLists.among_put_all, 
 pub use Rattle.cq_resume.proofs.{Coming.is_between, Coming.one_comes, Judging.packets_alike, Judging.tally_is, Scheduling.schedule_known, Tallied.whole, Upheld.all_stand, Upheld.tallies_up, Walking.cells_in}
 pub use Rattle.cq_resume.specs.declared.found.Name.{Name}
 pub use Rattle.cq_traffic.proofs.{Arriving.arrivals_for, Arriving.place_of}
-pub use Rattle.cq_simulate.proofs.{FabricCounts.all_wait, OnceASlot.AreNumbered}
-pub use Rattle.cq_simulate.proofs.{Departed.small_cells, EachPacket.all_arriving, EachPacket.all_judged, OnceASlot.limited_numbered, OfPackets.keeps_laws, OfPackets.kind, OfPackets.machine_is, OfPackets.right_classes, OfPackets.right_size, ResumedWhole.as_name, ResumedWhole.has_as_name, Tallies.filter_images, Tallies.kinds_summed, Tallies.tests_turned}
+pub use Rattle.cq_simulate.proofs.{FabricSteps.all_wait, FabricLaws.AreNumbered}
+pub use Rattle.cq_simulate.proofs.{OfPackets.small_cells, EachPacket.all_arriving, EachPacket.all_judged, FabricLaws.limited_numbered, OfPackets.keeps_laws, OfPackets.kind, OfPackets.machine_is, OfPackets.right_classes, OfPackets.right_size, ResumedWhole.as_name, ResumedWhole.has_as_name, OfPackets.filter_images, OfPackets.kinds_summed, OfPackets.tests_turned}
 pub use Rattle.cq_simulate.specs.{FabricRuns.IsFabricRun}
