@@ -1,6 +1,5 @@
 mod Terms
 pub mod FabricLaws
-pub mod FabricSteps
 pub mod ResumedWhole
 pub mod Steps
 pub mod OfPackets

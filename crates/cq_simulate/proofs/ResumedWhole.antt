@@ -246,8 +246,7 @@ module _ (w : Switch) (s : State) (in_range : IsInRange s) (shape : HasShape w s
     -- what its name is
     name_in_flow : (n : Named) (q : Queued) → InFlow n q →
         (n.input ≡ i) × (output_of w.came n ≡ j) × (class_of w.came n ≡ c)
-    name_in_flow n q of =
-        search (arith, rules, of_traffic w s in_range shape sound traffic n q of.is, its_output, eqb-true)
+    name_in_flow n q of = search (arith, rules, of_traffic w s in_range shape sound traffic n q, its_output, eqb-true)
 
     -- ## They rise
 

@@ -2,7 +2,7 @@
 -- that it stands at, and what is to come comes from that slot on, so both together are no more than what comes in all:
 -- at each input, for each output, and of all cells. So the run of a fabric that is made for tables can begin: what the
 -- calls say that made it is one record. And what its end says it says of the tables.
-use Rattle.cq_simulate.proofs.Terms.{length-filter_both, ◌≡◌, ℕ, ◌+◌, ◌-◌, ◌*◌, ◌≤◌, ◌<◌, ◌^◌, Bool, false, List, [], ◌∷◌, length, map, Option, refl, arith, rules, common_steps, ◌==◌, All, sum, range_with_len, slice_index, cases_lt, le-leb, le-ltb, lt-leb, lt-ltb, ne_eqb, length-map, length-replicate, get_or-map-range_with_len, Arrival, RoomView, Departure, Transfer, IsTraffic, is_from, is_to, number_of, Scheduled, Setup, CanGoOn, EngineView, fresh_engine, zero_fits, input, fabric_held, held_for, empty_list, Machine, class_count, GoesOn, came_before, goes_on, switch_of, Taken, classes_of, ports_of, Tables, machine_from, machine_of, machines_of, GoesOnFrom, IsReadyOn, to_come, CanBeTakenUp, IsScheduleFor, All-from_recursion, IsSoundFabric, nothing_for, fabric_listed, zero, suc, filter, filter_both, filter_agree, not, cases_eq, sum_by-cons, ap, take_all, frozen_of, Frozen, marked_fabric, departures_limited, counts_more, openings_of, IsKeptOf, unpacked_run, kept_of, IsFreshFor, HasKept, IsRefusalOn, IsRefusalOf, ideal_departures, ran_ideal, limited_whole_fault, slots_fit, PackedFabricRun, RunRefusal, IsResumed, RunsOn, Switch, best_act_alike_from_empty, figures_fold, HasPartedTo, IsResumeFault, IsParted}
+use Rattle.cq_simulate.proofs.Terms.{length-filter_both, ◌≡◌, ℕ, ◌+◌, ◌-◌, ◌*◌, ◌≤◌, ◌<◌, ◌^◌, Bool, false, List, [], ◌∷◌, length, map, Option, refl, arith, rules, common_steps, ◌==◌, All, sum, range_with_len, slice_index, cases_lt, le-leb, le-ltb, lt-leb, lt-ltb, ne_eqb, length-map, length-replicate, get_or-map-range_with_len, Arrival, RoomView, Departure, Transfer, IsTraffic, is_from, is_to, number_of, Scheduled, Setup, CanGoOn, EngineView, fresh_engine, zero_fits, input, fabric_held, held_for, empty_list, Machine, class_count, GoesOn, came_before, goes_on, switch_of, Taken, classes_of, ports_of, Tables, machine_from, machine_of, machines_of, GoesOnFrom, IsReadyOn, to_come, CanBeTakenUp, IsScheduleFor, All-from_recursion, IsSoundFabric, nothing_for, fabric_listed, zero, suc, filter, filter_both, filter_agree, not, cases_eq, sum_by-cons, ap, take_all, frozen_of, Frozen, marked_fabric, departures_limited, counts_more, openings_of, IsKeptOf, unpacked_run, kept_of, IsFreshFor, HasKept, IsRefusalOn, IsRefusalOf, ideal_departures, ran_ideal, limited_whole_fault, slots_fit, PackedFabricRun, RunRefusal, IsResumed, RunsOn, best_act_alike_from_empty, figures_fold, HasPartedTo, IsResumeFault, IsParted}
 use Rattle.cq_simulate.specs.ScheduleFor.{by_port}
 use Rattle.cq_simulate.specs.declared.refusal.RunRefusal.TheVariants as refusal
 
@@ -119,9 +119,8 @@ module _ (M : List ℕ → Machine) (t : Tables) (s : Scheduled) (first : Engine
         IsResumed (switch_of t s) (standing first sent note) (kept_of (unpacked_run run))
     resumes run kept =
         let has = kept.ran in
-        let engine : Switch = record (switch_of t s) { machines = map M first.fixed; limits = first.limits } in
-        let runs : RunsOn engine first.next (marked_fabric first) has.records (marked_fabric kept.last) =
-        search (arith, rules, take_all) in
+        let runs : RunsOn (record (switch_of t s) { machines = map M first.fixed; limits = first.limits }) first.next
+        (marked_fabric first) has.records (marked_fabric kept.last) = search (arith, rules, take_all) in
         let runs_there = rw (limits, machines) at runs in search (arith, rules)
 
 -- ## What is known once its run can begin

@@ -34,7 +34,7 @@ pub use Rattle.cq_ideal.proofs.LimitedRuns.{is_run_of, judged, run_fault}
 pub use Rattle.cq_ideal.proofs.Refusals.{counts_more, each_once}
 pub use Rattle.cq_ideal.proofs.Waiting.{counted, total_same}
 unfoldable pub use Rattle.cq_ideal.proofs.Waiting.{total, waiting}
-pub use Rattle.cq_ideal.specs.Admission.{Admission, Marked, NoLimits, admitted, admitted_in, is_first, marked, nothing_refused, refused}
+pub use Rattle.cq_ideal.specs.Admission.{Admission, Marked, NoLimits, admitted, admitted_in, is_first, nothing_refused, refused}
 unfoldable pub use Rattle.cq_ideal.specs.Admission.{admission}
 pub use Rattle.cq_ideal.specs.Ending.{first_slots, slots_of}
 unfoldable pub use Rattle.cq_ideal.specs.Ending.{arriving_from}

@@ -178,7 +178,7 @@ pub fn skip<R: Rank, F: FnOnce(&Coming) -> Slot>(
 
 // Runs a fabric of so many ports on over all cells that are still to come. What is sent in a slot stands in a list for
 // as many as there are ports, until it is packed. The error is the first tag fault, or want of memory.
-#[tactic(auto, using(crate::proofs::FabricSteps::crossing_first, crate::proofs::Steps::enough_are))]
+#[tactic(auto, using(crate::proofs::Steps::crossing_first, crate::proofs::Steps::enough_are))]
 fn run_slots<T: Threads + Sync, R: Rank, G: Gate>(
     rt: &T,
     alloc: Global,

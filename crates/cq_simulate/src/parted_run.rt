@@ -181,7 +181,7 @@ fn quiet_before(schedule: &Schedule, slot: Slot, last: Slot, coming: &Coming) ->
 }
 
 // Runs a fabric over the slots from the next one up to the last, which it does not run.
-#[tactic(auto, using(crate::proofs::FabricSteps::crossing_first))]
+#[tactic(auto, using(crate::proofs::Steps::crossing_first))]
 fn run_before<T: Threads + Sync, R: Rank, G: Gate>(
     rt: &T,
     alloc: Global,

@@ -9,7 +9,7 @@ use Rattle.cq_stopped.proofs.Terms.{rules, ◌≡◌, ℕ, zero, suc, ◌+◌, �
 use Rattle.cq_ideal.proofs.Waiting.{sent_by}
 use Rattle.std.proofs.lemmas.List.Sums.{get_or-le-sum_by}
 use Rattle.cq_ideal.proofs.FlowRun.{come_count}
-use Rattle.cq_simulate.proofs.FabricSteps.{fewer_held, shorter, slot_proposed}
+use Rattle.cq_simulate.proofs.Steps.{fewer_held, shorter, slot_proposed}
 use Rattle.cq_stopped.proofs.Ran.{IsConfigured, DepartsBefore, Follows, IsHeld, IsKeyed, IsOwn, IsSentRight, Known, Lane, came_in, left_at, pool_at, came_of}
 use Rattle.cq_stopped.proofs.Lined.{each_departs, left_has, left_more, slot_in_order}
 use Rattle.cq_stopped.proofs.Queueing.{is_less, ranked_low, told_low, pairs_next, IsKnown, IsRanked, ranked_from}

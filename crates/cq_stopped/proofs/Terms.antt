@@ -1,5 +1,5 @@
 -- The words of this crate's proofs that stand elsewhere, each passed on from its place.
-pub use Rattle.cq_base.proofs.Library.{All-from_recursion, All-replicate, All-set, AllByRecursion, AllPairs, Bool, IsSome, List, None, Ok, Option, Some, [], and_from, and_parts, and_right, ap, append-nil, append_assoc, arith, cases_Bool, cases_eq, cases_lt, common_steps, cons_option, count_by, enumerate_from, eq-eqb, eqb, eqb-true, false, false_from_ne_true, fill_by_all, filter, filter-append, filter_map, flat_map, fold, get_or-append-add, get_or-map, get_or-map-range_with_len, get_or-replicate, get_or-set_other, get_or-set_same, get_or_append_left, get_or_default, get_or_past, inl, inr, is_some, le-ltb, length, length-append, length-insert, length-map, length-map-range_with_len, length-replicate, length-set, list_any, lt-leb, lt-ltb, ltb-true, map, map-append, max, min, ne_eqb, not, option_map, range_with_len, recursion_from_All, refl, rules, same_Some, slice_get, slice_index_or, slice_set, suc, sum, sum_by, sum_by-append, sum_by-cons, sym, true, zero, ℕ, ⊎_elim, ◌&&◌, ◌*◌, ◌++◌, ◌+◌, ◌-◌, ◌<◌, ◌==◌, ◌^◌, ◌↔◌, ◌∙◌, ◌∷◌, ◌≡◌, ◌≢◌, ◌≤◌, ◌⊎◌}
+pub use Rattle.cq_base.proofs.Library.{All-from_recursion, All-replicate, All-set, AllByRecursion, AllPairs, Bool, IsSome, List, None, Ok, Option, Some, [], and_from, and_parts, and_right, ap, append-nil, append_assoc, arith, cases_Bool, cases_eq, cases_lt, common_steps, cons_option, count_by, enumerate_from, eq-eqb, eqb, eqb-true, false, fill_by_all, filter, filter-append, filter_map, flat_map, fold, get_or-append-add, get_or-map, get_or-map-range_with_len, get_or-replicate, get_or-set_other, get_or-set_same, get_or_append_left, get_or_default, get_or_past, inl, inr, is_some, le-ltb, length, length-append, length-insert, length-map, length-map-range_with_len, length-replicate, length-set, list_any, lt-leb, lt-ltb, ltb-true, map, map-append, max, min, ne_eqb, not, option_map, range_with_len, recursion_from_All, refl, rules, same_Some, slice_get, slice_index_or, slice_set, suc, sum, sum_by, sum_by-append, sum_by-cons, sym, true, zero, ℕ, ⊎_elim, ◌&&◌, ◌*◌, ◌++◌, ◌+◌, ◌-◌, ◌<◌, ◌==◌, ◌^◌, ◌↔◌, ◌∙◌, ◌∷◌, ◌≡◌, ◌≢◌, ◌≤◌, ◌⊎◌}
 pub use Rattle.cq_base.specs.{Arrivals.arrival_at, declared.cell.Cell.Cell, declared.cell.Departure.Departure, declared.cell.Queued.Queued, declared.cell.Transfer.Transfer}
 pub use Rattle.cq_base.specs.Arriving.{Arrival, arriving_at}
 unfoldable pub use Rattle.cq_base.specs.Arriving.{arriving}
@@ -80,6 +80,6 @@ pub use Rattle.cq_laws.proofs.{AfterTransfer.rest_of, IdealLists.among_put_all, 
 pub use Rattle.cq_resume.proofs.{Coming.is_between, Coming.one_comes, Judging.packets_alike, Judging.tally_is, Scheduling.schedule_known, Tallied.whole, Upheld.all_stand, Upheld.tallies_up, Walking.cells_in}
 pub use Rattle.cq_resume.specs.declared.found.Name.{Name}
 pub use Rattle.cq_traffic.proofs.{Arriving.arrivals_for, Arriving.place_of}
-pub use Rattle.cq_simulate.proofs.{FabricSteps.all_wait, FabricLaws.AreNumbered}
+pub use Rattle.cq_simulate.proofs.{Steps.all_wait, FabricLaws.AreNumbered}
 pub use Rattle.cq_simulate.proofs.{OfPackets.small_cells, EachPacket.all_arriving, EachPacket.all_judged, FabricLaws.limited_numbered, OfPackets.keeps_laws, OfPackets.kind, OfPackets.machine_is, OfPackets.right_classes, OfPackets.right_size, ResumedWhole.as_name, ResumedWhole.has_as_name, OfPackets.filter_images, OfPackets.kinds_summed, OfPackets.tests_turned}
 pub use Rattle.cq_simulate.specs.{FabricRuns.IsFabricRun}

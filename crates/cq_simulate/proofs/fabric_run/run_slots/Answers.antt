@@ -1,6 +1,5 @@
 use Rattle.cq_simulate.proofs.Terms.{◌+◌, ◌-◌, true, ◌∙◌, arith, rules, sym, err_from_is_err_and, quiet_of}
-use Rattle.cq_simulate.proofs.FabricSteps.{over_by, Stands, can_run_here, crossing_over, fault_here, left_here, next_here, run_stands}
-use Rattle.cq_simulate.proofs.Steps.{free_again, goes_on, left_with_all}
+use Rattle.cq_simulate.proofs.Steps.{over_by, Stands, can_run_here, crossing_over, fault_here, left_here, next_here, run_stands, free_again, goes_on, left_with_all}
 use Rattle.cq_simulate.proofs.fabric_run.run_slots.Given as given
 use Rattle.cq_simulate.proofs.fabric_run.run_slots.Goals as goal
 use Rattle.cq_simulate.proofs.fabric_run.run_slots.Goals.{After-arrivals}

@@ -1,6 +1,5 @@
 use Rattle.cq_simulate.proofs.Terms.{◌-◌, true, length, map}
-use Rattle.cq_simulate.proofs.FabricSteps.{Crossing, over_by}
-use Rattle.cq_simulate.proofs.Steps.{IsFree}
+use Rattle.cq_simulate.proofs.Steps.{Crossing, over_by, IsFree}
 use Rattle.cq_simulate.proofs.fabric_run.run_slots.Given as goal
 
 abbrev pub invariant-slots : goal.invariant-slots

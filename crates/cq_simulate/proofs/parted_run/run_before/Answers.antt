@@ -1,5 +1,5 @@
 use Rattle.cq_simulate.proofs.Terms.{◌+◌, ◌-◌, ◌≤◌, false, ◌∙◌, arith, rules, sym, err_from_is_err_and}
-use Rattle.cq_simulate.proofs.FabricSteps.{Stands, can_run_here, fault_here, left_here, next_here, part_rests, part_stands}
+use Rattle.cq_simulate.proofs.Steps.{Stands, can_run_here, fault_here, left_here, next_here, part_rests, part_stands}
 use Rattle.cq_simulate.proofs.parted_run.run_before.Given as given
 use Rattle.cq_simulate.proofs.parted_run.run_before.Goals as goal
 use Rattle.cq_simulate.proofs.parted_run.run_before.Goals.{After-arrivals-arrivals}

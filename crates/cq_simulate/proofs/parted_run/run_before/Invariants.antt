@@ -1,5 +1,5 @@
 use Rattle.cq_simulate.proofs.Terms.{◌-◌, ◌≤◌, false, map}
-use Rattle.cq_simulate.proofs.FabricSteps.{Crossing}
+use Rattle.cq_simulate.proofs.Steps.{Crossing}
 use Rattle.cq_simulate.proofs.parted_run.run_before.Given as goal
 
 abbrev pub invariant-slots : goal.invariant-slots
