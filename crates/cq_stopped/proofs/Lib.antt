@@ -2,7 +2,6 @@ mod Terms
 pub mod Ran
 pub mod Queueing
 pub mod Stepping
-pub mod Joined
 pub mod Standing
 pub mod Lined
 pub mod Walk

@@ -7,7 +7,7 @@ use Rattle.cq_stopped.proofs.Terms.{All-set, All-from_recursion, recursion_from_
 use Rattle.cq_base.specs.Key.{is_before}
 use Rattle.cq_ideal.specs.Ranking.{keyed}
 use Rattle.cq_stopped.proofs.Ran.{AreLow, KeepsLow, Follows}
-use Rattle.cq_stopped.proofs.Joined.{pairs_both, pairs_in}
+use Rattle.cq_stopped.proofs.Lined.{pairs_both, pairs_in}
 
 module _ (ms : List Machine) (slot : ℕ) where
   -- the rank states after a cell got its rank
@@ -112,9 +112,8 @@ module _ (j slot : ℕ) (came : List (Option Queued)) (left waiting : List Queue
   goes_ahead x q (inr a) (inr b) ahead = grind (arith, common_steps, come a.0, come b.0, not_before_itself)
 
   rises : IsRising (put_all j came waiting)
-  rises = rising_put_all j came waiting rising
-      (λ k q d is has. grind (arith, common_steps, before d (has_right left waiting d has), come k q is))
-      (λ k l q r a b. grind (arith, common_steps, come k q a, come l r b))
+  rises = rising_put_all j came waiting rising (search (arith, rules, before, has_right left waiting, come))
+      (search (arith, rules, come))
 
   pub pairs_next : EachPair Follows (left ++ put_all j came waiting)
   pairs_next =

@@ -3,9 +3,8 @@
 -- are one, and of all others the names differ. Each name in the state is of such a cell, and comes to it: each list to
 -- the list of its input, each buffer to that of its output, and each departure to itself. So the clauses hold that ask
 -- for a sound state, but for the fourth.
-use Rattle.cq_stopped.proofs.Terms.{rules, ◌≡◌, ℕ, ◌<◌, List, [], length, Option, refl, sym, ◌∙◌, inl, inr, arith, true, ◌++◌, map, Some, ap, ◌≤◌, false_from_ne_true, and_from, and_parts, eq-eqb, eqb-true, common_steps, map-append, list_any, is_some, slice_index_or, filter, option_map, IsSome, IsBefore, is_for, Departure, Queued, Transfer, HasWaited, IdealState, apart_from, not_before_itself, Fabric, buffer, input, fabric_in, HasFor, list_of, machine_at, EachPair, all_pairs, cell_with, Differ, Has, all_from_has, all_of_has, has_left, has_right, pair_of_has, has_cases, has_image, image_has, kept_has, pairs_cross, pairs_right, pairs_with, sent_told, named_as, sent_as, state_of, HaveSlack, AreArrivals, IsBufferedBefore, IsSentBefore, IsTransferBefore, StandInOrder, KeepArrivalOrder, OfOneFlow, AreBelowFloors, IsBelowFloor, Switch, HasShape, class_in, class_of, named_in, output_in, output_of, queued_in, buffer_told, fabric_told, list_told, queued_of, arriving_cell, is_ahead, Taken, Named, Sent, told_state, State, has_all, any_has, has_any, pairs_joined, pairs_mapped, get_or_past, cases_lt, filter_images}
-use Rattle.cq_stopped.proofs.Joined.{pairs_in, all_of, pairs_of_all, has_at_place, is_at, pairs_both, sift, told_again, by_places, image_pairs}
-use Rattle.cq_stopped.proofs.Lined.{AreMoved, left_has}
+use Rattle.cq_stopped.proofs.Terms.{rules, ◌≡◌, ℕ, ◌<◌, List, [], length, Option, refl, sym, ◌∙◌, inl, inr, arith, true, ◌++◌, map, Some, ap, ◌≤◌, and_from, and_parts, eq-eqb, eqb-true, common_steps, map-append, list_any, is_some, slice_index_or, filter, option_map, IsSome, IsBefore, is_for, Departure, Queued, Transfer, HasWaited, IdealState, apart_from, not_before_itself, Fabric, buffer, input, fabric_in, HasFor, list_of, machine_at, EachPair, all_pairs, cell_with, Differ, Has, all_from_has, all_of_has, has_left, has_right, pair_of_has, has_cases, has_image, image_has, kept_has, pairs_cross, pairs_right, pairs_with, sent_told, named_as, sent_as, state_of, HaveSlack, AreArrivals, IsBufferedBefore, IsSentBefore, IsTransferBefore, StandInOrder, KeepArrivalOrder, OfOneFlow, AreBelowFloors, IsBelowFloor, Switch, HasShape, class_in, class_of, named_in, output_in, output_of, queued_in, buffer_told, fabric_told, list_told, queued_of, arriving_cell, is_ahead, Taken, Named, Sent, told_state, State, has_all, any_has, has_any, pairs_joined, pairs_mapped, get_or_past, cases_lt, filter_images}
+use Rattle.cq_stopped.proofs.Lined.{pairs_in, all_of, pairs_of_all, has_at_place, is_at, pairs_both, sift, told_again, by_places, image_pairs, AreMoved, left_has}
 use Rattle.cq_stopped.proofs.Ran.{DepartsBefore, Follows, IsOwn, IsSentRight, Known, left_at, pool_at, IsHeld, came_in, is_name_at}
 
 -- the name of a cell of which this is known
@@ -46,8 +45,7 @@ module _ {w : Switch} (at : Taken) {ideal : IdealState} {cs : List (List (Option
   own_at : (j : ℕ) (q : Queued) → HasFor f j q → (j < length w.machines) × IsOwn w at.frozen.next j q
   own_at j q has =
       let there = (known.agrees.same j q).1 has in
-      let inside : j < length w.machines = search (arith, rules, Has, get_or_past, cases_lt) in
-      search (rules, inside, known.lanes j inside, all_of_has, has_right (left_at j at.sent), there)
+      search (arith, rules, get_or_past, cases_lt, known.lanes j, all_of_has, has_right (left_at j at.sent), there)
 
   waits_for : (j : ℕ) (q : Queued) → q.cell.output ≡ j → HasFor f j q → Waits q
   waits_for j q same has = search (arith, rules, kept_at, has_right, left_at, own_at j q has)
@@ -146,8 +144,8 @@ module _ {w : Switch} (at : Taken) {ideal : IdealState} {cs : List (List (Option
 
   pub named_at : (t i : ℕ) → list_any (is_name_at t i) (named_in st) ≡ is_some (came_in cs t i)
   named_at t i =
-      let one = is_of_one in let no = false_from_ne_true in
-      search (arith, rules, any_has, name_held t i, known.held, and_from, eq-eqb, has_any, one, and_parts, eqb-true, no)
+      let one = is_of_one in
+      search (arith, rules, any_has, name_held t i, known.held, and_from, eq-eqb, has_any, one, and_parts, eqb-true)
 
   -- ## What is told is what there was, and has slack: the third clause
 

@@ -23,8 +23,7 @@ all_present P (o ∷ cells) each = grind (arith, common_steps, all_present P cel
 -- what came up to a slot, and what came in it
 came_then : (cs : List (List (Option Queued))) (c : List (Option Queued)) (t i : ℕ) (q : Queued) →
     (came_in (cs ++ c ∷ []) t i ≡ Some q) ↔ ((came_in cs t i ≡ Some q) ⊎ ((length cs ≡ t) × (came_to c i ≡ Some q)))
-came_then cs c t i q =
-    grind (arith, common_steps, get_or_append_left, get_or-append-add, get_or_past, cases_lt t (length cs))
+came_then cs c t i q = grind (arith, common_steps, get_or_append_left, get_or-append-add, get_or_past, cases_lt t)
 
 -- ## What waits
 
@@ -160,8 +159,8 @@ module _ (w : Switch) (ranks : List (List ℕ)) (configured : IsConfigured w ran
       new_own q new = let c = its_came new.0 q new.1 in let keyed = is_keyed new.0 q new.1 in search (arith, rules)
 
       own_all : AllByRecursion (IsOwn w (n + 1) j) (left j ++ full j)
-      own_all = all_from_has (IsOwn w (n + 1) j) (left j ++ full j)
-          (λ q has. grind (arith, common_steps, was_or_new j q, new_own q, all_of_has (IsOwn w n j), keyed))
+      own_all = all_from_has _ _
+          (λ q has. grind (arith, common_steps, was_or_new j q, new_own q, all_of_has (IsOwn w n j)))
 
       old_less : (x q : Queued) → Has (waiting j) x → CameFor came j q → x.cell.class ≡ q.cell.class → IsBefore x q
       old_less x q has new class =
@@ -203,9 +202,8 @@ module _ (w : Switch) (ranks : List (List ℕ)) (configured : IsConfigured w ran
     unfolding departures_in
     ordered_next = pairs_joined DepartsBefore sent (departures_from n 0 r.of_slot.gone) known.ordered
         (slot_in_order n 0 r.of_slot.gone) (λ d e first second.
-        let now = all_of_has LeavesNow _ e leave_now second in
         let cross = pairs_cross Follows (left e.output) (full e.output) d.queued e.queued in
-        search (arith, rules, cross, next_pairs, left_has, all_of_has, known.departed))
+        search (arith, rules, leave_now, cross, next_pairs, left_has, all_of_has, known.departed))
 
     -- ## What came
 

@@ -4,19 +4,18 @@
 -- since the walk over the arrivals of each input ends with its mark, and those that are not named are, counted by any
 -- test, those that were refused. The text of that state is read as what was left, so what goes on from there is the
 -- run.
-use Rattle.cq_stopped.proofs.Terms.{recursion_from_All, get_or_default, come_count-first, IsCount, IsInputBest, recorded, slots_of_figures, rules, ◌≡◌, ℕ, ◌-◌, ◌<◌, ◌≤◌, ◌^◌, List, [], ◌∷◌, length, map, fold, max, sym, ap, ◌∙◌, arith, common_steps, length-map, length-map-range_with_len, AllByRecursion, enumerate_from, flat_map, Queued, Scheduled, arriving_from, departures_of, Fabric, cushion_of, input, SlotRecord, fabric_in, marked_in, LimitedRecord, slots_in, figures_of, input_figures, slacks, gone_in, list_of, each_pair, all_both, Differ, Has, all_from_has, all_of_has, has_image, has_left, has_right, image_has, figures_told, frozen_told, taken_of, opening, IsWhole, IsParted, seen_as, sent_as, state_of, IsRead, Kept, Runs, Switch, switch_of, named_in, queued_in, Taken, Tables, openings_of, AreRankNumbers, IsInRange, IsNamed, IsSeen, IsSent, state_text, Named, Sent, State, told_state, CanBeTakenUp, StoppedRunsAreSound, few_kept, of_images, all_weaker, written_in_run, arriving_length, counts_more, figures_fold, stable_limited_too, empty_list, limited_numbered, IsFabricRun, all_made, all_give, length-replicate, ◌==◌, Bool, Some, false, filter, refl, get_or-map, get_or-replicate, range_with_len, Cell, mark_at, refused_counts, refused_in, with_refused, fabric_judged, admissions_in, coming, has_name, unnamed, AreWholePackets, Name, refused_here, Refused, whole, all_stand, tallies_up, packets_alike, tally_is, IsTally, cells_in, all_arriving, all_in_range, all_judged, sum, proposals_in, ◌*◌, kinds_summed, tests_turned, kept_has, as_name, has_as_name}
+use Rattle.cq_stopped.proofs.Terms.{recursion_from_All, get_or_default, come_count-first, IsCount, IsInputBest, recorded, slots_of_figures, rules, ◌≡◌, ℕ, ◌-◌, ◌<◌, ◌≤◌, ◌^◌, List, [], ◌∷◌, length, map, fold, max, sym, ap, ◌∙◌, arith, common_steps, length-map, length-map-range_with_len, AllByRecursion, enumerate_from, flat_map, Queued, Scheduled, arriving_from, departures_of, Fabric, cushion_of, input, SlotRecord, fabric_in, marked_in, LimitedRecord, slots_in, figures_of, input_figures, slacks, gone_in, list_of, each_pair, all_both, Differ, Has, all_from_has, all_of_has, has_image, has_left, has_right, image_has, figures_told, frozen_told, taken_of, opening, IsWhole, IsParted, seen_as, sent_as, state_of, IsRead, Kept, Runs, Switch, switch_of, named_in, queued_in, Taken, Tables, openings_of, AreRankNumbers, IsInRange, IsNamed, IsSeen, IsSent, state_text, Named, Sent, State, told_state, CanBeTakenUp, StoppedRunsAreSound, few_kept, of_images, all_weaker, written_in_run, arriving_length, counts_more, figures_fold, stable_limited_too, empty_list, limited_numbered, IsFabricRun, all_made, all_give, length-replicate, ◌==◌, Bool, Some, false, filter, refl, get_or-map, get_or-replicate, range_with_len, Cell, mark_at, refused_counts, refused_in, with_refused, fabric_judged, admissions_in, coming, has_name, unnamed, AreWholePackets, Name, refused_here, Refused, whole, all_stand, tallies_up, packets_alike, tally_is, IsTally, cells_in, all_arriving, all_in_range, all_judged, kinds_summed, tests_turned, kept_has, as_name, has_as_name}
 use Rattle.cq_audit.proofs.Following.{run_within as of_its_slots}
 use Rattle.cq_resume.proofs.Cut.{filter_both}
 use Rattle.cq_resume.proofs.Joining.{parts_join as join}
 use Rattle.cq_resume.proofs.OneAnswer.{read_exact}
 use Rattle.cq_stopped.proofs.Ran.{least_of, AreLow, IsConfigured, configured, Known, came_in, came_of}
-use Rattle.cq_stopped.proofs.Lined.{AreMoved, inputs_same, names_counted, output_same}
+use Rattle.cq_stopped.proofs.Lined.{AreMoved, inputs_same, names_counted, output_same, by_places}
 use Rattle.cq_stopped.proofs.Standing.{is_of_one, state_sized, states_many, fabric_same, sent_same, arrivals_are, named_at, below_floors, keep_order, stand_in_order, has_shape, slack_kept}
 use Rattle.cq_stopped.proofs.Stepping.{none_first, most_of_all, IsRecordedWithin, Ended, known_first, run_known}
 use Rattle.cq_stopped.proofs.Walk.{Walks, counted_flat, same_counts, walked}
 use Rattle.cq_ideal.proofs.AtInput.{of_input, refused_are as refused_of_input, stand_in}
 use Rattle.cq_resume.proofs.Adding.{Tallied, left_before, mark_at as walk_mark}
-use Rattle.cq_stopped.proofs.Joined.{by_places}
 use Rattle.cq_stopped.specs.Read.{kept_in_run, ReadRunsGoOn, StoppedRunsAreRead}
 
 -- ## Figures of inputs
@@ -61,10 +60,10 @@ module _ (w : Switch) (ranks : List (List ℕ)) (configured : IsConfigured w ran
       (came_of rs) (departures_of 0 (gone_in (slots_in rs)))
   unfolding arriving_from
   stopped =
-      let few = configured.few_cells in let none = none_first ports ranks in
+      let none = none_first ports ranks in
       let come = come_count-first w.came at.frozen.next in
-      run_known w ranks configured at.frozen.next 0 at.frozen.next (opening w ranks) (marked_in at.frozen) rs _ [] []
-      (known_first w ranks configured) (omega (arith, parted.next)) (omega arith) (omega arith) runs
+      run_known w ranks configured at.frozen.next 0 _ _ _ rs _ [] [] (known_first w ranks configured)
+      (omega (arith, parted.next)) (omega (arith, configured.few_cells)) (omega arith) runs
 
   known : Known w at.frozen.next (fabric_in at.frozen) stopped.ideal (came_of rs) at.sent
   known = let known = stopped.known in search (rules, Known, came_of)
@@ -73,9 +72,9 @@ module _ (w : Switch) (ranks : List (List ℕ)) (configured : IsConfigured w ran
   moved : AreMoved ports at.frozen.next at.note
   moved =
       let stable = (stable_limited_too w.machines w.limits).run 0 _ (opening w ranks) (marked_in at.frozen) rs runs in
-      let many = length-map rs (λ (r : LimitedRecord). r.of_slot.came) in let next = parted.next in
+      let many = length-map rs (λ (r : LimitedRecord). r.of_slot.came) in
       let written = written_in_run ports w.classes w.came configured.traffic configured.names w.limits w.machines in
-      search (arith, rules, written, all_give, all_weaker, arriving_length, of_its_slots, empty_list, known.long)
+      search (rules, written, all_give, all_weaker, arriving_length, of_its_slots, empty_list, known.long, parted.next)
 
   figures_are_of : at.frozen.figures ≡ figures_of ports (slots_in rs)
   figures_are_of = ap (λ (k : Kept). k.figures) parted.kept ∙ sym (figures_fold ports (slots_in rs))
@@ -84,10 +83,7 @@ module _ (w : Switch) (ranks : List (List ℕ)) (configured : IsConfigured w ran
 
   figures_low : (at.frozen.figures.proposals < 2 ^ 63) × (at.frozen.figures.most < 2 ^ 63)
   unfolding figures_of arriving_from
-  figures_low =
-      let all : sum (flat_map proposals_in (slots_in rs)) ≤ 8192 * length w.came =
-      omega (arith, stopped.proposed, none_first ports ranks, come_count-first w.came at.frozen.next) in
-      search (arith, rules, most_of_all, figures_are_of)
+  figures_low = search (arith, rules, most_of_all, figures_are_of, stopped.proposed, none_first, come_count-first)
 
   seen_right : AllByRecursion IsSeen (map seen_as at.frozen.figures.inputs)
   unfolding figures_of
@@ -175,9 +171,9 @@ module _ (w : Switch) (ranks : List (List ℕ)) (configured : IsConfigured w ran
 
   tally_are : IsTally w st (record { marks = at.frozen.marks; refused = counts })
   unfolding state_of
-  tally_are = tally_is w st names (has_as_name (named_in st)) _ (configured.limits ∙ sym known.ports)
-      (tallies_up w.limits next w.came names ports configured.packets at.frozen.marks counts tallied _ configured.limits
-      refl refl)
+  tally_are =
+      let alike = tally_is w st names (has_as_name (named_in st)) in
+      search (rules, alike, tallies_up, configured.packets, configured.limits, known.ports, tallied)
 
   -- ## It comes to what was left
 
@@ -199,9 +195,8 @@ module _ (w : Switch) (ranks : List (List ℕ)) (configured : IsConfigured w ran
   can_be_taken_up : CanBeTakenUp w at
   unfolding state_of
   can_be_taken_up =
-      let known = known in
       let order = stand_in_order at known moved in
-      search (rules, in_range, has_shape, arrivals_are, slack_kept, keep_order, below_floors, taken_same, packets_are)
+      search (in_range, has_shape, arrivals_are, slack_kept, keep_order, below_floors, taken_same, packets_are, known)
 
 pub stopped_runs_are_sound : StoppedRunsAreSound
 stopped_runs_are_sound t s slots at made tables recorded early parted = search (rules, can_be_taken_up, configured)

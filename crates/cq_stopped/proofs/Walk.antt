@@ -121,5 +121,4 @@ counted_flat p f (i ∷ is) = search (rules, map-append, filter-append, length-a
 pub same_counts : (xs ys : List Cell) → ((p : Cell → Bool) → length (filter p xs) ≡ length (filter p ys)) →
     (counts : List Refused) → with_refused xs counts ≡ with_refused ys counts
 unfolding cells_refused packets_refused
-same_counts xs ys same [] = refl
-same_counts xs ys same (r ∷ counts) = grind (arith, common_steps, r.output, same_counts xs ys same counts)
+same_counts xs ys same counts = grind (arith, common_steps, same)
