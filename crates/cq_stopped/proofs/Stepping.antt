@@ -5,14 +5,133 @@
 -- more than came. The ranks of what comes and of what leaves fit, so the numbers of the rank states do. A slot that
 -- proposes sends a cell, which pays for what it proposes (`slot_proposed` of `cq_simulate`). So a run proposes no more
 -- than the cells that came pay for.
-use Rattle.cq_stopped.proofs.Terms.{rules, ◌≡◌, ℕ, zero, suc, ◌+◌, ◌<◌, ◌≤◌, List, [], ◌∷◌, ◌++◌, length, Option, Some, None, Ok, ◌∙◌, ◌⊎◌, ⊎_elim, arith, length-append, cases_lt, common_steps, append_assoc, get_or-append-add, get_or-map, get_or_append_left, get_or_past, length-map, ◌↔◌, append-nil, get_or-replicate, length-replicate, AllByRecursion, slice_get, slice_index_or, arrival_at, arriving, arriving_at, Cell, Departure, Queued, admitted_arrives, Came, came_from, present, Served, listed, served, HasWaited, Marked, admission, arriving_from, departures_of, empty_ideal, IdealState, departures_from, departures_in, filled, ideal_slot, put_all, AreForPorts, ranking, CameFor, Keyed, limited_empty_agree, keyed, ports_kept, same_slot, SendsAlike, Fabric, input, empty_fabric, FabricSlot, LimitedFabricSlot, LimitedRecord, slots_in, came_to, gone_in, list_of, IsInputBest, IsStable, all_both, all_weaker, found_at, has_there, Has, all_from_has, all_of_has, has_cases, has_left, has_right, Runs, Switch, fewer, length-filled, rest_of, among_put_all, list_after, put_all_keeps, put_all_new, stable_slot, admission_for_ports, arrivals_for, place_of, came_or_was, was_waiting, marks_kept, IsBefore, EachPair, pairs_cross, pairs_joined, IsFabric, IsCount, get_or-map-range_with_len, length-map-range_with_len, ◌*◌, ◌-◌, fold, max, length-insert, sum_by-append, sum_by-cons, flat_map, sum, buffer, SlotRecord, fabric_held, proposals_in, waiting-empty, all_wait}
+use Rattle.cq_stopped.proofs.Terms.{rules, ◌≡◌, ℕ, zero, suc, ◌+◌, ◌<◌, ◌≤◌, List, [], ◌∷◌, ◌++◌, length, Option, Some, None, Ok, ◌∙◌, ◌⊎◌, ⊎_elim, arith, length-append, cases_lt, common_steps, append_assoc, get_or-append-add, get_or-map, get_or_append_left, get_or_past, length-map, ◌↔◌, append-nil, get_or-replicate, length-replicate, AllByRecursion, slice_get, slice_index_or, arrival_at, arriving, arriving_at, Cell, Departure, Queued, admitted_arrives, Came, came_from, present, Served, listed, served, HasWaited, Marked, admission, arriving_from, departures_of, empty_ideal, IdealState, departures_from, departures_in, filled, ideal_slot, put_all, AreForPorts, ranking, CameFor, Keyed, limited_empty_agree, keyed, ports_kept, same_slot, SendsAlike, Fabric, input, empty_fabric, FabricSlot, LimitedFabricSlot, LimitedRecord, slots_in, came_to, gone_in, list_of, IsInputBest, IsStable, all_both, all_weaker, found_at, has_there, Has, all_from_has, all_of_has, has_cases, has_left, has_right, Runs, Switch, fewer, length-filled, rest_of, among_put_all, list_after, put_all_keeps, put_all_new, stable_slot, admission_for_ports, arrivals_for, place_of, came_or_was, was_waiting, marks_kept, IsBefore, EachPair, pairs_cross, pairs_joined, IsFabric, IsCount, get_or-map-range_with_len, length-map-range_with_len, ◌*◌, ◌-◌, fold, max, length-insert, sum_by-append, sum_by-cons, flat_map, sum, buffer, SlotRecord, fabric_held, proposals_in, waiting-empty, all_wait, All-set, All-from_recursion, recursion_from_All, ◌^◌, true, refl, cases_eq, ltb-true, eq-eqb, le-ltb, lt-ltb, get_or-set_other, get_or-set_same, length-set, same_Some, slice_set, only_ok, all_told, Ranking, KeepLaws, Machine, machine_at, after_input_ok, Key, given_floor, all_made, inl, inr, IsRising, never_both, not_before_itself, pair_of_has, pairs_left, pairs_right, rising_put_all}
 use Rattle.cq_ideal.proofs.Waiting.{sent_by}
 use Rattle.std.proofs.lemmas.List.Sums.{get_or-le-sum_by}
 use Rattle.cq_ideal.proofs.FlowRun.{come_count}
 use Rattle.cq_simulate.proofs.Steps.{fewer_held, shorter, slot_proposed}
-use Rattle.cq_stopped.proofs.Ran.{IsConfigured, DepartsBefore, Follows, IsHeld, IsKeyed, IsOwn, IsSentRight, Known, Lane, came_in, left_at, pool_at, came_of}
-use Rattle.cq_stopped.proofs.Lined.{each_departs, left_has, left_more, slot_in_order}
-use Rattle.cq_stopped.proofs.Queueing.{is_less, ranked_low, told_low, pairs_next, IsKnown, IsRanked, ranked_from}
+use Rattle.cq_stopped.proofs.Ran.{IsConfigured, DepartsBefore, Follows, IsHeld, IsKeyed, IsOwn, IsSentRight, Known, Lane, came_in, left_at, pool_at, came_of, AreLow, KeepsLow}
+use Rattle.cq_stopped.proofs.Lined.{each_departs, left_has, left_more, slot_in_order, pairs_both, pairs_in}
+use Rattle.cq_base.specs.Key.{is_before}
+use Rattle.cq_ideal.specs.Ranking.{keyed as with_key}
+
+-- What the cells of a slot are ranked: each has the level of its class, a rank that fits, and one that is no less than
+-- the floor that its class had before the slot, since no rank that is given lowers a floor. And how they queue up at an
+-- output. A cell that comes has another name than each that came before it, of its flow each came in an earlier slot,
+-- and each of its class that waits has the lesser key: its level and no greater rank. So of two in the order of keys
+-- the one ahead goes before the other, as what left the output goes before both.
+
+module _ (ms : List Machine) (slot : ℕ) where
+  -- the rank states after a cell got its rank
+  abbrev given : List (List ℕ) → Cell → List ℕ
+  given ranks cell = (machine_at ms cell.output).given (slice_index_or ranks cell.output []) cell.class
+
+  abbrev after : List (List ℕ) → Cell → List (List ℕ)
+  after ranks cell = slice_set ranks cell.output (given ranks cell)
+
+  -- the cell is for an output that there is, and of one of its classes
+  pub record IsKnown (many : ℕ) (cell : Cell) : Type 0 where
+    pub inside : cell.output < many
+    pub class : cell.class < (machine_at ms cell.output).classes
+
+  -- what a cell that came got
+  pub record IsRanked (ranks : List (List ℕ)) (q : Queued) : Type 0 where
+    pub level : q.key.level ≡ (machine_at ms q.cell.output).level q.cell.class
+    pub rank : q.key.rank < 2 ^ 128
+    pub above : (machine_at ms q.cell.output).floor (slice_index_or ranks q.cell.output []) q.cell.class ≤ q.key.rank
+
+  module _ (ranks : List (List ℕ)) (keep : KeepLaws ms ranks) (cell : Cell) (known : IsKnown (length ranks) cell) where
+    still_keep : KeepLaws ms (after ranks cell)
+    still_keep = grind (arith, common_steps, length-set, keep.sized, get_or-set_same, get_or-set_other, cases_eq)
+
+  -- what a cell at an input gets
+  abbrev one_at : ℕ → List (List ℕ) → Cell → Queued
+  one_at i ranks cell =
+      let m = machine_at ms cell.output in
+      with_key cell (m.level cell.class) (m.ranked (slice_index_or ranks cell.output []) cell.class) slot i
+
+  -- its rank fits, and behind it come the other inputs
+  one_behind : (i : ℕ) (cell : Cell) (cells : List (Option Cell)) (ranks : List (List ℕ)) (r : Ranking) →
+      ranking ms slot i (Some cell ∷ cells) ranks ≡ Ok r →
+      ((one_at i ranks cell).key.rank < 2 ^ 128) × (s : Ranking)
+      × (ranking ms slot (i + 1) cells (after ranks cell) ≡ Ok s)
+      × (record { came = Some (one_at i ranks cell) ∷ s.came; ranks = s.ranks } ≡ r)
+  one_behind i cell cells ranks r h = grind (arith, common_steps, ltb-true, after_input_ok)
+
+  pub ranked_from : (i : ℕ) (cells : List (Option Cell)) (ranks : List (List ℕ)) (r : Ranking) → KeepLaws ms ranks →
+      ((k : ℕ) (cell : Cell) → arrival_at cells k ≡ Some cell → IsKnown (length ranks) cell) →
+      ranking ms slot i cells ranks ≡ Ok r → (k : ℕ) (q : Queued) → came_to r.came k ≡ Some q → IsRanked ranks q
+  ranked_from i [] ranks r keep known h k q at = grind (arith, common_steps, only_ok)
+  ranked_from i (None ∷ cells) ranks r keep known h zero q at = grind (arith, common_steps, after_input_ok)
+  ranked_from i (None ∷ cells) ranks r keep known h (suc k) q at =
+      let b = after_input_ok None (ranking ms slot (i + 1) cells ranks) r h in
+      ranked_from (i + 1) cells ranks b.0 keep (λ l. known (suc l)) b.1 k q (rw (← b.2) at at)
+  ranked_from i (Some cell ∷ cells) ranks r keep known h zero q at =
+      let here = known zero cell refl in search (arith, rules, one_behind, same_Some, keep.laws, keep.sized)
+  ranked_from i (Some cell ∷ cells) ranks r keep known h (suc k) q at =
+      let here = known zero cell refl in
+      let b = one_behind i cell cells ranks r h in
+      let at' = rw (← b.3) at at in
+      let same = length-set ranks cell.output (given ranks cell) in
+      let it = ranked_from (i + 1) cells (after ranks cell) b.1 (still_keep ranks keep cell here)
+      (λ l other is. rw same (known (suc l) other is)) b.2 k q at' in
+      let c = came_from ms slot (i + 1) cells (after ranks cell) b.1 b.2 k q at' in
+      search (arith, rules, get_or-set_same, given_floor, keep.sized, get_or-set_other, cases_eq, known (suc k) q.cell)
+
+-- ## The numbers of the rank states fit 128 bits, since the run would stop at the first rank that does not
+
+module _ (ms : List Machine) (keeps : (j : ℕ) → KeepsLow (machine_at ms j)) where
+  -- the rank states stay low
+  pub ranked_low : (slot i : ℕ) (cells : List (Option Cell)) (states : List (List ℕ)) (r : Ranking) →
+      AllByRecursion AreLow states → ranking ms slot i cells states ≡ Ok r → AllByRecursion AreLow r.ranks
+  ranked_low slot i [] states r all h = grind (arith, common_steps, only_ok)
+  ranked_low slot i (cell ∷ cells) states r all h =
+      let put = recursion_from_All AreLow in
+      search (rules, ltb-true, after_input_ok, put, All-set, All-from_recursion, ranked_low slot (i + 1) cells)
+
+  pub told_low : (gone : List (Option Queued)) (states : List (List ℕ)) → AllByRecursion AreLow states →
+      ((j : ℕ) (q : Queued) → slice_index_or gone j None ≡ Some q → q.key.rank < 2 ^ 128) →
+      AllByRecursion AreLow (all_told ms gone states)
+  unfolding all_told
+  told_low gone states all sent = all_made AreLow _ 0 (length states) (search (arith, rules, All-from_recursion, sent))
+
+-- ## A lesser key
+
+-- of one level, with no greater rank and of an earlier slot
+pub is_less : (a b : Key) → a.level ≡ b.level → a.rank ≤ b.rank → a.slot < b.slot → is_before a b ≡ true
+unfolding is_before
+is_less a b level rank slot = search (arith, rules, lt-ltb, le-ltb, eq-eqb, cases_lt)
+
+-- ## What comes goes behind what was there
+
+module _ (j slot : ℕ) (came : List (Option Queued)) (left waiting : List Queued)
+    (before : (x : Queued) → Has (left ++ waiting) x → x.key.slot < slot)
+    (come : (k : ℕ) (q : Queued) → came_to came k ≡ Some q → (q.key.slot ≡ slot) × (q.key.input ≡ k))
+    (rising : IsRising waiting) (pairs : EachPair Follows (left ++ waiting))
+    (less : (x q : Queued) → Has waiting x → CameFor came j q → x.cell.class ≡ q.cell.class → IsBefore x q) where
+  old_first : (x q : Queued) → Has (left ++ waiting) x → CameFor came j q → Follows x q
+  old_first x q has new = grind (arith, before x has, come new.0 q new.1)
+
+  -- of two in the order of keys the first goes ahead
+  goes_ahead : (x q : Queued) → Has waiting x ⊎ CameFor came j x → Has waiting q ⊎ CameFor came j q → IsBefore x q →
+      Follows x q
+  goes_ahead x q (inl a) (inl b) ahead =
+      let both = pairs_both IsBefore Follows waiting rising (pairs_right Follows left waiting pairs) in
+      grind (arith, common_steps, pair_of_has _ waiting x q both a b, never_both, not_before_itself)
+  goes_ahead x q (inl a) (inr new) ahead = old_first x q (has_right left waiting x a) new
+  goes_ahead x q (inr new) (inl b) ahead =
+      grind (arith, common_steps, before q, has_right left waiting q b, come new.0 x, less q x b new, never_both)
+  goes_ahead x q (inr a) (inr b) ahead = grind (arith, common_steps, come a.0, come b.0, not_before_itself)
+
+  rises : IsRising (put_all j came waiting)
+  rises = rising_put_all j came waiting rising (search (arith, rules, before, has_right left waiting, come))
+      (search (arith, rules, come))
+
+  pub pairs_next : EachPair Follows (left ++ put_all j came waiting)
+  pairs_next =
+      let new = among_put_all j came waiting in
+      let later = pairs_in IsBefore Follows _ (search (rules, goes_ahead, new)) rises in
+      search (rules, pairs_joined Follows left, later, pairs_left, new, pairs_cross Follows, pairs, old_first, has_left)
 
 -- what holds of each cell at its place holds of those that are present
 all_present : (P : Cell → Type 0) (cells : List (Option Cell)) →

@@ -10,10 +10,9 @@ use Rattle.cq_resume.proofs.Cut.{filter_both}
 use Rattle.cq_resume.proofs.Joining.{parts_join as join}
 use Rattle.cq_resume.proofs.OneAnswer.{read_exact}
 use Rattle.cq_stopped.proofs.Ran.{least_of, AreLow, IsConfigured, configured, Known, came_in, came_of}
-use Rattle.cq_stopped.proofs.Lined.{AreMoved, inputs_same, names_counted, output_same, by_places}
+use Rattle.cq_stopped.proofs.Lined.{AreMoved, inputs_same, names_counted, output_same, by_places, Walks, counted_flat, same_counts, walked}
 use Rattle.cq_stopped.proofs.Standing.{is_of_one, state_sized, states_many, fabric_same, sent_same, arrivals_are, named_at, below_floors, keep_order, stand_in_order, has_shape, slack_kept}
 use Rattle.cq_stopped.proofs.Stepping.{none_first, most_of_all, IsRecordedWithin, Ended, known_first, run_known}
-use Rattle.cq_stopped.proofs.Walk.{Walks, counted_flat, same_counts, walked}
 use Rattle.cq_ideal.proofs.AtInput.{of_input, refused_are as refused_of_input, stand_in}
 use Rattle.cq_resume.proofs.Adding.{Tallied, left_before, mark_at as walk_mark}
 use Rattle.cq_stopped.specs.Read.{kept_in_run, ReadRunsGoOn, StoppedRunsAreRead}
