@@ -9,8 +9,6 @@ use Rattle.cq_reasm.specs.Whole.{AreCellsFrom, cells_in, AreNext, given, open_af
 unfoldable use Rattle.cq_base.specs.Pieces.{cells_of}
 use Rattle.cq_reasm.specs.Cutting.{IsCutFrom, AreCutFrom, joined_pieces, PiecesGiveFrame}
 
--- ## The pieces of a frame
-
 -- a piece is a stretch of full length, or what is left
 full_length : (frame : List ℕ) (cell_bytes index : ℕ) (x : Piece) → IsCutFrom frame cell_bytes index x →
     x.bytes ≡ take cell_bytes (drop (index * cell_bytes) frame)
