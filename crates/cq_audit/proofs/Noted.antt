@@ -4,7 +4,7 @@
 -- of a log.
 use Rattle.cq_audit.proofs.Terms.{among_range, common_steps, rules, ◌≡◌, ℕ, zero, suc, ◌+◌, ◌<◌, ◌≤◌, ◌^◌, List, [], ◌∷◌, length, Option, None, Some, refl, arith, IfSome, AllByRecursion, filter_map, range_with_len, Cell, Queued, Transfer, arrival_at, Arrival, arriving, first_for, log_of, IsTraffic, Machine, Marked, admission, arriving_from, admitted_arrives, list_of, noted, transfers_of, IsStable, Partners, Fabric, input, FabricSlot, SlotRecord, LimitedFabricRun, LimitedFabricSlot, LimitedRecord, slots_in, transfers_in, transfers_of_run, run_of_whole, Leads, one_found, Comes, IsLog, StableRun, IsTransfer, IsOf, IsTransferBefore, all_both, all_found, came_from, all_give, most_ports, EachPair, Has, from_first, pairs_looked_up, looked_up, all_from_has, all_of_has, pairs_joined, came_or_was, was_waiting, all_made, partner_of}
 use Rattle.cq_audit.proofs.Following.{run_later, slot_at, transfers_at}
-use Rattle.cq_traffic.proofs.ForPorts.{place_of}
+use Rattle.cq_traffic.proofs.Arriving.{place_of}
 
 -- ## Cells that a line can tell of
 

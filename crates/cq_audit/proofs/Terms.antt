@@ -45,9 +45,9 @@ pub use Rattle.cq_laws.specs.Phases.{Arrives, Transfers}
 unfoldable pub use Rattle.cq_laws.specs.Records.{transfers_in, transfers_of_run}
 pub use Rattle.cq_fabric.proofs.Limits.{admits_are, admitted_room, holds_first, numbers_fit, still_holds}
 pub use Rattle.cq_fabric.specs.Queues.{ComeApart, FitLists, Queues, fabric_of}
-pub use Rattle.cq_traffic.proofs.ForPorts.{arrivals_for, one_found, slots_fit}
-pub use Rattle.cq_traffic.proofs.FromInputs.{arrives_found, come_from, first_more, from_here, from_last, no_more_from, one_if, some_one}
-pub use Rattle.cq_traffic.proofs.Quiet.{quiet_of, quiet_slots}
+pub use Rattle.cq_traffic.proofs.Arriving.{arrivals_for, one_found, slots_fit}
+pub use Rattle.cq_traffic.proofs.ToCome.{arrives_found, come_from, first_more, from_here, from_last, no_more_from, one_if, some_one}
+pub use Rattle.cq_traffic.proofs.Arriving.{quiet_of, quiet_slots}
 pub use Rattle.cq_audit.specs.Terms.{AreInOrder, Cell, Comes, FirstIsLeast, IsLog, IsLogExact, IsLogFault, IsOf, IsReady, IsStill, IsStillUntil, IsTransfer, IsTransferBefore, Machine, RunEnds, Setup, Transfer, numbers_behind}
 pub use Rattle.cq_base.proofs.Each.{all_both, all_front, all_weaker, all_back, all_give, all_made, filter_all, filter_none}
 pub use Rattle.cq_base.specs.declared.cell.CellId.{CellId}
@@ -56,12 +56,12 @@ pub use Rattle.cq_ideal.proofs.{FlowCount.all_found, LimitedParts.limited_parts,
 pub use Rattle.cq_ideal.specs.{IdealSlot.fronts, Limiter.ComeToPorts, Limiter.LimiterView, Parts.RanksView}
 pub use Rattle.cq_lines.specs.{Lines.ending, Lines.BeginsWith}
 pub use Rattle.cq_lines.proofs.{Spelling.one_number, Walk.ending_ends, Walk.one_ending}
-pub use Rattle.cq_laws.proofs.{Came.came_from, Held.nothing_for, InputBest.stable_limited_too, Parted.all_go_on, Parted.transfers_both, Parted.transfers_one, LimitedSlots.same_limited_fault, LimitedWhole.begin, LimitedWhole.same_limited_run, QuietSlots.quiet_transfers, AfterTransfer.sender}
+pub use Rattle.cq_laws.proofs.{Came.came_from, Held.nothing_for, InputBest.stable_limited_too, Parted.all_go_on, Parted.transfers_both, Parted.transfers_one, LimitedSlots.same_limited_fault, LimitedWhole.begin, LimitedWhole.same_limited_run, QuietSlots.quiet_transfers, AfterPhases.sender}
 pub use Rattle.cq_laws.specs.{Agreement.SendsAlike, Holding.held_for, LimitedAgreement.LimitedAgrees, LimitedAgreement.LimitedRunsAlike, Quiet.idled}
 pub use Rattle.cq_fabric.specs.Held.{HoldsFabric}
 pub use Rattle.cq_fabric.proofs.{Kept.limited_lists_kept, Kept.limited_outputs_kept, Known.AreRanked, Known.BuffersHaveRoom, Known.HaveArrived, Known.HaveJudged, Known.HaveMoved, Known.HaveSent, Rested.rested_agrees, Rested.rested_limited_run, Rested.still_held}
 pub use Rattle.cq_traffic.specs.{Rooms.rooms_of, Stretch.IsQuietUntil}
-pub use Rattle.cq_traffic.proofs.{ToOutputs.come_for, ToOutputs.for_here, ToOutputs.for_last, ToOutputs.no_more_to}
+pub use Rattle.cq_traffic.proofs.{ToCome.come_for, ToCome.for_here, ToCome.for_last, ToCome.no_more_to}
 pub use Rattle.cq_base.proofs.{Having.all_from_has, Having.all_of_has, Pooled.looked_up, Pooled.pairs_looked_up, Pooled.pairs_joined}
 pub use Rattle.cq_base.specs.Items.{EachPair, Has}
-pub use Rattle.cq_laws.proofs.{AfterTransfer.came_or_was, Sound.from_first, Sound.was_waiting}
+pub use Rattle.cq_laws.proofs.{AfterPhases.came_or_was, Sound.from_first, Sound.was_waiting}

@@ -29,7 +29,7 @@ pub use Rattle.cq_xbar.proofs.OneEach.{partner_or_free, without_length}
 pub use Rattle.cq_xbar.proofs.Turns.{cells-at, cells_in-at}
 pub use Rattle.cq_xbar.specs.Crossbar.{HaveCells, HaveRoom, MovesRoom, buffer_spare, list_at, list_spare, no_buffer, no_list}
 pub use Rattle.cq_laws.proofs.Came.{came_cell, came_from, keyed_from}
-pub use Rattle.cq_laws.proofs.AfterTransfer.{rest_of}
+pub use Rattle.cq_laws.proofs.AfterPhases.{rest_of}
 pub use Rattle.cq_laws.proofs.Sound.{among_insert, from_first, was_waiting, Sound, not_before_itself}
 pub use Rattle.cq_laws.specs.Agreement.{Agrees, SendsAlike}
 pub use Rattle.cq_laws.specs.Fabric.{Fabric, IsAmong, IsEmptyFabric, cushion_of, empty_fabric, input}
@@ -50,6 +50,6 @@ pub use Rattle.cq_ideal.specs.IdealRun.{empty_ideal}
 pub use Rattle.cq_prefs.proofs.{Changes.IsSameBut, Changes.same_list, Changes.same_but_arrival, Changes.same_but_taken, Changes.same_without, OneOrder.one_orders, OutputOrder.is_output_order, Places.place_in-le-length}
 pub use Rattle.cq_prefs.specs.Renewal.{AreSameWithout}
 pub use Rattle.cq_laws.proofs.WholeRuns.{empty_agree_at, empty_list}
-pub use Rattle.cq_laws.proofs.{AfterTransfer.Keyed, AfterTransfer.arrived_sound, AfterTransfer.came_or_was, AfterTransfer.sent_sound, AfterTransfer.moved_sound, Held.hold_as_many, Held.nothing_for, NothingRefused.none_come, NothingRefused.run_with, OneSlot.same_slot, OneSlot.sound_from, QuietSlots.empty_is, QuietSlots.quiet_run}
+pub use Rattle.cq_laws.proofs.{AfterPhases.Keyed, AfterPhases.arrived_sound, AfterPhases.came_or_was, AfterPhases.sent_sound, AfterPhases.moved_sound, Held.hold_as_many, Held.nothing_for, NothingRefused.none_come, NothingRefused.run_with, OneSlot.same_slot, OneSlot.sound_from, QuietSlots.empty_is, QuietSlots.quiet_run}
 pub use Rattle.cq_laws.specs.{LimitedQuiet.quiet_limited_slots}
 pub use Rattle.cq_base.proofs.Having.{all_from_has}

@@ -24,7 +24,7 @@ pub use Rattle.cq_laws.proofs.{InputBest.stable_limited_too, LimitedWhole.begin,
 pub use Rattle.cq_resume.specs.{Parts.IsWholeFault, Reading.IsRead, declared.taken.Taken.Taken}
 pub use Rattle.cq_stopped.proofs.{Together.read_runs_go_on, Together.stopped_runs_are_read}
 pub use Rattle.cq_stopped.specs.{Read.GoesOnAsRun, Read.IsReadAs, Read.kept_in_run}
-pub use Rattle.cq_traffic.proofs.ForPorts.{slots_fit}
+pub use Rattle.cq_traffic.proofs.Arriving.{slots_fit}
 pub use Rattle.cq_simulate.specs.FabricRuns.{departures_in_run}
 pub use Rattle.cq_run.proofs.Left.{captures_same, untouched}
 pub use Rattle.cq_run.specs.{Headline.AreGiven, Headline.IsEmulation, Parting.IsPartText, Plan.Plan, declared.refusal.Refusal.Refusal}

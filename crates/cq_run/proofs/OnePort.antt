@@ -10,7 +10,7 @@ use Rattle.cq_ideal.proofs.FlowCount.{all_found, cell_listed, found, found_here,
 use Rattle.cq_ideal.specs.Ending.{arriving_from}
 use Rattle.cq_ideal.specs.IdealRun.{Ran, departures_of, ideal_run}
 use Rattle.cq_ideal.specs.IdealSlot.{IdealState, Sent, departures_in, filled, ideal_slot}
-use Rattle.cq_simulate.proofs.Tallies.{filter_images}
+use Rattle.cq_simulate.proofs.OfPackets.{filter_images}
 use Rattle.cq_simulate.specs.GoingOn.{to_come}
 
 -- ## What comes in a slot

@@ -76,6 +76,6 @@ pub use Rattle.cq_audit.specs.{Audit.IsYes}
 pub use Rattle.cq_laws.specs.{Records.transfers_of_run}
 pub use Rattle.cq_laws.proofs.WholeRuns.{empty_list}
 pub use Rattle.cq_resume.specs.{Reading.IsRead, Resumed.IsResumed, Switch.switch_of}
-pub use Rattle.cq_simulate.proofs.{Chosen.parted_best, Chosen.parted_slack, Chosen.resumed_best, Chosen.resumed_slack, Departed.left_in_packets, Departed.small_cells, EachPacket.each_packet_once, OnceASlot.resumed_counts, ResumedWhole.resumed_whole, FabricLaws.all_stable, FabricLaws.stable_sends, FabricLaws.stable_slack, Tallies.one_is}
+pub use Rattle.cq_simulate.proofs.{FabricLaws.parted_best, FabricLaws.parted_slack, FabricLaws.resumed_best, FabricLaws.resumed_slack, OfPackets.left_in_packets, OfPackets.small_cells, EachPacket.each_packet_once, FabricLaws.resumed_counts, ResumedWhole.resumed_whole, FabricLaws.all_stable, FabricLaws.stable_sends, FabricLaws.stable_slack, OfPackets.one_is}
 pub use Rattle.cq_simulate.specs.{PartedRuns.kept_of, declared.packing.Packing.Packing}
 pub use Rattle.cq_words.specs.{Numbers.number_from, Streamed.as_run, Streamed.run_of, Streamed.streamed}

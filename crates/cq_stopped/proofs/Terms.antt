@@ -31,7 +31,7 @@ pub use Rattle.cq_state.specs.State.{AreRankNumbers, IsCount, IsInRange, IsMoved
 pub use Rattle.cq_state.specs.{declared.state.Named.Named, declared.state.Sent.Sent, declared.state.State.State}
 pub use Rattle.cq_prefs.specs.FirstCells.{list_of}
 pub use Rattle.cq_prefs.specs.Pairing.{IsInputBest, IsStable}
-pub use Rattle.cq_laws.proofs.AfterTransfer.{CameFor, Keyed, came_or_was}
+pub use Rattle.cq_laws.proofs.AfterPhases.{CameFor, Keyed, came_or_was}
 pub use Rattle.cq_laws.proofs.LimitedWhole.{fabric_judged, limited_empty_agree}
 pub use Rattle.cq_laws.proofs.Sound.{was_waiting, apart_from, never_both, not_before_itself}
 pub use Rattle.cq_laws.proofs.OneSlot.{keyed, ports_kept, same_slot}
@@ -76,7 +76,7 @@ pub use Rattle.cq_ideal.proofs.EnoughSlots.{waiting-empty}
 pub use Rattle.cq_ideal.proofs.{FlowCount.come_count-first, FlowLaw.all_in_range, Packets.refused_here, Parted.arriving_length, Refusals.counts_more}
 pub use Rattle.cq_ideal.specs.{Limiter.where_up, declared.refused.Refused.Refused}
 pub use Rattle.cq_state.specs.declared.state.Seen.{Seen}
-pub use Rattle.cq_laws.proofs.{AfterTransfer.rest_of, IdealLists.among_put_all, IdealLists.list_after, IdealLists.put_all_keeps, IdealLists.put_all_new, IdealLists.rising_put_all, InputBest.stable_slot, InputBest.stable_limited_too, LimitedSlots.admission_for_ports, WholeRuns.empty_list}
+pub use Rattle.cq_laws.proofs.{AfterPhases.rest_of, IdealLists.among_put_all, IdealLists.list_after, IdealLists.put_all_keeps, IdealLists.put_all_new, IdealLists.rising_put_all, InputBest.stable_slot, InputBest.stable_limited_too, LimitedSlots.admission_for_ports, WholeRuns.empty_list}
 pub use Rattle.cq_resume.proofs.{Coming.is_between, Coming.one_comes, Judging.packets_alike, Judging.tally_is, Scheduling.schedule_known, Tallied.whole, Upheld.all_stand, Upheld.tallies_up, Walking.cells_in}
 pub use Rattle.cq_resume.specs.declared.found.Name.{Name}
 pub use Rattle.cq_traffic.proofs.{Arriving.arrivals_for, Arriving.place_of}
