@@ -19,6 +19,9 @@ put_is c (x ∷ xs) =
 pub neither_sooner : (a b : Key) → not (is_before a b) ≡ true → not (is_before b a) ≡ true → a ≡ b
 neither_sooner a b one other = key_laws.alike a b (not-true (is_before a b) one) (not-true (is_before b a) other)
 
+pub same_is_no_sooner : (a b : Key) → a ≡ b → is_before a b ≡ false
+same_is_no_sooner a b same = rw same (key_laws.never_itself b)
+
 -- whether a cell is no more urgent
 abbrev pub is_no_sooner : Key → Queued → Bool
 is_no_sooner key x = not (is_before x.key key)

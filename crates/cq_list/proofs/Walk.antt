@@ -127,6 +127,11 @@ module _ {nodes : Nodes} {queue : Queue} (had : IsChained nodes queue) where
       all_sooner key sooner =
           search (arith, rules, sooner_to, key_laws.on, cell_ahead, past_this, is_no_sooner)
 
+      -- where it is not, not all of them are
+      pub one_later : (key : Key) → is_before node.queued.key key ≡ false →
+          position_or_len (is_no_sooner key) (cells (linked nodes queue)) < count
+      one_later key later = grind (arith, common_steps, first_le, cell_ahead, some)
+
       -- and where it has the key, all but it
       pub all_but_last : (key : Key) → node.queued.key ≡ key →
           count - 1 ≡ position_or_len (is_no_sooner key) (cells (linked nodes queue))

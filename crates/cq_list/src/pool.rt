@@ -1,9 +1,9 @@
 //! The cells that wait, in a queue for each output.
-ghost use Rattle.std.specs.Prelude.{◌≡◌, ◌-◌, ◌+◌, ◌<◌, ℕ, ◌==◌, ◌^◌, [], ◌∷◌, Some, IfOk, IsTrue, length, replicate, drop, insert, slice_get, slice_set, not, if◌then◌else◌};
+ghost use Rattle.std.specs.Prelude.{◌≡◌, ◌↔◌, ◌-◌, ◌+◌, ◌<◌, ◌≤◌, ℕ, ◌==◌, ◌^◌, [], ◌∷◌, Some, IfOk, IsTrue, length, replicate, drop, insert, slice_get, slice_set, not, if◌then◌else◌};
 ghost use Rattle.std.specs.List.{position_or_len};
 ghost use Rattle.cq_base.specs.Key.{is_before};
 ghost use Rattle.cq_base.specs.Cells.{HasOtherKey, has_id, put};
-ghost use Rattle.cq_list.specs.Fingers.{AreFingers, EndsAt};
+ghost use Rattle.cq_list.specs.Fingers.{AreFingers, EndsAt, finger_at};
 ghost use Rattle.cq_list.specs.Pool.{queue_of, behind_first, chain, linked, places, cells, HasOneMore, IsChained, IsLinked, LeadsTo, LeadsTowards};
 ghost use Rattle.slab.specs.Slab.{get, HasRoomFor};
 
@@ -62,9 +62,9 @@ fn is_no_sooner(key: Key, other: Key) -> bool
 }
 
 // Whether the two keys are one.
-#[tactic(auto, using(crate::proofs::Put::neither_sooner))]
+#[tactic(auto, using(crate::proofs::Put::neither_sooner, crate::proofs::Put::same_is_no_sooner))]
 fn is_same(key: Key, other: Key) -> bool
-    ensures { IsTrue result → key ≡ other }
+    ensures { IsTrue result ↔ key ≡ other }
 {
     is_no_sooner(key, other) && is_no_sooner(other, key)
 }
@@ -74,19 +74,29 @@ fn further(nodes: &Slab<Node>, _queue: Queue, found: Ahead, finger: Ahead, key: 
     requires chained { IsChained (get nodes.now) _queue }
     requires found { LeadsTowards (λ x. not (is_before x.key key)) (linked (get nodes.now) _queue) found }
     requires finger { EndsAt (places (linked (get nodes.now) _queue)) finger.count finger.last }
-    ensures { LeadsTowards (λ x. not (is_before x.key key)) (linked (get nodes.now) _queue) result }
+    ensures towards { LeadsTowards (λ x. not (is_before x.key key)) (linked (get nodes.now) _queue) result }
+    ensures on { found.count ≤ result.count }
+    ensures far { finger.count ≤ position_or_len (λ x. not (is_before x.key key)) (cells (linked (get nodes.now) _queue))
+        → finger.count ≤ result.count }
 {
-    if finger.count > found.count && nodes[finger.last].queued.key.precedes(key) {
-        return finger;
+    if finger.count <= found.count {
+        return found;
     }
-    found
+    if nodes[finger.last].queued.key.precedes(key) {
+        finger
+    } else {
+        found
+    }
 }
 
 // The finger with the most nodes ahead of which the last is more urgent, or none ahead.
 fn nearest(nodes: &Slab<Node>, queue: Queue, fingers: &[Ahead], key: Key) -> Ahead
     requires chained { IsChained (get nodes.now) queue }
     requires fingers { AreFingers (places (linked (get nodes.now) queue)) fingers.now }
-    ensures { LeadsTowards (λ x. not (is_before x.key key)) (linked (get nodes.now) queue) result }
+    ensures towards { LeadsTowards (λ x. not (is_before x.key key)) (linked (get nodes.now) queue) result }
+    ensures far { (k : ℕ) → k < length fingers.now → (finger_at fingers.now k).count ≤
+        position_or_len (λ x. not (is_before x.key key)) (cells (linked (get nodes.now) queue)) →
+        (finger_at fingers.now k).count ≤ result.count }
 {
     let mut found = Ahead {
         count: 0,
@@ -136,7 +146,7 @@ fn walk(nodes: &Slab<Node>, queue: Queue, from: Ahead, key: Key) -> Ahead
 // Whether a cell with this key goes in behind all others of a queue.
 fn is_behind_all(nodes: &Slab<Node>, queue: Queue, key: Key) -> bool
     requires { IsChained (get nodes.now) queue }
-    ensures { IsTrue result → queue.len ≡
+    ensures { IsTrue result ↔ queue.len ≡
         position_or_len (λ x. not (is_before x.key key)) (cells (linked (get nodes.now) queue)) }
 {
     if queue.len == 0 {

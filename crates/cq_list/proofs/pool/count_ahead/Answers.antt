@@ -7,4 +7,4 @@ index-requires c = ap is_some (finger_there c.requires.chained c.requires.chaine
 
 pub returns-then-is_same : goal.returns-then-is_same
 returns-then-is_same c = all_but_last c.requires.chained c.requires.chained.last (omega arith) c.index.ensures
-    c.args.key (c.is_same.ensures c.if-is_same.true)
+    c.args.key (c.is_same.ensures.0 c.if-is_same.true)
