@@ -1,6 +1,7 @@
 -- A cell put into a queue whose cells rise in their keys: it goes in at the place of the first less urgent cell, and
 -- the queue still rises, since a cell that has another key and is not before it is after it.
-use Rattle.cq_list.proofs.Terms.{rules, ◌≡◌, ℕ, zero, suc, ◌≤◌, Bool, true, false, not, List, [], ◌∷◌, Some, refl, arith, common_steps, insert, slice_get, position_or_len, cases_Bool, not-true, Queued, Key, is_before, IsBefore, IsRising, HasOtherKey, put, key_laws, all_at, first_here, first_later, after_other}
+use Rattle.std.proofs.lemmas.List.Sums.{passes_at_first}
+use Rattle.cq_list.proofs.Terms.{first_le, cases_lt, slice_get_within, get_or_from_slice_get, ◌-◌, ◌<◌, rules, ◌≡◌, ℕ, zero, suc, ◌≤◌, Bool, true, false, not, List, [], ◌∷◌, Some, refl, arith, common_steps, insert, slice_get, position_or_len, cases_Bool, not-true, Queued, Key, is_before, IsBefore, IsRising, HasOtherKey, put, key_laws, all_at, first_here, first_later, after_other}
 
 -- the test that finds its place
 abbrev pub is_later : Key → Queued → Bool
@@ -42,3 +43,25 @@ sooner_to key x xs zero sooner rising at = omega arith
 sooner_to key x [] (suc m) sooner rising at = cc
 sooner_to key x (y ∷ xs) (suc m) sooner rising at =
     grind (arith, common_steps, all_at, first_later, sooner_to key x xs m sooner rising.1 at)
+
+-- a place that is no later than the first one that passes, and does not, is earlier
+pub past_this : {X : Type 0} (p : X → Bool) (xs : List X) (i : ℕ) (x : X) → slice_get xs i ≡ Some x → p x ≡ false →
+    i ≤ position_or_len p xs → i < position_or_len p xs
+past_this p xs i x at fails le =
+    grind (arith, common_steps, cases_lt, passes_at_first p xs x, slice_get_within, get_or_from_slice_get)
+
+-- ## What the last of some cells tells
+
+module _ (xs : List Queued) (rising : IsRising xs) {count : ℕ} (some : 0 < count) {x : Queued}
+    (last : slice_get xs (count - 1) ≡ Some x) (key : Key) where
+  -- where it is more urgent, they all are
+  pub all_sooner : is_before x.key key ≡ true → count ≤ position_or_len (is_no_sooner key) xs
+  all_sooner sooner = search (arith, rules, sooner_to, key_laws.on, past_this, is_no_sooner)
+
+  -- where it is not, not all of them are
+  pub one_later : is_before x.key key ≡ false → position_or_len (is_no_sooner key) xs < count
+  one_later later = grind (arith, common_steps, first_le)
+
+  -- and where it has the key, all but it
+  pub all_but_last : x.key ≡ key → count - 1 ≡ position_or_len (is_no_sooner key) xs
+  all_but_last own = search (arith, rules, sooner_to, key_laws.never_itself, first_le, is_no_sooner)

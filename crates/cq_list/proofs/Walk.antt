@@ -1,10 +1,9 @@
 -- A walk along a queue, node by node. Where it has come the rest of the chain begins at the place that it looks at,
 -- none of the cells behind it is less urgent, and it knows the place of the last of them.
-use Rattle.cq_list.proofs.Terms.{common_steps, rules, ◌≡◌, ℕ, zero, suc, ◌+◌, ◌-◌, ◌<◌, ◌≤◌, length, cases_lt, Bool, true, false, List, ◌∷◌, drop, Some, sym, ap, ◌∙◌, arith, length-drop, slice_get, slice_get-get_or, position_or_len, drop-drop, drop_more, length-map, slice_get-map, slice_get_within, get_or_from_slice_get, Queued, first_inside, Node, Queue, Nodes, chain, linked, cells, EndsAt, IsChained, first_le, places, same_Some, Key, is_before, key_laws, and_assoc}
-use Rattle.std.proofs.lemmas.List.Sums.{passes_at_first}
+use Rattle.cq_list.proofs.Terms.{common_steps, rules, ◌≡◌, ℕ, zero, suc, ◌+◌, ◌-◌, ◌<◌, ◌≤◌, length, Bool, true, false, List, ◌∷◌, drop, Some, sym, ap, ◌∙◌, arith, length-drop, slice_get, slice_get-get_or, position_or_len, drop-drop, drop_more, length-map, slice_get-map, Queued, first_inside, Node, Queue, Nodes, chain, linked, cells, EndsAt, IsChained, first_le, places, same_Some, and_assoc}
 use Rattle.cq_list.proofs.Chain.{chain-at, begins}
 use Rattle.cq_list.proofs.Finger.{ends_inside}
-use Rattle.cq_list.proofs.Put.{is_no_sooner, sooner_to}
+use Rattle.cq_list.proofs.Put.{past_this}
 
 shown_at : {X : Type 0} (xs : List X) (i : ℕ) (x : X) (ys : List X) → drop i xs ≡ x ∷ ys → slice_get xs i ≡ Some x
 shown_at xs i x ys e = grind (arith, common_steps, drop_more xs i x, slice_get-get_or xs i x)
@@ -48,12 +47,6 @@ pub head_shown : {nodes : Nodes} {queue : Queue} {node : Node} → IsChained nod
 head_shown {nodes} {queue} had some here = cell_shown had (reached_first nodes queue) some here
 
 -- ## A search for the first cell that passes a test
-
--- a place that is no later than the first one that passes, and does not, is earlier
-past_this : {X : Type 0} (p : X → Bool) (xs : List X) (i : ℕ) (x : X) → slice_get xs i ≡ Some x → p x ≡ false →
-    i ≤ position_or_len p xs → i < position_or_len p xs
-past_this p xs i x at fails le =
-    grind (arith, common_steps, cases_lt, passes_at_first p xs x, slice_get_within, get_or_from_slice_get)
 
 -- and none of the cells behind it passes
 pub record HasPassed (nodes : Nodes) (queue : Queue) (p : Queued → Bool) (count place : ℕ) : Type 0 where
@@ -120,23 +113,6 @@ module _ {nodes : Nodes} {queue : Queue} (had : IsChained nodes queue) where
 
       pub next_reached : HasReached nodes queue count node.next
       next_reached = grind (arith, common_steps, reached_next, last_reached, inside)
-
-      -- where the last of some cells is more urgent, they all are
-      pub all_sooner : (key : Key) → is_before node.queued.key key ≡ true →
-          count ≤ position_or_len (is_no_sooner key) (cells (linked nodes queue))
-      all_sooner key sooner =
-          search (arith, rules, sooner_to, key_laws.on, cell_ahead, past_this, is_no_sooner)
-
-      -- where it is not, not all of them are
-      pub one_later : (key : Key) → is_before node.queued.key key ≡ false →
-          position_or_len (is_no_sooner key) (cells (linked nodes queue)) < count
-      one_later key later = grind (arith, common_steps, first_le, cell_ahead, some)
-
-      -- and where it has the key, all but it
-      pub all_but_last : (key : Key) → node.queued.key ≡ key →
-          count - 1 ≡ position_or_len (is_no_sooner key) (cells (linked nodes queue))
-      all_but_last key own =
-          search (arith, rules, sooner_to, key_laws.never_itself, cell_ahead, first_le, is_no_sooner)
 
 -- from node to node
 pub ruleset walk_steps = (node_there, reached_next, cell_shown)

@@ -61,6 +61,30 @@ fn is_no_sooner(key: Key, other: Key) -> bool
     !key.precedes(other)
 }
 
+// All nodes of a queue.
+fn all_of(queue: Queue) -> Ahead
+    ensures count { result.count ≡ queue.len }
+    ensures last { result.last ≡ queue.last }
+{
+    Ahead {
+        count: queue.len,
+        last: queue.last,
+    }
+}
+
+// The last of some nodes of a queue.
+fn last_of_some(nodes: &Slab<Node>, _queue: Queue, some: Ahead) -> Node
+    requires chained { IsChained (get nodes.now) _queue }
+    requires some { 0 < some.count }
+    requires last { EndsAt (places (linked (get nodes.now) _queue)) some.count some.last }
+    ensures there { get nodes.now some.last ≡ Some result }
+    ensures cell { slice_get (cells (linked (get nodes.now) _queue)) (some.count - 1) ≡ Some result.queued }
+    ensures rest { drop some.count (linked (get nodes.now) _queue)
+        ≡ chain (get nodes.now) (_queue.len - some.count) result.next }
+{
+    nodes[some.last]
+}
+
 // Whether the two keys are one.
 #[tactic(auto, using(crate::proofs::Put::neither_sooner, crate::proofs::Put::same_is_no_sooner))]
 fn is_same(key: Key, other: Key) -> bool
@@ -70,19 +94,19 @@ fn is_same(key: Key, other: Key) -> bool
 }
 
 // A finger, where it has more nodes ahead than the one that was found and the last of them is more urgent.
-fn further(nodes: &Slab<Node>, _queue: Queue, found: Ahead, finger: Ahead, key: Key) -> Ahead
-    requires chained { IsChained (get nodes.now) _queue }
-    requires found { LeadsTowards (λ x. not (is_before x.key key)) (linked (get nodes.now) _queue) found }
-    requires finger { EndsAt (places (linked (get nodes.now) _queue)) finger.count finger.last }
-    ensures towards { LeadsTowards (λ x. not (is_before x.key key)) (linked (get nodes.now) _queue) result }
+fn further(nodes: &Slab<Node>, queue: Queue, found: Ahead, finger: Ahead, key: Key) -> Ahead
+    requires chained { IsChained (get nodes.now) queue }
+    requires found { LeadsTowards (λ x. not (is_before x.key key)) (linked (get nodes.now) queue) found }
+    requires finger { EndsAt (places (linked (get nodes.now) queue)) finger.count finger.last }
+    ensures towards { LeadsTowards (λ x. not (is_before x.key key)) (linked (get nodes.now) queue) result }
     ensures on { found.count ≤ result.count }
-    ensures far { finger.count ≤ position_or_len (λ x. not (is_before x.key key)) (cells (linked (get nodes.now) _queue))
+    ensures far { finger.count ≤ position_or_len (λ x. not (is_before x.key key)) (cells (linked (get nodes.now) queue))
         → finger.count ≤ result.count }
 {
     if finger.count <= found.count {
         return found;
     }
-    if nodes[finger.last].queued.key.precedes(key) {
+    if last_of_some(nodes, queue, finger).queued.key.precedes(key) {
         finger
     } else {
         found
@@ -118,7 +142,7 @@ fn next_of(nodes: &Slab<Node>, queue: Queue, ahead: Ahead) -> usize
     if ahead.count == 0 {
         return queue.first;
     }
-    nodes[ahead.last].next
+    last_of_some(nodes, queue, ahead).next
 }
 
 // How many cells of a queue are more urgent, cell by cell behind some that are.
@@ -152,7 +176,8 @@ fn is_behind_all(nodes: &Slab<Node>, queue: Queue, key: Key) -> bool
     if queue.len == 0 {
         return true;
     }
-    nodes[queue.last].queued.key.precedes(key)
+    let last = last_of_some(nodes, queue, all_of(queue));
+    last.queued.key.precedes(key)
 }
 
 // How many cells of a queue are more urgent, from the nearest finger on, or with no walk where all are.
@@ -162,10 +187,7 @@ fn ahead_of(nodes: &Slab<Node>, queue: Queue, fingers: &[Ahead], key: Key) -> Ah
     ensures { LeadsTo (λ x. not (is_before x.key key)) (linked (get nodes.now) queue) result }
 {
     if is_behind_all(nodes, queue, key) {
-        return Ahead {
-            count: queue.len,
-            last: queue.last,
-        };
+        return all_of(queue);
     }
     let from = nearest(nodes, queue, fingers, key);
     walk(nodes, queue, from, key)
@@ -177,7 +199,7 @@ fn count_ahead(nodes: &Slab<Node>, queue: Queue, fingers: &[Ahead], key: Key) ->
     requires fingers { AreFingers (places (linked (get nodes.now) queue)) fingers.now }
     ensures { result ≡ position_or_len (λ x. not (is_before x.key key)) (cells (linked (get nodes.now) queue)) }
 {
-    if queue.len > 0 && is_same(nodes[queue.last].queued.key, key) {
+    if queue.len > 0 && is_same(last_of_some(nodes, queue, all_of(queue)).queued.key, key) {
         return queue.len - 1;
     }
     ahead_of(nodes, queue, fingers, key).count
@@ -228,16 +250,16 @@ fn put_first(nodes: &mut Slab<Node>, queue: Queue, queued: Queued) -> usize
 }
 
 // A node behind one of a queue's, and its place.
-fn put_behind(nodes: &mut Slab<Node>, _queue: Queue, queued: Queued, ahead: Ahead) -> usize
+fn put_behind(nodes: &mut Slab<Node>, queue: Queue, queued: Queued, ahead: Ahead) -> usize
     requires room { HasRoomFor nodes.old 1 }
-    requires linked { IsLinked (get nodes.old) queued.cell.output _queue }
+    requires linked { IsLinked (get nodes.old) queued.cell.output queue }
     requires some { 0 < ahead.count }
-    requires last { EndsAt (places (linked (get nodes.old) _queue)) ahead.count ahead.last }
-    ensures chained { chain (get nodes.new) (_queue.len + 1) _queue.first ≡
-        insert (linked (get nodes.old) _queue) ahead.count (result, queued) }
+    requires last { EndsAt (places (linked (get nodes.old) queue)) ahead.count ahead.last }
+    ensures chained { chain (get nodes.new) (queue.len + 1) queue.first ≡
+        insert (linked (get nodes.old) queue) ahead.count (result, queued) }
     ensures more { HasOneMore queued.cell.output nodes.old nodes.new }
 {
-    let next = nodes[ahead.last].next;
+    let next = last_of_some(nodes, queue, ahead).next;
     let place = nodes.insert_reserved(Node { queued, next });
     nodes[ahead.last].next = place;
     place

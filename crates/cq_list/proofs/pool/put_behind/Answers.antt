@@ -1,17 +1,13 @@
 use Rattle.cq_list.proofs.Terms.{ap, is_some, arith, common_steps}
 use Rattle.slab.proofs.SlabLemmas.{Updates-with_value}
 use Rattle.cq_list.proofs.Linked.{is_behind, chain_more, others_stay}
-use Rattle.cq_list.proofs.Walk.{finger_there}
 use Rattle.cq_list.proofs.pool.put_behind.Goals as goal
-
-pub index-requires : goal.index-requires
-index-requires c = ap is_some (finger_there c.requires.linked.chained c.requires.last c.requires.some).1
 
 pub returns : goal.returns
 returns c =
     let put = c.insert_reserved-place in
     let led = Updates-with_value put.new.self c.args.ahead.last _ (ap is_some c.index_mut.ensures.value) in
-    let behind = is_behind put.ensures.was_vacant c.index.ensures put.ensures.updates c.index_mut.ensures.value led in
+    let behind = is_behind put.ensures.was_vacant c.last_of_some-next.ensures.there put.ensures.updates c.index_mut.ensures.value led in
     let stay = others_stay c.requires.linked c.args.ahead.count c.requires.last c.requires.some behind in
     record {
       chained = chain_more c.requires.linked c.args.ahead.count c.requires.last c.requires.some behind;
