@@ -1,8 +1,8 @@
 -- Blocks that are filled: each but the last has 16 places at least. This is told of each block by its own length, so
 -- it stays where a block gets no shorter, where one of 16 places or more comes in, and where any block goes. There
 -- are never many more blocks than a sixteenth of the places.
-use Rattle.cq_list.proofs.Terms.{common_steps, rules, ◌≡◌, ℕ, zero, suc, ◌+◌, ◌*◌, ◌<◌, ◌≤◌, List, [], ◌∷◌, ◌++◌, length, get_or, set, arith, length-append, length-set, length-take, length-drop, insert, remove, concat, length-remove, AreFilled, HaveMemory, joined, pulled, least_places, length-insert, get_or_read}
-use Rattle.cq_list.proofs.Blocks.{joined_at, pulled_at, append_in, insert_in}
+use Rattle.cq_list.proofs.Terms.{insert_end, common_steps, rules, ◌≡◌, ℕ, zero, suc, ◌+◌, ◌*◌, ◌<◌, ◌≤◌, List, [], ◌∷◌, ◌++◌, length, get_or, set, arith, length-append, length-set, length-take, length-drop, insert, remove, concat, length-remove, AreFilled, HaveMemory, joined, pulled, least_places, length-insert, get_or_read}
+use Rattle.cq_list.proofs.Blocks.{remove_in, push_in, joined_at, pulled_at, append_in, insert_in}
 
 pub few_blocks : (blocks : List (List ℕ)) → AreFilled blocks →
     least_places * length blocks ≤ length (concat blocks) + least_places
@@ -89,3 +89,9 @@ pub ruleset put_steps = (append_in, insert_in, filled_longer, length-insert, get
 
 -- other blocks behind the first
 pub ruleset rest_steps = (filled_rest, filled_behind)
+
+-- a block more at the end
+pub ruleset push_steps = (push_in, insert_end, filled_pushed, room_for_block)
+
+-- a place less in one of the blocks
+pub ruleset take_steps = (remove_in, length-remove, filled_set)

@@ -1,6 +1,6 @@
 -- The first block and the others, which stand apart. The places of a list are those of the first, and then those of the
 -- others: what is asked of the others is asked from the first block's end on.
-use Rattle.cq_list.proofs.Terms.{common_steps, ◌≡◌, ℕ, ◌+◌, ◌-◌, ◌<◌, ◌≤◌, List, ◌++◌, length, take, sym, arith, length-append, take_all, filter-append, insert, remove, concat, Some, slice_get, insert-append_right, remove-append_right, IsAhead, count_of}
+use Rattle.cq_list.proofs.Terms.{few_kept, length-take, common_steps, ◌≡◌, ℕ, ◌+◌, ◌-◌, ◌<◌, ◌≤◌, List, ◌++◌, length, take, sym, arith, length-append, take_all, filter-append, insert, remove, concat, Some, slice_get, insert-append_right, remove-append_right, IsAhead, count_of}
 use Rattle.cq_list.proofs.Blocks.{shown_behind}
 use Rattle.cq_list.proofs.BlockWalk.{take_past}
 
@@ -24,3 +24,6 @@ module _ (b : List ℕ) (bs : List (List ℕ)) (n : ℕ) (long : n ≡ length b)
 
   pub remove_later : (place k : ℕ) → n + place ≡ k → remove (b ++ concat bs) k ≡ b ++ remove (concat bs) place
   remove_later place k at = grind (arith, common_steps, remove-append_right b (concat bs) n k)
+
+-- how many are ahead of a place
+pub ruleset count_ahead_steps = (count_behind, few_kept, length-take)

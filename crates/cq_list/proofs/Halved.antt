@@ -1,5 +1,5 @@
 -- A full block split in two: a place of it stands in the half to which it belongs, and each has room for one more.
-use Rattle.cq_list.proofs.Terms.{common_steps, rules, ◌≡◌, ℕ, ◌+◌, ◌-◌, ◌<◌, ◌≤◌, List, [], length, get_or, set, take, drop, arith, take-append-drop, take-append-le, take-take, take-set, length-take, length-take-le, length-drop, length-set, length-insert, get_or-set_same, get_or-insert_at, get_or-insert_below, insert, concat, refl, most_places, AreFilled, IsSpot}
+use Rattle.cq_list.proofs.Terms.{insert-append_right, insert-append_left, common_steps, rules, ◌≡◌, ℕ, ◌+◌, ◌-◌, ◌<◌, ◌≤◌, List, [], length, get_or, set, take, drop, arith, take-append-drop, take-append-le, take-take, take-set, length-take, length-take-le, length-drop, length-set, length-insert, get_or-set_same, get_or-insert_at, get_or-insert_below, insert, concat, refl, most_places, AreFilled, IsSpot}
 use Rattle.cq_list.proofs.Blocks.{split_in}
 use Rattle.cq_list.proofs.Filled.{filled_split}
 use Rattle.cq_list.proofs.Sums.{ahead_next, length_added}
@@ -46,3 +46,6 @@ module _ (blocks new : List (List ℕ)) (i : ℕ) (inside : i < length blocks) (
         let on = ahead_next length length_added new i (get_or new i []) (omega (arith, one_more)) refl in
         search (arith, rules, one_more, front_long, back_long, same_ahead, on);
   }
+
+-- a place in one of the two halves
+pub ruleset split_steps = (insert-append_right, insert-append_left)

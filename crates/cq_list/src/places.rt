@@ -305,6 +305,7 @@ fn count_in(blocks: &SummedBlocks, output: Port, place: usize) -> usize
 }
 
 // A place in a full block, which is split in two. Its second half is given back.
+#[tactic(auto, using(crate::proofs::Halved::split_steps))]
 fn insert_and_split(block: &mut Block, place: usize, output: Port) -> Block
     requires full { length block.old ≡ most_places }
     requires inside { place < most_places }
@@ -323,6 +324,7 @@ fn insert_and_split(block: &mut Block, place: usize, output: Port) -> Block
 }
 
 // A place at the end, in a block of its own behind a full one.
+#[tactic(auto, using(crate::proofs::Filled::push_steps))]
 fn push_block(blocks: &mut SummedBlocks, output: Port)
     requires can { CanGrow blocks.old output }
     requires full { (i : ℕ) → i + 1 ≡ length blocks.old.blocks →
@@ -431,18 +433,19 @@ fn pull_next(blocks: &mut SummedBlocks, at: usize)
     blocks.put(at, blocks.at(at).len(), output);
 }
 
-// A block that is as short as it may be gets the places of the next one, or the first of them where it has many.
-fn fill_up(blocks: &mut SummedBlocks, at: usize)
+// A block that is as short as it may be gets the places of the next one, or the first of them where it has many. Its
+// own places stand where they stood.
+fn fill_up(blocks: &mut SummedBlocks, _place: usize, spot: Spot)
     requires filled { AreFilled blocks.old.blocks }
-    requires inside { at < length blocks.old.blocks }
+    requires spot { IsSpot blocks.old.blocks _place spot.block spot.within }
     ensures places { concat blocks.new.blocks ≡ concat blocks.old.blocks }
     ensures filled { AreFilled blocks.new.blocks }
-    ensures spot { (place within : ℕ) →
-        IsSpot blocks.old.blocks place at within → IsSpot blocks.new.blocks place at within }
-    ensures longer { at + 1 < length blocks.new.blocks →
-        least_places < length (slice_index_or blocks.new.blocks at []) }
+    ensures spot { IsSpot blocks.new.blocks _place spot.block spot.within }
+    ensures longer { spot.block + 1 < length blocks.new.blocks →
+        least_places < length (slice_index_or blocks.new.blocks spot.block []) }
     ensures capacity { blocks.new.capacity ≡ blocks.old.capacity }
 {
+    let at = spot.block;
     let count = blocks.len();
     let next = at + 1;
     if next == count {
@@ -461,6 +464,7 @@ fn fill_up(blocks: &mut SummedBlocks, at: usize)
 }
 
 // A place taken out. The last block stays where it runs empty.
+#[tactic(auto, using(crate::proofs::Filled::take_steps))]
 fn remove_at(blocks: &mut SummedBlocks, _place: usize, spot: Spot)
     requires filled { AreFilled blocks.old.blocks }
     requires spot { IsSpot blocks.old.blocks _place spot.block spot.within }
@@ -468,7 +472,7 @@ fn remove_at(blocks: &mut SummedBlocks, _place: usize, spot: Spot)
     ensures filled { AreFilled blocks.new.blocks }
     ensures capacity { blocks.new.capacity ≡ blocks.old.capacity }
 {
-    fill_up(blocks, spot.block);
+    fill_up(blocks, _place, spot);
     blocks.take(spot.block, spot.within);
 }
 
@@ -600,7 +604,7 @@ impl Places {
     }
 
     /// How many of the places ahead of this one are an output's.
-    #[tactic(auto, using(cq_base::proofs::Each::few_kept, crate::proofs::First::count_behind))]
+    #[tactic(auto, using(crate::proofs::First::count_ahead_steps))]
     pub fn count_ahead(&self, output: Port, place: usize) -> usize
         requires { place ≤ length self.now.outputs }
         ensures { result ≡ count_of output (take place self.now.outputs) }

@@ -8,12 +8,12 @@ returns-then-len-gt-LEAST_PLACES-clause-longer c = search (arith, rules, get_or_
 
 pub returns-then-many-le-HALF_PLACES : goal.returns-then-many-le-HALF_PLACES
 returns-then-many-le-HALF_PLACES c =
-    let inside : c.args.at + 1 < length c.args.blocks.now.blocks = omega (arith, c.requires.inside) in
+    let inside : c.args.spot.block + 1 < length c.args.blocks.now.blocks = omega arith in
     rw c.join_next.ensures.joined (search (rules, joined_in, filled_joined, spot_joined, longer_joined))
 
 pub returns-else-many-le-HALF_PLACES : goal.returns-else-many-le-HALF_PLACES
 returns-else-many-le-HALF_PLACES c =
-    let inside : c.args.at + 1 < length c.args.blocks.now.blocks = omega arith in
+    let inside : c.args.spot.block + 1 < length c.args.blocks.now.blocks = omega arith in
     let read = ap length c.at-2.ensures in
-    let long : 32 < length (get_or c.args.blocks.now.blocks (c.args.at + 1) []) = omega arith in
+    let long : 32 < length (get_or c.args.blocks.now.blocks (c.args.spot.block + 1) []) = omega arith in
     rw c.pull_next.ensures.pulled (search (rules, pulled_in, filled_pulled, spot_pulled, longer_pulled))
