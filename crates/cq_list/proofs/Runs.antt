@@ -5,7 +5,12 @@
 -- this border moves by one block, and the others stay.
 use Rattle.cq_list.specs.Sums.{AreRuns, ArePassing, AreOpen, AreSums, AreSummed, AreTaking, BlocksView, HasLess, HasMore, HasRoom, HasThese, IsBetween, IsExchanged, SumView, begin_of}
 use Rattle.cq_list.proofs.Sums.{HasBoth, IsAdded, IsChanged, ahead, ahead_next, all_ahead, block_came, block_set, block_went, count_added, length_added, one_between}
-use Rattle.cq_list.proofs.Terms.{get_or_read, get_or-set_other, get_or-set_same, length-set, take_all, cases_eq, cases_lt, common_steps, rules, ◌≡◌, ◌≢◌, ℕ, ◌+◌, ◌-◌, ◌/◌, ◌^◌, ◌⊎◌, ◌<◌, ◌≤◌, List, [], ◌++◌, length, get_or, set, take, drop, insert, remove, concat, ap, ◌∙◌, arith, count_of}
+use Rattle.cq_list.proofs.Terms.{drop_all, append-nil, get_or_read, get_or-set_other, get_or-set_same, length-set, take_all, cases_eq, cases_lt, common_steps, rules, ◌≡◌, ◌≢◌, ℕ, ◌+◌, ◌-◌, ◌/◌, ◌^◌, ◌⊎◌, ◌<◌, ◌≤◌, List, [], ◌++◌, length, get_or, set, take, drop, insert, remove, concat, ap, ◌∙◌, arith, count_of}
+
+-- what a slice of a vector leaves of the vector
+pub whole : {X : Type 0} (n : ℕ) (xs old : List X) → n ≡ length xs → length old ≡ length xs →
+    take n (xs ++ drop (length xs) old) ≡ xs
+whole n xs old size same = grind (arith, common_steps, drop_all, append-nil)
 
 -- ## One sum
 

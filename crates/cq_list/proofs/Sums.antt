@@ -2,6 +2,7 @@
 -- what stands ahead of a block tells what stands between two. Where some blocks stand in place of others, what stands
 -- ahead of a block behind them changes by what these add up to, and what stands ahead of a block before them stays.
 use Rattle.cq_list.proofs.Terms.{append-nil, common_steps, rules, ◌≡◌, ℕ, zero, suc, ◌+◌, ◌-◌, ◌<◌, ◌≤◌, List, [], ◌∷◌, ◌++◌, Some, length, get_or, set, slice_get, take, drop, insert, remove, concat, refl, sym, ap, ◌∙◌, arith, concat-append, length-append, length-take-le, take-append-add, take-append-drop, take-append-le, take-take, take_more, filter-append, few_kept, count_of, is_output}
+use Rattle.cq_list.specs.Sums.{SumView, own_in}
 use Rattle.std.proofs.lemmas.List.{set_split}
 use Rattle.std.proofs.Math.Seq.{drop-cons}
 
@@ -130,3 +131,12 @@ module _ (blocks : List (List ℕ)) (i : ℕ) (gone : List ℕ) (inside : i < le
   block_set block = rw (read, set_split blocks i block inside)
       (simp (length-take-le i blocks (omega arith), whole_at blocks i inside, append-nil) at
       (spliced (take i blocks) (get_or blocks i [] ∷ []) (block ∷ []) (drop (suc i) blocks)))
+
+-- ## A sum, output by output
+
+-- the first so many outputs have these places in place of those, and the others are as they were
+pub record IsBegun (n : ℕ) (gone new : List ℕ) (before after : SumView) : Type 0 where
+  pub places : after.places + length gone ≡ before.places + length new
+  pub done : (j : ℕ) → j < n → own_in after j + count_of j gone ≡ own_in before j + count_of j new
+  pub left : (j : ℕ) → n ≤ j → own_in after j ≡ own_in before j
+  pub each : length after.counts ≡ length before.counts

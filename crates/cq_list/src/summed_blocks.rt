@@ -263,13 +263,12 @@ fn close_run(sums: &mut Vec<Sum>, blocks: &VecDeque<Block>, offset: usize)
 }
 
 // A block that came is one too many in its run: each run behind it gets the last block of the one ahead of it.
-fn pass_on(sums: &mut Vec<Sum>, blocks: &VecDeque<Block>, offset: usize, run: usize)
-    requires inside { run < length sums.old.items }
+fn pass_on(sums: &mut [Sum], blocks: &VecDeque<Block>, offset: usize, run: usize)
+    requires inside { run < length sums.old }
     requires short { offset < run_blocks }
-    requires passing { ArePassing blocks.now.items offset sums.old.items (run + 1) }
+    requires passing { ArePassing blocks.now.items offset sums.old (run + 1) }
     requires fits { length (concat blocks.now.items) < 2 ^ 64 }
-    ensures sums { AreSums blocks.now.items offset sums.new.items }
-    ensures capacity { vec_capacity sums.new ≡ vec_capacity sums.old }
+    ensures { AreSums blocks.now.items offset sums.new }
 {
     'runs: for next in run + 1..sums.len() {
         let first = &blocks[next * RUN_BLOCKS - offset];
@@ -279,13 +278,12 @@ fn pass_on(sums: &mut Vec<Sum>, blocks: &VecDeque<Block>, offset: usize, run: us
 }
 
 // A block that went is missing in its run: each run behind it gives its first block to the one ahead of it.
-fn take_on(sums: &mut Vec<Sum>, blocks: &VecDeque<Block>, offset: usize, run: usize)
-    requires inside { run < length sums.old.items }
+fn take_on(sums: &mut [Sum], blocks: &VecDeque<Block>, offset: usize, run: usize)
+    requires inside { run < length sums.old }
     requires short { offset < run_blocks }
-    requires taking { AreTaking blocks.now.items offset sums.old.items (run + 1) }
+    requires taking { AreTaking blocks.now.items offset sums.old (run + 1) }
     requires fits { length (concat blocks.now.items) < 2 ^ 64 }
-    ensures sums { AreOpen blocks.now.items offset sums.new.items }
-    ensures capacity { vec_capacity sums.new ≡ vec_capacity sums.old }
+    ensures { AreOpen blocks.now.items offset sums.new }
 {
     'runs: for next in run + 1..sums.len() {
         let last = &blocks[next * RUN_BLOCKS - offset - 1];

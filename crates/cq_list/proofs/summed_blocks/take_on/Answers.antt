@@ -4,19 +4,17 @@ use Rattle.cq_list.proofs.summed_blocks.take_on.Goals as goal
 
 pub add-requires : goal.add-requires
 add-requires c =
-    search (arith, rules, takes c.runs.invariant.taking (c.runs.next - 1) (omega arith) c.index_mut.ensures.value)
+    search (arith, rules, takes c.runs.invariant (c.runs.next - 1) (omega arith) c.index-sums-next.is)
 
 pub subtract-requires : goal.subtract-requires
-subtract-requires c = search (arith, rules, gives c.runs.invariant.taking c.runs.next, still_read)
+subtract-requires c = search (arith, rules, gives c.runs.invariant c.runs.next, still_read)
 
 pub runs-preserved : goal.runs-preserved
-runs-preserved c = record {
-  taking = taking_on c.runs.invariant.taking (omega arith) (omega arith) (λ k ne. omega arith) c.index_mut.ensures.value
-      c.index_mut-in-runs.ensures.value _ (omega arith) c.index-last.ensures (omega arith) (omega arith) c.add.ensures
-      c.subtract.ensures;
-  all = search (arith, rules, c.runs.invariant.all);
-  capacity = search (arith, rules, c.runs.invariant.capacity);
-}
+runs-preserved c =
+    let more = rw (← c.index-sums-next.is) at c.add.ensures in
+    let less = rw (← c.index-sums-next-in-runs.is) at c.subtract.ensures in
+    taking_on c.runs.invariant (omega arith) (omega arith) (λ k ne. omega arith) c.index-sums-next.is
+    c.index-sums-next-in-runs.is _ (omega arith) c.index-last.ensures (omega arith) (omega arith) more less
 
-pub returns-clause-sums : goal.returns-clause-sums
-returns-clause-sums c = settled c.runs.invariant.taking (λ k le short. omega arith) (λ k le short. omega arith)
+pub returns : goal.returns
+returns c = settled c.runs.invariant (λ k le short. omega arith) (λ k le short. omega arith)

@@ -1,6 +1,6 @@
 use Rattle.cq_list.proofs.Terms.{rules, arith}
 use Rattle.cq_list.proofs.Sums.{length_came}
-use Rattle.cq_list.proofs.Runs.{came_passing, has_room}
+use Rattle.cq_list.proofs.Runs.{came_passing, has_room, whole}
 use Rattle.cq_list.proofs.summed_blocks.SummedBlocks.insert.Goals as goal
 
 pub add-requires : goal.add-requires
@@ -14,4 +14,4 @@ pub pass_on-requires-clause-fits : goal.pass_on-requires-clause-fits
 pass_on-requires-clause-fits c = search (arith, rules, length_came)
 
 pub invariant_of-self : goal.invariant_of-self
-invariant_of-self c = search (arith, rules, length_came)
+invariant_of-self c = search (arith, rules, length_came, whole)

@@ -1,6 +1,6 @@
 use Rattle.cq_list.proofs.Terms.{rules, arith, [], get_or, refl, ◌≡◌}
 use Rattle.cq_list.proofs.Sums.{both_parts, length_went}
-use Rattle.cq_list.proofs.Runs.{sum_has, went_first, went_taking}
+use Rattle.cq_list.proofs.Runs.{sum_has, went_first, went_taking, whole}
 use Rattle.cq_list.proofs.summed_blocks.SummedBlocks.remove.Goals as goal
 
 pub subtract-requires : goal.subtract-requires
@@ -23,3 +23,6 @@ invariant_of-self c = search (arith, rules, length_went)
 
 pub invariant_of-self-else-place-eq0 : goal.invariant_of-self-else-place-eq0
 invariant_of-self-else-place-eq0 c = search (arith, rules, length_went)
+
+pub close_run-requires-clause-open : goal.close_run-requires-clause-open
+close_run-requires-clause-open c = search (arith, rules, whole)
