@@ -7,8 +7,9 @@
 -- the proof alone.
 use Rattle.cq_engine.proofs.Terms.{common_steps, rules, ◌≡◌, ℕ, ◌+◌, ◌-◌, ◌*◌, ◌<◌, ◌≤◌, List, [], ◌∷◌, ◌++◌, length, map, drop, get_or, replicate, Option, Some, None, refl, sym, ap, ◌∙◌, arith, All, IfSome, min, enumerate_from, filter_map, range_with_len, reduce, sum_by, option_map, cases_lt, cond_both, eq-eqb, row_fits, same_Some, append-nil, ext_get_or, get_or_past, length-map, get_or-map-range_with_len, length-map-range_with_len, sum-map, sum_by-cons, Cell, Queued, Transfer, Figures, InputFigures, first_for, Machine, all_told, fronts, rests, LimiterView, list_of, orders_of, output_order, Moves, list_taken, transfers_of, ports, IsListed, Partners, partner_of, partner_place, proposals, IsFreeOutput, IsInputBest, IsStable, cushion_of, slacks, came_to, HoldsFabric, Queues, fabric_of, AreRanked, BuffersHaveRoom, HaveArrived, HaveJudged, HaveSent, ListsHaveRoom, fits_lists, held_before, keyed, IsInStep, IsSeen, arriving_slack, input_counted, slack_seen, GoStraight, crossing, crossings, input_passed, Look, among, place_head, none_unless, outputs_at, kept_more, kept_few, append_assoc, length-append}
 use Rattle.std.proofs.Math.ListN.{get_or-map}
+use Rattle.cq_engine.specs.Crossing.{HaveCrossed}
 use Rattle.cq_engine.proofs.NoOffers.{none_best, none_proposed, nothing_moves, nothing_noted}
-use Rattle.cq_engine.proofs.Slot.{AreCounted, HaveCrossed, Whole, moved_of, whole_slot, by_place_same}
+use Rattle.cq_engine.proofs.Slot.{AreCounted, Whole, moved_of, whole_slot, by_place_same}
 
 -- ## A cell alone
 

@@ -6,7 +6,7 @@ pub use Rattle.cq_base.specs.{Room.RoomView, declared.cell.Transfer.Transfer, de
 pub use Rattle.cq_base.specs.{declared.cell.Departure.Departure}
 pub use Rattle.cq_rank.specs.Switch.{AreForOneSwitch, class_count}
 pub use Rattle.cq_ideal.specs.Admission.{admitted, marks_after, refused}
-pub use Rattle.cq_ideal.specs.Ideal.{HaveLeft, answer_to}
+pub use Rattle.cq_ideal.specs.Ideal.{HaveLeft}
 pub use Rattle.cq_ideal.specs.IdealSlot.{IdealState, all_told, departures_from, fronts, rests}
 unfoldable pub use Rattle.cq_ideal.specs.IdealSlot.{departures_in}
 pub use Rattle.cq_ideal.specs.Limiter.{CanCount, LimiterView}
@@ -36,10 +36,10 @@ pub use Rattle.cq_fabric.proofs.Slot.{alike, arrive, came_newest, came_outputs, 
 pub use Rattle.cq_fabric.specs.Held.{HoldsFabric}
 pub use Rattle.cq_fabric.specs.Queues.{Queues, fabric_of}
 pub use Rattle.cq_fabric.specs.{Holding.CanHold, Released.HasReleased}
-pub use Rattle.cq_engine.specs.Engine.{CanGoOn, CountsFit, EngineView, IsInStep, IsReadyFor, IsRunning, IsSeen, SlotDone, its_admission, ports_of}
+pub use Rattle.cq_engine.specs.Engine.{CanGoOn, CountsFit, EngineView, IsInStep, IsReadyFor, IsRunning, IsSeen, SlotDone, ports_of}
 pub use Rattle.cq_engine.specs.Measuring.{arriving_slack, slack_seen}
 unfoldable pub use Rattle.cq_engine.specs.Measuring.{input_counted, output_counted}
 pub use Rattle.cq_engine.specs.Straight.{AreApart, AreSent, GoStraight, crossing, input_passed}
 unfoldable pub use Rattle.cq_engine.specs.Straight.{crossings}
 pub use Rattle.cq_engine.specs.declared.measure.Look.{Look}
-pub use Rattle.cq_engine.specs.Terms.{AreForPorts, Cell, FabricSlot, Machine, OutputFigures, Queued, SlotRecord, fabric_in, ranking}
+pub use Rattle.cq_engine.specs.Terms.{AreForPorts, Cell, FabricSlot, Machine, OutputFigures, Queued, SlotRecord, fabric_in}

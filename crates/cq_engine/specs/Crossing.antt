@@ -15,13 +15,17 @@ pub record CanBeCrossed (count : ℕ) (q : Queues) (note : RoomView Transfer) : 
   pub cells : CanCross q
   pub room : length q.inputs ≤ note.spare
 
+-- the first cells of the pairs of the input-best matching have crossed, and there were so many proposals
+pub record HaveCrossed (m : Partners) (count : ℕ) (q q' : Queues) : Type 0 where
+  pub best : IsInputBest (orders_of q.inputs) m
+  pub counted : count ≡ proposals (orders_of q.inputs) m
+  pub moves : Moves m q.inputs q.buffers q'.inputs q'.buffers
+
 -- the input-best matching of the lists was transferred and noted, after so many proposals
 pub record HasCrossed (slot phase : ℕ) (q q' : Queues) (note note' : RoomView Transfer) (made : ℕ) : Type 0 where
   pub matching : Partners
-  pub best : IsInputBest (orders_of q.inputs) matching
-  pub count : made ≡ proposals (orders_of q.inputs) matching
+  pub crossed : HaveCrossed matching made q q'
   pub few : made ≤ length q.inputs * length q.inputs
-  pub moves : Moves matching q.inputs q.buffers q'.inputs q'.buffers
   pub from_inputs : q'.from_inputs ≡ q.from_inputs
   pub to_outputs : q'.to_outputs ≡ q.to_outputs
   pub noted : note'.items ≡ note.items ++ transfers_of matching q.inputs slot phase

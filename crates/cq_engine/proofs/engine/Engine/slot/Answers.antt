@@ -1,12 +1,11 @@
-use Rattle.cq_engine.proofs.Terms.{answer_to, rules, sym, ◌≡◌, ◌+◌, ◌*◌, ◌≤◌, ◌++◌, ℕ, List, length, map, ap, ◌∙◌, arith, append_assoc, length-append, Option, length-map, admitted, fronts, ranking, transfers_of, EngineView, HoldsFabric, fabric_of, HaveArrived, HaveJudged, HaveSent, admits_are, still_holds, came_newest, came_outputs, can_cross_first, can_cross_second, come_apart, few_cross, fits_lists, held_before, its_admission, GoStraight, crossings, length-told, HasJudged, Cell, LimiterView, Queues, RoomView, Transfer}
-use Rattle.cq_engine.specs.Crossing.{HasCrossed}
+use Rattle.cq_engine.proofs.Terms.{rules, ◌≡◌, ◌+◌, ◌*◌, ◌≤◌, ◌++◌, ℕ, List, length, map, ap, ◌∙◌, arith, append_assoc, length-append, Option, length-map, admitted, transfers_of, HaveArrived, HaveJudged, HaveSent, admits_are, still_holds, came_newest, came_outputs, can_cross_first, can_cross_second, come_apart, few_cross, fits_lists, held_before, GoStraight, length-told, HasJudged, Cell, LimiterView}
 use Rattle.cq_engine.proofs.Shown.{Begun, begun, buffers_room, can_take_in, lists_room, taken}
 use Rattle.cq_engine.proofs.Done.{slot_done}
-use Rattle.cq_engine.proofs.Slot.{HaveCrossed, Whole, moved_of, whole_slot}
+use Rattle.cq_engine.proofs.Slot.{moved_of, whole_slot}
 use Rattle.cq_engine.proofs.StraightSlot.{at_most_square, crossings_few, held_straight, whole_straight}
 use Rattle.cq_engine.proofs.engine.Engine.slot.Given as given
 use Rattle.cq_engine.proofs.engine.Engine.slot.Goals as goal
-use Rattle.cq_engine.proofs.engine.Engine.slot.Goals.{After-arrive, After-depart, After-take_in, After-of_outputs-gone, After-pass-crossed, After-self}
+use Rattle.cq_engine.proofs.engine.Engine.slot.Goals.{After-arrive, After-depart, After-of_outputs-gone, After-pass-crossed, After-self}
 
 -- ## Numbers
 
@@ -27,15 +26,6 @@ known g c = search (arith, rules, begun)
 ports_seen : (g : given.Over) (c : After-self g) → length c.self.inside.queues.inputs ≡ length c.args.self.now.fixed
 ports_seen g c = search (arith, rules, known, length-map)
 
--- what the machines are asked to rank is what the fabric admits
-asks : (g : given.Over) (c : After-take_in g) →
-    HoldsFabric (fabric_of c.self.inside.queues c.self.inside.ranks.states) c.self.inside.limiter →
-    ranking (map g.R.Rank.machine c.self.inside.ranks.fixed) c.args.slot 0
-    (admitted c.take_in.new.limiter.marks c.args.arrivals.now) c.self.inside.ranks.states
-    ≡ ranking (map g.R.Rank.machine c.args.self.now.fixed) c.args.slot 0
-    (its_admission c.args.arrivals.now c.args.self.now).cells c.args.self.now.fabric.ranks
-asks g c holds = search (arith, rules, admits_are)
-
 -- once it has arrived
 arrived : (g : given.Over) (c : After-arrive g) →
     HaveArrived c.self.inside.queues c.take_in.new.came c.arrive.new.self
@@ -46,33 +36,11 @@ judged : {cells : List (Option Cell)} {old new : LimiterView} → HasJudged cell
     HaveJudged (admitted new.marks cells) old new
 judged did = record { limits = did.limits; as_many = did.ports.held ∙ ap length did.limits; more = did.held }
 
--- once a matching has crossed
-crossed : {slot phase : ℕ} {q q' : Queues} {note note' : RoomView Transfer} {made : ℕ}
-    (did : HasCrossed slot phase q q' note note' made) → HaveCrossed did.matching made q q'
-crossed did = record { best = did.best; counted = did.count; moves = did.moves }
-
 -- once the outputs have sent, and the machines are told
 sent : (g : given.Over) (c : After-depart g) →
     HaveSent (map g.R.Rank.machine c.self.inside.ranks.fixed) c.arrive.new.self c.take_in.new.ranks.states
     c.cross-first.new.queues c.depart.new.ranks.states c.depart.new.queues
 sent g c = search (arith, rules)
-
--- all that the slot comes to
-whole : (g : given.Over) (c : goal.After-count_proposals-2 g) →
-    Whole (map g.R.Rank.machine c.self.inside.ranks.fixed) c.args.slot
-    (admitted c.take_in.new.limiter.marks c.args.arrivals.now) c.self.inside.figures c.count_proposals-2.new.figures
-    (fabric_of c.self.inside.queues c.self.inside.ranks.states)
-    (fabric_of c.cross-second.new.queues c.depart.new.ranks.states)
-    (taken (known g (goal.at.returns g c).After-self) c.in_default.ensures.taken).ideal
-    (fronts c.cross-first.new.queues.buffers)
-    (transfers_of c.cross-first.ensures.matching c.arrive.new.self.inputs c.args.slot 1
-    ++ transfers_of c.cross-second.ensures.matching c.depart.new.queues.inputs c.args.slot 2)
-whole g c =
-    let at = goal.at.returns g c in
-    let begins = known g at.After-self in
-    whole_slot c.self.inside.figures begins.running.in_step (taken begins c.in_default.ensures.taken)
-    (arrived g at.After-arrive) (buffers_room begins c.take_in.new.limiter.marks) (crossed c.cross-first.ensures)
-    (sent g at.After-depart) (crossed c.cross-second.ensures) _ begins.running.seen _ (search (arith, rules))
 
 -- ## What is known of the straight way
 
@@ -88,25 +56,6 @@ few_proposed : (g : given.Over) (c : After-pass-crossed g) →
     c.pass-crossed.new.figures.proposals + (c.pass-crossed.result + 0)
     ≤ c.args.self.now.figures.proposals + 2 * (length c.args.self.now.fixed * length c.args.self.now.fixed)
 few_proposed g c seen is = search (arith, rules, crossings_few, at_most_square)
-
--- all that the slot comes to
-all_straight : (g : given.Over) (c : goal.After-count_proposals g) →
-    Whole (map g.R.Rank.machine c.self.inside.ranks.fixed) c.args.slot
-    (admitted c.take_in.new.limiter.marks c.args.arrivals.now) c.self.inside.figures c.count_proposals.new.figures
-    (fabric_of c.self.inside.queues c.self.inside.ranks.states)
-    (fabric_of c.self.inside.queues c.pass-crossed.new.ranks.states)
-    (taken (known g (goal.at.returns-then-go_straight g c).After-self) c.in_default.ensures.taken).ideal
-    c.of_outputs-gone.result.now (crossings c.args.slot (length c.self.inside.queues.inputs) c.take_in.new.came)
-all_straight g c =
-    let at = goal.at.returns-then-go_straight g c in
-    let begins = known g at.After-self in
-    let marks = c.take_in.new.limiter.marks in
-    let is = straight g at.After-of_outputs-gone in
-    let many = rw is.ports at c.pass-crossed.ensures.many in
-    whole_straight (taken begins c.in_default.ensures.taken) (lists_room begins marks) is (buffers_room begins marks)
-    c.self.inside.figures begins.running.in_step c.self.inside.look begins.running.seen c.pass-crossed.new.ranks.states
-    (rw c.take_in.ensures.fixed at c.pass-crossed.ensures.sent.told) c.count_proposals.new.figures
-    (search (arith, rules, many))
 
 -- ## What the calls ask for
 
@@ -164,8 +113,7 @@ pub depart-requires : goal.depart-requires
 depart-requires g c =
     let at = goal.at.depart-requires g c in
     let begins = known g at.After-self in
-    let buffers = c.cross-first.new.queues.buffers in
-    let moved = moved_of (crossed c.cross-first.ensures) in
+    let moved = moved_of c.cross-first.ensures.crossed in
     let holds = held_before (taken begins c.in_default.ensures.taken) (arrived g at.After-arrive)
     (buffers_room begins c.take_in.new.limiter.marks) moved begins.running.holds (judged c.take_in.ensures.judged) in
     let counts = begins.running.in_step.counts in
@@ -176,7 +124,7 @@ cross-second-requires-clause-can g c =
     let at = goal.at.cross-second-requires-clause-can g c in
     let begins = known g at.After-self in
     let seen = ports_seen g at.After-self in
-    let moved = moved_of (crossed c.cross-first.ensures) in
+    let moved = moved_of c.cross-first.ensures.crossed in
     let cells = can_cross_second (taken begins c.in_default.ensures.taken) (arrived g at.After-arrive)
     (buffers_room begins c.take_in.new.limiter.marks) moved (sent g at.After-depart) in
     search (arith, rules, few_cross)
@@ -191,65 +139,82 @@ pub invariant_of-self-2 : goal.invariant_of-self-2
 invariant_of-self-2 g c =
     let at = goal.at.returns g c in
     let begins = known g at.After-self in
-    let done = whole g c in
-    let holds = still_holds (taken begins c.in_default.ensures.taken) _ _ _ _ _ done.alike begins.running.holds
+    let come = taken begins c.in_default.ensures.taken in
+    let whole = whole_slot c.self.inside.figures begins.running.in_step come (arrived g at.After-arrive)
+    (buffers_room begins c.take_in.new.limiter.marks) c.cross-first.ensures.crossed (sent g at.After-depart)
+    c.cross-second.ensures.crossed _ begins.running.seen c.count_proposals-2.new.figures (search (arith, rules)) in
+    let holds = still_holds come _ _ _ _ _ whole.alike begins.running.holds
     (judged c.take_in.ensures.judged) c.depart.ensures.sent.released in
     search (arith, rules, length-told)
 
 pub returns-in-Err-clause-answer : goal.returns-in-Err-clause-answer
 returns-in-Err-clause-answer g c =
     let at = goal.at.returns-in-Err-clause-answer g c in
-    let asked = asks g at.After-take_in (known g at.After-self).running.holds in search (arith, rules)
+    let holds = (known g at.After-self).running.holds in search (arith, rules, admits_are)
 
 pub invariant_of-self-then-go_straight : goal.invariant_of-self-then-go_straight
 invariant_of-self-then-go_straight g c =
     let at = goal.at.returns-then-go_straight g c in
     let begins = known g at.After-self in
-    let done = all_straight g c in
-    let holds = still_holds (taken begins c.in_default.ensures.taken) _ _ _ _ _ done.alike begins.running.holds
+    let come = taken begins c.in_default.ensures.taken in
+    let marks = c.take_in.new.limiter.marks in
+    let is = straight g at.After-of_outputs-gone in
+    let whole = whole_straight come (lists_room begins marks) is (buffers_room begins marks) c.self.inside.figures
+    begins.running.in_step c.self.inside.look begins.running.seen c.pass-crossed.new.ranks.states
+    (rw c.take_in.ensures.fixed at c.pass-crossed.ensures.sent.told) c.count_proposals.new.figures
+    (let many = rw is.ports at c.pass-crossed.ensures.many in search (arith, rules, many)) in
+    let holds = still_holds come _ _ _ _ _ whole.alike begins.running.holds
     (judged c.take_in.ensures.judged) c.pass-crossed.ensures.sent.released in
     search (arith, rules, length-told)
 
 pub returns-then-go_straight : goal.returns-then-go_straight
 returns-then-go_straight g c =
     let at = goal.at.returns-then-go_straight g c in
-    let e = c.self.inside in
-    let slot = c.args.slot in
-    let came = c.take_in.new.came in
-    let holds = (known g at.After-self).running.holds in
+    let begins = known g at.After-self in
+    let come = taken begins c.in_default.ensures.taken in
+    let marks = c.take_in.new.limiter.marks in
+    let holds = begins.running.holds in
     let is = straight g at.After-of_outputs-gone in
+    let whole = whole_straight come (lists_room begins marks) is (buffers_room begins marks) c.self.inside.figures
+    begins.running.in_step c.self.inside.look begins.running.seen c.pass-crossed.new.ranks.states
+    (rw c.take_in.ensures.fixed at c.pass-crossed.ensures.sent.told) c.count_proposals.new.figures
+    (let many = rw is.ports at c.pass-crossed.ensures.many in search (arith, rules, many)) in
     let did = c.pass-crossed.ensures in
     record {
-      answer = sym (ap answer_to (sym (asks g at.After-take_in holds) ∙ c.in_default.ensures.taken.ranked));
+      answer = search (arith, rules, admits_are);
       slot = slot_done _ c.take_in.new.limiter c.self.view_is holds c.take_in.ensures.judged.marks
-          c.in_default.ensures.taken.refused c.pass-crossed.new.limiter (all_straight g c) did.sent.released
+          c.in_default.ensures.taken.refused c.pass-crossed.new.limiter whole did.sent.released
           did.sent.left (rw (← is.ports) did.note) (rw (← is.ports) did.note_room);
       went_on = search (arith, rules, few_proposed g at.After-pass-crossed (ports_seen g at.After-self) is);
       made = search (arith, rules);
-      stopped = ap (λ (v : EngineView). v.stopped) c.self.view_is ∙ c.requires.running;
+      stopped = search (arith, rules);
       stays = tt;
     }
 
 pub returns : goal.returns
 returns g c =
     let at = goal.at.returns g c in
-    let e = c.self.inside in
     let slot = c.args.slot in
     let first = transfers_of c.cross-first.ensures.matching c.arrive.new.self.inputs slot 1 in
     let second = transfers_of c.cross-second.ensures.matching c.depart.new.queues.inputs slot 2 in
-    let holds = (known g at.After-self).running.holds in
+    let begins = known g at.After-self in
+    let come = taken begins c.in_default.ensures.taken in
+    let holds = begins.running.holds in
+    let whole = whole_slot c.self.inside.figures begins.running.in_step come (arrived g at.After-arrive)
+    (buffers_room begins c.take_in.new.limiter.marks) c.cross-first.ensures.crossed (sent g at.After-depart)
+    c.cross-second.ensures.crossed _ begins.running.seen c.count_proposals-2.new.figures (search (arith, rules)) in
     let one = c.cross-first.ensures in
     let sent = c.depart.ensures in
     let two = c.cross-second.ensures in
     record {
-      answer = sym (ap answer_to (sym (asks g at.After-take_in holds) ∙ c.in_default.ensures.taken.ranked));
+      answer = search (arith, rules, admits_are);
       slot = slot_done _ c.take_in.new.limiter c.self.view_is holds c.take_in.ensures.judged.marks
-          c.in_default.ensures.taken.refused c.depart.new.limiter (whole g c) sent.sent.released sent.sent.left
+          c.in_default.ensures.taken.refused c.depart.new.limiter whole sent.sent.released sent.sent.left
           (two.noted ∙ ap (λ l. l ++ second) one.noted ∙ append_assoc c.args.note.now.items first second)
           (omega (arith, length-append first second));
       went_on = search (arith, rules, twice_few, ports_seen g at.After-self);
       made = search (arith, rules);
-      stopped = ap (λ (v : EngineView). v.stopped) c.self.view_is ∙ c.requires.running;
+      stopped = search (arith, rules);
       stays = tt;
     }
 
