@@ -1,11 +1,13 @@
 -- A walk along the blocks from the first of a run on, and over the sums of runs from both ends. What stands ahead of
 -- the block behind a block is what stands ahead of it, and its own: what is counted grows by a block's numbers, or a
--- sum's.
+-- sum's. The first block stands apart: the places of a list are its own, and then those of the others, of which is
+-- asked from the first block's end on.
 use Rattle.cq_list.specs.Sums.{AreSums, SumView, begin_of, own_in}
-use Rattle.cq_list.proofs.Terms.{take-append-add, rules, ◌≡◌, ℕ, ◌+◌, ◌-◌, ◌<◌, ◌≤◌, Bool, List, [], ◌++◌, length, get_or, take, drop, arith, length-append, take-append-drop, common_steps, filter, concat, take-append-le, drop_more, append-nil, filter-append, concat-append, place_of_nth, is_output, count_of, most_ports, IsSpot, IsAhead, few_kept, length-take, take_all}
+use Rattle.cq_list.proofs.Terms.{take-append-add, rules, ◌≡◌, ℕ, ◌+◌, ◌-◌, ◌<◌, ◌≤◌, Bool, List, [], ◌++◌, length, get_or, take, drop, arith, length-append, take-append-drop, common_steps, filter, concat, take-append-le, drop_more, append-nil, filter-append, concat-append, place_of_nth, is_output, count_of, most_ports, IsSpot, IsAhead, few_kept, length-take, take_all, sym, insert, remove, Some, slice_get, insert-append_right, remove-append_right}
 use Rattle.cq_list.proofs.Nth.{nth_inside, nth_in_front, nth_behind}
 use Rattle.cq_list.proofs.Sums.{ahead_next, all_ahead, count_added, length_added}
 use Rattle.cq_list.proofs.Runs.{read_sum}
+use Rattle.cq_list.proofs.Blocks.{shown_behind}
 
 pub nth_end : {X : Type 0} (p : X → Bool) (k : ℕ) (xs : List X) → k ≡ length (filter p xs) →
     place_of_nth p k xs ≡ length xs
@@ -56,6 +58,32 @@ module _ {blocks : List (List ℕ)} (offset : ℕ) {sums : List SumView} (had : 
   pub run_on : {places own : ℕ} → IsAhead blocks j (begin_of offset run) places own →
       IsAhead blocks j (begin_of offset (run + 1)) (places + sum.places) (own + own_in sum j)
   run_on ahead = let own = read_sum had inside read in let count = own.counts j known in search (arith, rules, own)
+
+-- ## The first block, and the others behind it
+
+module _ (b : List ℕ) (bs : List (List ℕ)) (n : ℕ) (long : n ≡ length b) where
+  pub shown_later : (place x : ℕ) → n ≤ place → slice_get (concat bs) (place - n) ≡ Some x →
+      slice_get (b ++ concat bs) place ≡ Some x
+  shown_later place x past at = grind (arith, common_steps, shown_behind)
+
+  -- what stands ahead of the end, of the others alone
+  pub ahead_behind : (j places own k : ℕ) → k ≡ count_of j b → places ≡ length (b ++ concat bs) →
+      own ≡ count_of j (b ++ concat bs) → IsAhead bs j (length bs) (places - n) (own - k)
+  ahead_behind j places own k few all every = grind (arith, common_steps, take_all, length-append, filter-append)
+
+  pub count_behind : (j place : ℕ) → n < place →
+      count_of j (take place (b ++ concat bs)) ≡ count_of j b + count_of j (take (place - n) (concat bs))
+  count_behind j place past = grind (arith, common_steps, take_past, length-append, filter-append)
+
+  pub insert_later : (place y : ℕ) → n ≤ place →
+      insert (b ++ concat bs) place y ≡ b ++ insert (concat bs) (place - n) y
+  insert_later place y past = insert-append_right b (concat bs) n place y (sym long) past
+
+  pub remove_later : (place k : ℕ) → n + place ≡ k → remove (b ++ concat bs) k ≡ b ++ remove (concat bs) place
+  remove_later place k at = grind (arith, common_steps, remove-append_right b (concat bs) n k)
+
+-- how many are ahead of a place
+pub ruleset count_ahead_steps = (count_behind, few_kept, length-take)
 
 -- what counts the places of blocks
 pub ruleset count_steps = (count_within, ahead_next, length_added, count_added, few_kept, length-take, take_all)

@@ -1,6 +1,6 @@
 -- The counts of a block, where a place is put in or taken out: the count of its output changes by one, and the others
 -- stay, since counts are added up along places.
-use Rattle.cq_list.proofs.Terms.{all_at, common_steps, rules, ◌≡◌, ℕ, ◌+◌, ◌-◌, ◌<◌, ◌≤◌, List, [], ◌∷◌, ◌++◌, length, replicate, get_or, set, refl, arith, length-set, get_or-set_same, get_or-set_other, Some, insert, remove, slice_get, slice_get-get_or, AllByRecursion, eq-eqb, ne_eqb, cases_eq, get_or-replicate, length-remove, count_of, most_ports, most_places, get_or_from_slice_get, take_more, take_all, append_assoc, few_kept}
+use Rattle.cq_list.proofs.Terms.{append-nil, length-append, length-take, all_at, common_steps, rules, ◌≡◌, ℕ, ◌+◌, ◌-◌, ◌<◌, ◌≤◌, List, [], ◌∷◌, ◌++◌, length, replicate, get_or, set, refl, arith, length-set, get_or-set_same, get_or-set_other, Some, insert, remove, slice_get, slice_get-get_or, AllByRecursion, eq-eqb, ne_eqb, cases_eq, get_or-replicate, length-remove, count_of, most_ports, most_places, get_or_from_slice_get, take_more, take_all, append_assoc, few_kept}
 use Rattle.cq_list.specs.Block.{AreCounts}
 use Rattle.cq_list.proofs.Nth.{fails}
 use Rattle.cq_list.proofs.Sums.{count_added, put_into, taken_from}
@@ -47,3 +47,6 @@ pub moved_over : (xs back : List ℕ) (i x : ℕ) → i + 1 ≡ length xs → sl
     remove xs i ++ insert back 0 x ≡ xs ++ back
 moved_over xs back i x last at =
     grind (arith, common_steps, take_more xs i x, take_all (i + 1) xs, get_or_from_slice_get, append_assoc)
+
+-- places that go over to the end of another block
+pub ruleset append_steps = (append-nil, length-append, length-take, take_all)

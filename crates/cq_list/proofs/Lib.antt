@@ -5,7 +5,6 @@ pub mod Chain
 pub mod Counts
 pub mod Filled
 pub mod Finger
-pub mod First
 pub mod Kept
 pub mod Least
 pub mod Linked
@@ -17,4 +16,3 @@ pub mod Told
 pub mod Walk
 pub mod Sums
 pub mod Runs
-pub mod Halved

@@ -1,7 +1,7 @@
 -- A cell put into a queue whose cells rise in their keys: it goes in at the place of the first less urgent cell, and
 -- the queue still rises, since a cell that has another key and is not before it is after it.
 use Rattle.std.proofs.lemmas.List.Sums.{passes_at_first}
-use Rattle.cq_list.proofs.Terms.{first_le, cases_lt, slice_get_within, get_or_from_slice_get, ◌-◌, ◌<◌, rules, ◌≡◌, ℕ, zero, suc, ◌≤◌, Bool, true, false, not, List, [], ◌∷◌, Some, refl, arith, common_steps, insert, slice_get, position_or_len, cases_Bool, not-true, Queued, Key, is_before, IsBefore, IsRising, HasOtherKey, put, key_laws, all_at, first_here, first_later, after_other}
+use Rattle.cq_list.proofs.Terms.{first_inside, length-map, first_le, cases_lt, slice_get_within, get_or_from_slice_get, ◌-◌, ◌<◌, rules, ◌≡◌, ℕ, zero, suc, ◌≤◌, Bool, true, false, not, List, [], ◌∷◌, Some, refl, arith, common_steps, insert, slice_get, position_or_len, cases_Bool, not-true, Queued, Key, is_before, IsBefore, IsRising, HasOtherKey, put, key_laws, all_at, first_here, first_later, after_other}
 
 -- the test that finds its place
 abbrev pub is_later : Key → Queued → Bool
@@ -65,3 +65,6 @@ module _ (xs : List Queued) (rising : IsRising xs) {count : ℕ} (some : 0 < cou
   -- and where it has the key, all but it
   pub all_but_last : x.key ≡ key → count - 1 ≡ position_or_len (is_no_sooner key) xs
   all_but_last own = search (arith, rules, sooner_to, key_laws.never_itself, first_le, is_no_sooner)
+
+-- where there is no cell all are more urgent
+pub ruleset behind_all_steps = (first_inside, length-map)

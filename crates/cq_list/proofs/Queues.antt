@@ -141,3 +141,6 @@ module _ (nodes : Nodes) (queues : List Queue) {seen : List (List Queued)} (j : 
 
 -- a queue that was read
 pub ruleset read_steps = (read_of, fingers_read, first_seen, as_many, inside_some)
+
+-- a head that is told
+pub ruleset head_steps = (has_head, head_at, cells_told)

@@ -4,7 +4,7 @@
 -- is done: the first run is short of one more or less. Else a block goes over at each border of two runs behind it:
 -- this border moves by one block, and the others stay.
 use Rattle.cq_list.specs.Sums.{AreRuns, ArePassing, AreOpen, AreSums, AreSummed, AreTaking, BlocksView, HasLess, HasMore, HasRoom, HasThese, IsBetween, IsExchanged, SumView, begin_of}
-use Rattle.cq_list.proofs.Sums.{HasBoth, IsAdded, IsChanged, ahead, ahead_next, all_ahead, block_came, block_set, block_went, count_added, length_added, one_between}
+use Rattle.cq_list.proofs.Sums.{length_went, length_came, HasBoth, IsAdded, IsChanged, ahead, ahead_next, all_ahead, block_came, block_set, block_went, count_added, length_added, one_between}
 use Rattle.cq_list.proofs.Terms.{drop_all, append-nil, get_or_read, get_or-set_other, get_or-set_same, length-set, take_all, cases_eq, cases_lt, common_steps, rules, ◌≡◌, ◌≢◌, ℕ, ◌+◌, ◌-◌, ◌/◌, ◌^◌, ◌⊎◌, ◌<◌, ◌≤◌, List, [], ◌++◌, length, get_or, set, take, drop, insert, remove, concat, ap, ◌∙◌, arith, count_of}
 
 -- what a slice of a vector leaves of the vector
@@ -238,3 +238,9 @@ module _ {blocks : List (List ℕ)} {offset capacity : ℕ} {sums : List SumView
           insert (set view.blocks i (take 32 (get_or view.blocks i []))) (i + 1) (drop 32 (get_or view.blocks i []))
       split_in_two half new_is =
           let parts = parted block front back 32 whole half in rw (← seen, ← block_is, parts.0, parts.1) new_is
+
+-- a block that goes
+pub ruleset remove_steps = (length_went, whole, went_first, went_taking)
+
+-- a block that comes
+pub ruleset insert_steps = (length_came, whole, came_passing)

@@ -142,6 +142,7 @@ impl Block {
     }
 
     /// Puts the places of another block behind its own.
+    #[tactic(auto, using(crate::proofs::Counts::append_steps))]
     pub fn append(&mut self, more: &Block)
         requires { length self.old + length more.now ≤ most_places }
         ensures { self.new ≡ self.old ++ more.now }

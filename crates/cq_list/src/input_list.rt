@@ -111,6 +111,7 @@ impl InputList {
 
     /// Takes the first cell for an output out, which gives its room back. It is None where none waits for it,
     /// and then the list is as before.
+    #[tactic(auto, using(crate::proofs::Kept::first_is))]
     pub fn take(&mut self, output: Port) -> Option<Queued>
         ensures first { result ≡ first_for output self.old.cells }
         ensures cells { self.new.cells ≡ without_first output self.old.cells }

@@ -260,7 +260,7 @@ fn find_from_ends(blocks: &SummedBlocks, output: Port, number: usize, all: Ahead
 // is told from the first block's end on. What works on other blocks stands apart, so that what the first one alone
 // answers stays short.
 #[inline(never)]
-#[tactic(auto, using(crate::proofs::First::ahead_behind, crate::proofs::Nth::nth_behind))]
+#[tactic(auto, using(crate::proofs::BlockWalk::ahead_behind, crate::proofs::Nth::nth_behind))]
 fn find_behind(
     first: &Block,
     others: &SummedBlocks,
@@ -305,7 +305,7 @@ fn count_in(blocks: &SummedBlocks, output: Port, place: usize) -> usize
 }
 
 // A place in a full block, which is split in two. Its second half is given back.
-#[tactic(auto, using(crate::proofs::Halved::split_steps))]
+#[tactic(auto, using(crate::proofs::Filled::split_steps))]
 fn insert_and_split(block: &mut Block, place: usize, output: Port) -> Block
     requires full { length block.old ≡ most_places }
     requires inside { place < most_places }
@@ -365,6 +365,7 @@ fn append(blocks: &mut SummedBlocks, output: Port)
 }
 
 // Where a place stands once its block has room for one more: a full block is split in two.
+#[tactic(auto, using(crate::proofs::Filled::room_for_block))]
 fn spot_with_room(blocks: &mut SummedBlocks, _place: usize, spot: Spot) -> Spot
     requires filled { AreFilled blocks.old.blocks }
     requires memory { HaveMemory (length (concat blocks.old.blocks)) blocks.old.capacity }
@@ -435,6 +436,7 @@ fn pull_next(blocks: &mut SummedBlocks, at: usize)
 
 // A block that is as short as it may be gets the places of the next one, or the first of them where it has many. Its
 // own places stand where they stood.
+#[tactic(auto, using(cq_base::proofs::Library::get_or_read))]
 fn fill_up(blocks: &mut SummedBlocks, _place: usize, spot: Spot)
     requires filled { AreFilled blocks.old.blocks }
     requires spot { IsSpot blocks.old.blocks _place spot.block spot.within }
@@ -545,7 +547,7 @@ fn remove_in_first(first: &mut Block, others: &mut SummedBlocks, place: usize)
 // The first place of an output taken out, which stands behind the first block. It is a call of its own, as
 // `find_behind` is.
 #[inline(never)]
-#[tactic(auto, using(crate::proofs::Filled::rest_steps, crate::proofs::First::remove_later))]
+#[tactic(auto, using(crate::proofs::Filled::rest_steps, crate::proofs::BlockWalk::remove_later))]
 fn remove_behind(first: &Block, others: &mut SummedBlocks, output: Port, all: Ahead)
     requires filled { AreFilled (first.now ∷ others.old.blocks) }
     requires places { all.places ≡ length (first.now ++ concat others.old.blocks) }
@@ -591,6 +593,7 @@ impl Places {
     }
 
     /// The output of a place.
+    #[tactic(auto, using(crate::proofs::Blocks::shown_front))]
     pub fn at(&self, place: usize) -> Port
         requires { place < length self.now.outputs }
         ensures { slice_get self.now.outputs place ≡ Some result }
@@ -604,7 +607,7 @@ impl Places {
     }
 
     /// How many of the places ahead of this one are an output's.
-    #[tactic(auto, using(crate::proofs::First::count_ahead_steps))]
+    #[tactic(auto, using(crate::proofs::BlockWalk::count_ahead_steps))]
     pub fn count_ahead(&self, output: Port, place: usize) -> usize
         requires { place ≤ length self.now.outputs }
         ensures { result ≡ count_of output (take place self.now.outputs) }

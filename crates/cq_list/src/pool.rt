@@ -168,6 +168,7 @@ fn walk(nodes: &Slab<Node>, queue: Queue, from: Ahead, key: Key) -> Ahead
 }
 
 // Whether a cell with this key goes in behind all others of a queue.
+#[tactic(auto, using(crate::proofs::Put::behind_all_steps))]
 fn is_behind_all(nodes: &Slab<Node>, queue: Queue, key: Key) -> bool
     requires { IsChained (get nodes.now) queue }
     ensures { IsTrue result ↔ queue.len ≡
@@ -477,6 +478,7 @@ impl<'a> Model for Heads<'a> {
 
 impl<'a> Heads<'a> {
     /// The head of a queue, whose next cell is then its head.
+    #[tactic(auto, using(crate::proofs::Queues::head_steps))]
     pub fn next(&mut self, output: Port) -> Queued
         requires { 0 < length (queue_of self.old output) }
         ensures head { slice_get (queue_of self.old output) 0 ≡ Some result }

@@ -154,6 +154,7 @@ impl SummedBlocks {
     }
 
     /// Puts a block in.
+    #[tactic(auto, using(crate::proofs::Runs::insert_steps))]
     pub fn insert(&mut self, place: usize, block: Block)
         requires inside { place ≤ length self.old.blocks }
         requires memory { length self.old.blocks < self.old.capacity }
@@ -186,6 +187,7 @@ impl SummedBlocks {
     }
 
     /// Takes a block out.
+    #[tactic(auto, using(crate::proofs::Runs::remove_steps))]
     pub fn remove(&mut self, place: usize) -> Block
         requires { place < length self.old.blocks }
         ensures block { result ≡ slice_index_or self.old.blocks place [] }

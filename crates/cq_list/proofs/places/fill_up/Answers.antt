@@ -1,10 +1,7 @@
-use Rattle.cq_list.proofs.Terms.{rules, [], ◌<◌, ◌+◌, length, ap, get_or, arith, get_or_read}
+use Rattle.cq_list.proofs.Terms.{rules, [], ◌<◌, ◌+◌, length, ap, get_or, arith}
 use Rattle.cq_list.proofs.Blocks.{joined_in, pulled_in, spot_joined, spot_pulled}
 use Rattle.cq_list.proofs.Filled.{filled_joined, filled_pulled, longer_joined, longer_pulled}
 use Rattle.cq_list.proofs.places.fill_up.Goals as goal
-
-pub returns-then-len-gt-LEAST_PLACES-clause-longer : goal.returns-then-len-gt-LEAST_PLACES-clause-longer
-returns-then-len-gt-LEAST_PLACES-clause-longer c = search (arith, rules, get_or_read)
 
 pub returns-then-many-le-HALF_PLACES : goal.returns-then-many-le-HALF_PLACES
 returns-then-many-le-HALF_PLACES c =

@@ -1,11 +1,7 @@
 use Rattle.cq_list.proofs.Terms.{rules, arith}
-use Rattle.cq_list.proofs.Filled.{room_for_block}
-use Rattle.cq_list.proofs.Halved.{IsHalved, halves_are}
+use Rattle.cq_list.proofs.Filled.{IsHalved, halves_are}
 use Rattle.cq_list.proofs.places.spot_with_room.Goals as goal
 use Rattle.cq_list.proofs.places.spot_with_room.Goals.{After-split}
-
-pub split-requires-clause-memory : goal.split-requires-clause-memory
-split-requires-clause-memory c = search (arith, rules, room_for_block)
 
 halves : (c : After-split) → IsHalved c.args.blocks.now.blocks c.split.new.self.blocks c.args.spot.block
 halves c = halves_are _ _ _ c.requires.spot.inside c.requires.filled (search (arith, rules)) c.split.ensures.blocks

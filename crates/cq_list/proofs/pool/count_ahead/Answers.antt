@@ -4,6 +4,5 @@ use Rattle.cq_list.proofs.pool.count_ahead.Goals as goal
 
 pub returns-then-is_same : goal.returns-then-is_same
 returns-then-is_same c =
-    let own = c.is_same.ensures.0 c.if-is_same.true in
-    let last = all_but_last _ c.requires.chained.rising (omega arith) c.last_of_some.ensures.cell c.args.key own in
-    search (arith, rules, last)
+    let last = all_but_last _ c.requires.chained.rising (omega arith) c.last_of_some.ensures.cell in
+    search (arith, rules, last, c.is_same.ensures.0)

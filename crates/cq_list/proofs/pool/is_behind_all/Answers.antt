@@ -1,9 +1,6 @@
-use Rattle.cq_list.proofs.Terms.{arith, common_steps, rules, first_inside, length-map, cases_Bool}
+use Rattle.cq_list.proofs.Terms.{arith, common_steps, first_inside, length-map, cases_Bool}
 use Rattle.cq_list.proofs.Put.{all_sooner, one_later}
 use Rattle.cq_list.proofs.pool.is_behind_all.Goals as goal
-
-pub returns-then-queue-eq0 : goal.returns-then-queue-eq0
-returns-then-queue-eq0 c = search (arith, rules, first_inside, length-map)
 
 pub returns : goal.returns
 returns c =

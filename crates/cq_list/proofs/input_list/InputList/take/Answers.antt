@@ -1,5 +1,5 @@
 use Rattle.cq_list.proofs.Terms.{rules, ◌∙◌, sym, arith, without_first, taken_none, StandFor}
-use Rattle.cq_list.proofs.Kept.{kept, cells_are, position-none, counted, queue_inside, some_places, first_is, left}
+use Rattle.cq_list.proofs.Kept.{kept, cells_are, position-none, counted, queue_inside, some_places, left}
 use Rattle.cq_list.proofs.input_list.InputList.take.Goals as goal
 
 pub returns-in-None : goal.returns-in-None
@@ -21,9 +21,6 @@ now c = search (arith, rules, left)
 
 pub invariant_of-self : goal.invariant_of-self
 invariant_of-self c = kept (now c)
-
-pub returns-in-Some-clause-first : goal.returns-in-Some-clause-first
-returns-in-Some-clause-first c = search (arith, rules, first_is)
 
 pub returns-in-Some-clause-cells : goal.returns-in-Some-clause-cells
 returns-in-Some-clause-cells c = cells_are (now c)

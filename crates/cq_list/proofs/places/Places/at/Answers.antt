@@ -1,10 +1,7 @@
-use Rattle.cq_list.proofs.Terms.{PlacesView, arith, rules, ap, slice_get, ◌-◌, get_or_read}
-use Rattle.cq_list.proofs.Blocks.{shown_front, shown_in}
-use Rattle.cq_list.proofs.First.{shown_later}
+use Rattle.cq_list.proofs.Terms.{PlacesView, arith, rules, ap, slice_get, get_or_read}
+use Rattle.cq_list.proofs.Blocks.{shown_in}
+use Rattle.cq_list.proofs.BlockWalk.{shown_later}
 use Rattle.cq_list.proofs.places.Places.at.Goals as goal
-
-pub returns-then-place-len : goal.returns-then-place-len
-returns-then-place-len c = search (arith, rules, shown_front)
 
 pub returns : goal.returns
 returns c =

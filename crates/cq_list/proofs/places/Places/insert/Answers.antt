@@ -1,5 +1,5 @@
 use Rattle.cq_list.proofs.Terms.{PlacesView, rules, arith, ap, insert, insert-append_left}
-use Rattle.cq_list.proofs.First.{insert_later}
+use Rattle.cq_list.proofs.BlockWalk.{insert_later}
 use Rattle.cq_list.proofs.places.Places.insert.Goals as goal
 
 pub returns-clause-outputs : goal.returns-clause-outputs
