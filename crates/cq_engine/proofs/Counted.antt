@@ -30,7 +30,7 @@ module _ (old held : List ℕ) (cells : List Queued) (at : ℕ) (inside : at < l
 waiting_push : (j : ℕ) (lists : List (List Queued)) (cells : List Queued) →
     waiting_for j (lists ++ cells ∷ []) ≡ waiting_for j lists + number_for j cells
 waiting_push j [] cells = omega arith
-waiting_push j (x ∷ lists) cells = let rest = waiting_push j lists cells in omega arith
+waiting_push j (x ∷ lists) cells = omega (arith, waiting_push j lists cells)
 
 -- the buffers and the lists before an input are counted
 pub record HeldSoFar (f : Fabric) (i : ℕ) (held : List ℕ) : Type 0 where

@@ -2,7 +2,7 @@
 -- in lists and buffers of their rooms: no two cells of a list have one key, since no two places have. By the law on
 -- sound fabrics it is in step with the ideal switch of its cells. Of the slacks nothing is claimed, since the first
 -- slot looks at all of them.
-use Rattle.cq_engine.proofs.Terms.{rules, ◌≡◌, ℕ, List, length, Option, arith, common_steps, Figures, InputFigures, OutputFigures, KeysDiffer, LimiterView, Machine, AreForOneSwitch, Fabric, input, fabric_in, fabric_held, Queues, fabric_of, CanGoOn, IsRunning, NoKeyTwice, Waiting, Frozen, agrees_of, CanHold, all_from_has, slice_get-get_or}
+use Rattle.cq_engine.proofs.Terms.{length-map, rules, ◌≡◌, ℕ, List, length, Option, arith, common_steps, Figures, InputFigures, OutputFigures, KeysDiffer, LimiterView, Machine, AreForOneSwitch, Fabric, input, fabric_in, fabric_held, Queues, fabric_of, CanGoOn, IsRunning, NoKeyTwice, Waiting, Frozen, agrees_of, CanHold, all_from_has, slice_get-get_or}
 use Rattle.cq_engine.specs.declared.measure.Look.TheVariants as look
 use Rattle.cq_base.proofs.Pooled.{each_pair}
 
@@ -40,3 +40,6 @@ module _ (ms : List Machine) (limits : List (Option ℕ)) (from to : List ℕ) (
       IsRunning ms x.next look.All figures (fabric_of q states) l
   goes_on q states figures inputs buffers ranks seen =
       grind (arith, common_steps, agrees_of x.next (fabric_in x) can.sound)
+
+-- what an engine that goes on asks for
+pub ruleset thaw_steps = (length-map, can_hold)

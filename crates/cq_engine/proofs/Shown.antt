@@ -63,3 +63,6 @@ pub taken : {ms : List Machine} {slot : ℕ} {cells : List (Option Cell)} {q : Q
     Begun ms slot cells q ranks.states l looks x → HasTakenIn ms slot cells ranks ranks' l l' came →
     AreRanked ms slot q ranks.states (admitted l'.marks cells) (class_count ms) came ranks'.states
 taken known did = search (arith, rules, admitted_for_ports)
+
+-- an engine that has not stopped
+pub ruleset running_steps = (up, length-map)

@@ -154,6 +154,7 @@ impl<R: Rank> Engine<R> {
     /// `limits[j]`, or none. In a slot so many workers at most propose at once. All memory that a slot needs is taken
     /// here. The first slot looks at all cells that wait, since nothing is known yet of their slack. The error is want
     /// of memory, and comes too where an output holds more cells than 64 bits count, which no memory has.
+    #[tactic(auto, using(crate::proofs::Going::thaw_steps))]
     pub fn thaw(
         alloc: Global,
         ranks: Vec<R>,
@@ -194,6 +195,7 @@ impl<R: Rank> Engine<R> {
     }
 
     /// The state in which it stands between two slots, with all that was counted. The error is want of memory.
+    #[tactic(auto, using(crate::proofs::Shown::running_steps))]
     pub fn freeze(&self, alloc: Global) -> Result<Frozen, NoMemory>
         requires { self.now.stopped ≡ false }
         ensures { IfOk result (λ frozen. frozen ≡ frozen_of self.now) }
@@ -286,6 +288,7 @@ impl<R: Rank> Engine<R> {
     /// no output sends and no figure changes, and they take no longer than one slot: each machine is told once that
     /// its output was idle, since a second idle slot would change nothing. The marks stay as they are, and nothing is
     /// refused.
+    #[tactic(auto, using(crate::proofs::Shown::running_steps))]
     pub fn rest(&mut self, to: Slot)
         requires running { self.old.stopped ≡ false }
         requires empty { IsEmptyFabric self.old.fabric }

@@ -1,10 +1,8 @@
 -- An engine that rested is in step with an ideal switch that is empty too.
-use Rattle.cq_engine.proofs.Terms.{rules, map, arith, length-map, IsRunning, fabric_of, rested_limited_run, still_held, common_steps, ◌≡◌, ℕ, ◌≤◌, List, length, Figures, Machine, Fabric, IsEmptyFabric, no_place, rested_agrees, IsInStep, IsSeen, Look, length-idle, empty_is}
+use Rattle.cq_engine.proofs.Terms.{rules, arith, length-map, rested_limited_run, still_held, common_steps, ◌≡◌, ℕ, ◌≤◌, List, length, Figures, Machine, Fabric, IsEmptyFabric, no_place, rested_agrees, IsInStep, IsSeen, Look, length-idle, empty_is}
 use Rattle.cq_engine.proofs.Shown.{up}
 use Rattle.cq_engine.specs.declared.measure.Look.TheVariants as look
-use Rattle.cq_engine.proofs.engine.Engine.rest.Given as given
 use Rattle.cq_engine.proofs.engine.Engine.rest.Goals as goal
-use Rattle.cq_engine.proofs.engine.Engine.rest.Goals.{After-self}
 
 rested_in_step : (ms : List Machine) (slot later : ℕ) (x : Figures) (f : Fabric) (rested : List (List ℕ)) →
     slot ≤ later →
@@ -19,17 +17,8 @@ rested_seen : (looks : Look) (x : Figures) (f : Fabric) (rested : List (List ℕ
     IsSeen looks x (record { inputs = f.inputs; buffers = f.buffers; ranks = rested })
 rested_seen looks x f rested empty square ports = grind (arith, common_steps, empty_is, no_place)
 
--- what holds where the slots begin
-runs : (g : given.Over) (c : After-self g) →
-    IsRunning (map g.R.Rank.machine c.self.inside.ranks.fixed) c.args.self.now.next c.self.inside.look
-    c.self.inside.figures (fabric_of c.self.inside.queues c.self.inside.ranks.states) c.self.inside.limiter
-runs g c = search (arith, rules, up)
-
-pub rest-requires : goal.rest-requires
-rest-requires g c = search (arith, rules, runs, length-map)
-
 pub invariant_of-self : goal.invariant_of-self
-invariant_of-self g c = search (arith, rules, runs, rested_in_step, rested_seen, length-idle, still_held)
+invariant_of-self g c = search (arith, rules, up, rested_in_step, rested_seen, length-idle, still_held)
 
 pub returns : goal.returns
-returns g c = search (arith, rules, runs, length-map, rested_limited_run)
+returns g c = search (arith, rules, up, length-map, rested_limited_run)

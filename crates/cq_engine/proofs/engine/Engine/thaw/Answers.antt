@@ -1,16 +1,7 @@
 use Rattle.cq_engine.proofs.Terms.{arith, rules, map, length-map}
-use Rattle.cq_engine.proofs.Going.{can_hold, goes_on}
+use Rattle.cq_engine.proofs.Going.{goes_on}
 use Rattle.cq_engine.proofs.Shown.{seen}
 use Rattle.cq_engine.proofs.engine.Engine.thaw.Goals as goal
-
-pub put-requires : goal.put-requires
-put-requires g c = search (arith, rules, length-map)
-
-pub limiter_of-requires : goal.limiter_of-requires
-limiter_of-requires g c = search (arith, rules, length-map)
-
-pub holding-requires : goal.holding-requires
-holding-requires g c = search (arith, rules, length-map, can_hold)
 
 pub invariant_of-result : goal.invariant_of-result
 invariant_of-result g c =
