@@ -1,13 +1,28 @@
 -- The number of workers changes nothing. Of its tables a schedule reads the sizes of cells and slots and the routes, a
 -- run the setup and the limits, and what is written the names of the files and the length of a slot. So the same
 -- arrives whatever that number is; and each verdict, each plan that meets it, and each reason that denies it, is made
--- of what arrives and of these. Numbers can be exchanged, so it holds both ways.
-use Rattle.cq_run.proofs.Terms.{Pass, Soak, rules, arith, common_steps, ◌≡◌, ℕ, List, refl, sym, IsOkAnd, Result, Ok, Err, arrivals, arrivals_at, cell_of, cells, Captured, Tables, captures_out, crossed, resumed, switched, ideal_departures, ran_ideal, packets_out, Contents, Aim, Denies, Meets, Refusal, Plan, Reader, ◌>>=◌, judged, tables_in, Command}
+-- of what arrives and of these. Numbers can be exchanged, so it holds both ways. First, an aim is met by one plan:
+-- there is one whole run, one run up to a slot, one state with a given text, and from each state one run goes on; a
+-- plan is written of what such a run keeps.
+use Rattle.cq_run.proofs.Terms.{Audit, Check, Ideal, Part, Pass, Resume, Run, Soak, rules, arith, common_steps, ◌≡◌, ℕ, List, refl, IsOkAnd, Result, Ok, Err, arrivals, arrivals_at, cell_of, cells, Captured, Tables, captures_out, crossed, resumed, switched, ideal_departures, ran_ideal, packets_out, Contents, Aim, Denies, Meets, Refusal, Plan, Reader, ◌>>=◌, judged, tables_in, Command, openings_of, Crossing, Reporting, Parting, Resuming}
 use Rattle.cq_cells.specs.Schedule.{stamp_slot, start}
 use Rattle.cq_route.specs.Route.{route}
-use Rattle.cq_run.proofs.OnePlan.{one_plan}
 use Rattle.cq_run.specs.Plan.{check_line}
 use Rattle.cq_run.specs.Workers.{WorkersChangeNothing, over, with_workers}
+use Rattle.cq_resume.proofs.{Joining.one_part, Joining.one_resumed, OneAnswer.read_exact}
+use Rattle.cq_simulate.proofs.FabricLaws.{only_one}
+use Rattle.cq_run.specs.Parting.{switch_over}
+
+pub one_plan : (aim : Aim) (a b : Plan) → Meets aim a → Meets aim b → a ≡ b
+one_plan (Crossing t cs sent) a b (rs, x, e) (ss, y, f) = cc (only_one t (arrivals t cs) rs ss x y)
+one_plan (Reporting t cs) a b (rs, x, e) (ss, y, f) = cc (only_one t (arrivals t cs) rs ss x y)
+one_plan (Parting t cs slots name) a b (p, x, e) (q, y, f) =
+    let at = one_part.at (switch_over t cs) (openings_of t.setup) slots x.at y.at x.parted y.parted in cc
+one_plan (Resuming t cs text) a b (k, x, e) (l, y, f) =
+    let w = switch_over t cs in
+    let from : x.from ≡ y.from = (read_exact w).one_state text x.from y.from x.read y.read in
+    cc (one_resumed.kept w x.from k l x.resumed (rw (← from) at y.resumed))
+one_plan _ a b x y = cc
 
 -- ## One verdict after another
 
@@ -42,7 +57,12 @@ module _ (n : ℕ) (t : Tables) where
     unfolding check_line switched crossed resumed ideal_departures ran_ideal captures_out packets_out
     follows (Pass from to) = alike _
     follows (Soak seed ports slots) = alike _
-    follows _ = search (arith, rules, first, second, arrivals_same, then_both, alike, sym)
+    follows (Check config) = rw (first, second) (alike _)
+    follows (Ideal config) = search (rules, first, second, arrivals_same, then_both, alike)
+    follows (Run config) = search (rules, first, second, arrivals_same, then_both, alike)
+    follows (Audit config) = search (rules, first, second, arrivals_same, then_both, alike)
+    follows (Part config slots state) = search (rules, first, second, arrivals_same, then_both, alike)
+    follows (Resume config state) = search (rules, first, second, arrivals_same, then_both, alike)
 
 -- ## Both ways
 

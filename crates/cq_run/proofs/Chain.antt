@@ -1,10 +1,48 @@
 -- One judgement after another. Where the first ends without an answer, so do both; where it has one, the second is
 -- left, and what ends that ends both. A name that the second is to read is to be read by both, since the first comes to
--- the same without it, or misses it. First, the count of faults where an answer tells of none, and what is told of
--- contents in any case.
-use Rattle.cq_run.proofs.Terms.{rules, arith, ◌≡◌, ◌⊎◌, ℕ, List, Option, IfSome, Result, Ok, Err, common_steps, Contents, Space, Closed, Mode, Refusal, Missing, Halt, ◌>>=◌, IsHaltOf, Judges, InTurn, Pace, Ahead, Uncounted, AnyName, Call, Fails, Lasts}
+-- the same without it, or misses it. First, judging where a name is not there: a judgement that accepts the contents
+-- comes to the same without some name, unless it is to read that name: then it misses it. This holds of the bytes of
+-- one name, and of one judgement after another.
+use Rattle.cq_run.proofs.Terms.{rules, arith, ◌≡◌, ◌⊎◌, ℕ, List, IfSome, Result, Ok, Err, common_steps, Contents, Space, Mode, Refusal, Missing, Halt, ◌>>=◌, Judges, Pace, Ahead, Uncounted, AnyName, Call, Fails, Lasts, ◌∙◌, cond, [], ◌∷◌, ap, inl, Option, None, ◌+◌, nat_list_cmp_total, get, get-remove, exact_bytes, tells_apart, PortRow, Reader, tables_in, capture_in, packets_at, captures_from, short_in, eq_by_cmp_equiv}
 use Rattle.std.specs.FinMap.{remove}
-use Rattle.cq_run.proofs.Stays.{Stays}
+use Rattle.cq_run.specs.declared.refusal.Refusal.TheVariants.{Capture}
+use Rattle.cq_run.specs.declared.refusal.CaptureFault.TheVariants.{Long}
+
+-- without a name the judgement comes to the same, or misses that name
+unfoldable pub Stays : {A : Type 0} → (Contents → Result A Refusal) → Type 0
+Stays {A} judge = (m : Contents) (name : List ℕ) (x : A) → judge m ≡ Ok x
+    → (judge (remove m name) ≡ Ok x) ⊎ (judge (remove m name) ≡ Err (Missing name))
+
+pub tables_stay : (name : List ℕ) → Stays (tables_in name)
+unfolding Stays
+tables_stay name m asked x h =
+    grind (arith, common_steps, tells_apart exact_bytes name asked, get-remove nat_list_cmp_total m asked name)
+
+pub short_stays : (long : Refusal) (limit : ℕ) (name : List ℕ) → Stays (short_in long limit name)
+unfolding Stays
+short_stays long limit name m asked x h =
+    grind (arith, common_steps, tells_apart exact_bytes name asked, get-remove nat_list_cmp_total m asked name)
+
+pub capture_stays : (r : Reader) (name : List ℕ) (input limit : ℕ) → Stays (capture_in r name input limit)
+unfolding Stays
+capture_stays r name input limit m asked x h =
+    grind (arith, common_steps, short_stays (Capture input (Long limit)) limit name m asked)
+
+pub packets_stay : (r : Reader) (input limit : ℕ) (read : Option (List ℕ)) → Stays (packets_at r input limit read)
+unfolding Stays
+packets_stay r input limit read m name x h = grind (arith, common_steps, capture_stays)
+
+pub captures_from_stay : (r : Reader) (limit input : ℕ) (rows : List PortRow) → Stays (captures_from r limit input rows)
+unfolding captures_from Stays
+captures_from_stay r limit input [] m name x h = inl h
+captures_from_stay r limit input (row ∷ rows) m name x h =
+    grind (arith, common_steps, packets_stay, captures_from_stay r limit (input + 1) rows m name)
+
+pub get-remove_same : (m : Contents) (name : List ℕ) → get (remove m name) name ≡ None
+get-remove_same m name = get-remove nat_list_cmp_total m name name
+    ∙ ap (λ b. cond b None (get m name)) ((eq_by_cmp_equiv nat_list_cmp_total).refl name)
+
+-- ## The count of faults
 
 -- a call that failed after something else was done failed also since that began, where it counted no fault
 pub fails_after : {S : Type 0} {space : S → Space} {may_fail : Call → S → S → Type 0} {keeps : S → S → Type 0}
@@ -21,12 +59,6 @@ name_after pace R S old mid new i e h = grind (arith, common_steps)
 pub counts_of : {A : Type 0} (j : Contents → Result A Refusal) (R : List ℕ → Type 0) (old new : Space)
     (result : Result A Halt) → Judges Ahead j R old new result → Uncounted Ahead (AnyName R) old.faults new.faults
 counts_of j R old new result h = grind (arith, common_steps)
-
--- ## Told contents
-
--- a fact that always holds
-pub told_any : {A : Type 0} (told : Option A) (P : A → Type 0) → ((m : A) → P m) → IfSome told P
-told_any told P f = grind (arith, common_steps)
 
 -- ## The rest of a judgement
 
@@ -82,19 +114,3 @@ pub stands_on : {A B : Type 0} {whole : Contents → Result B Refusal} {j : Cont
     (f : A → Contents → Result B Refusal) {q : Pace} {Q : List ℕ → Type 0} {old mid new : Space} {x : A} → Stays j →
     Stands whole (both j f) old mid → Judges q j Q mid new (Ok x) → Stands whole (f x) old new
 stands_on {whole = whole} {j = j} f {x = x} s st h = search (arith, rules, comes_on {whole = whole} j f x s)
-
-module _ {A : Type 0} {j : Contents → Result A Refusal} {p : Pace} {old new : Space} where
-  -- what ends judging in turn ends it at either pace
-  pub judges_at : {R : List ℕ → Type 0} {halt : Halt} → Judges InTurn j R old new (Err halt) →
-      Judges p j R old new (Err halt)
-  judges_at h = grind (arith, common_steps)
-
-module _ {A : Type 0} {p : Pace} {r : Result A Refusal} {R : List ℕ → Type 0} {at : Space} where
-  -- a computation that ends without an answer, where nothing was read
-  pub judges_computed_err : {halt : Halt} → at.mode ≡ Closed → IsHaltOf r halt →
-      Judges p (λ (m : Contents). r) R at at (Err halt)
-  judges_computed_err c h = grind (arith, common_steps)
-
-  -- one that has an answer
-  pub judges_computed : {x : A} → at.mode ≡ Closed → r ≡ Ok x → Judges p (λ (m : Contents). r) R at at (Ok x)
-  judges_computed c e = search (arith, rules)

@@ -2,12 +2,12 @@
 -- status says. Each end has one status, and what the end says of the verdict is what the status says of it, which the
 -- table of refusals tells case by case. Words are refused only where they are no command: no judgement of contents
 -- refuses them, since they are judged before any file is asked for.
-use Rattle.cq_run.proofs.Terms.{common_steps, arith, ◌≡◌, ◌↔◌, ℕ, List, rules, [], ◌∷◌, ◌≢◌, Result, Ok, Err, Option, None, Some, IfSome, Call, Fails, Lasts, Writes, Contents, Space, Command, IsJudged, Pace, Plan, known_to, known_by, Reader, Taken, World, IsCut, IsDone, IsCutAtFile, Rose, Words, Refused, Emulates, judged, judged_or_words, StatusCauses, Status, ◌+◌, PortRow, captures_from}
+use Rattle.cq_run.proofs.Terms.{common_steps, arith, ◌≡◌, ◌↔◌, ℕ, List, rules, [], ◌∷◌, ◌≢◌, Result, Ok, Err, Option, None, Some, IfSome, Call, Fails, Lasts, Writes, Contents, Space, Command, IsJudged, Pace, Plan, known_to, known_by, Reader, Taken, World, IsCut, IsDone, IsCutAtFile, Rose, Words, Emulates, judged, judged_or_words, StatusCauses, Status, ◌+◌, PortRow, captures_from}
 use Rattle.cq_run.specs.declared.stop.Stop.{Stop}
 use Rattle.cq_run.specs.declared.stop.Stop.TheVariants.{Cut, Halted}
 use Rattle.cq_run.specs.declared.stop.Unwritten.{Unwritten}
 use Rattle.cq_run.specs.Ending.{CommandEnds, EndsFor, WhereHalted, status_of}
-use Rattle.cq_run.proofs.Chain.{fails_after, told_any}
+use Rattle.cq_run.proofs.Chain.{fails_after}
 use Rattle.cq_run.proofs.Planned.{known_faults, counts_known}
 use Rattle.cq_base.specs.declared.status.Status.TheVariants as status
 
@@ -58,8 +58,7 @@ module _ (p : Pace) (a : Reader) (R W : List ℕ → Type 0) (T : Type 0) where
   command_causes : (command : Command) (old new : World) (end : Result (Unit {0}) Stop) →
       CommandEnds p a R W T command old new end →
       StatusCauses p (judged a command) (known_to command old.files).told old new (status_of end)
-  command_causes command old new (Err (Halted (Refused r))) h = search (arith, rules, counts_known)
-  command_causes command old new (Err (Halted halt)) h = search (arith, rules, told_any, counts_known)
+  command_causes command old new (Err (Halted halt)) h = search (arith, rules, counts_known)
   command_causes command old new end h = grind (arith, common_steps, cut_rose)
 
 -- the answer of the top call is the status of its end

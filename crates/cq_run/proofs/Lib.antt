@@ -1,6 +1,5 @@
 mod Terms
 pub mod Put
-pub mod Stays
 pub mod Crossed
 pub mod Chain
 pub mod Ports
@@ -10,9 +9,6 @@ pub mod Reached
 pub mod OnePort
 pub mod Ends
 pub mod TextRead
-pub mod NamesApart
 pub mod Left
 pub mod Audits
-pub mod OnePlan
 pub mod AnyWorkers
-pub mod Steps

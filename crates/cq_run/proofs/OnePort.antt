@@ -33,22 +33,16 @@ module _ (classes : ℕ) where
 
   one_comes : (inputs : ℕ) → suc inputs ≡ most_ports → (came : List Arrival) (t : ℕ) →
       AllByRecursion (IsInRange 1 classes) came → arriving came t ≡ arriving_at came t 0 ∷ replicate inputs None
-  one_comes inputs many came t here =
-      let others = none_there came t in
-      grind (arith, common_steps, arriving_is came t (suc inputs) many, all_none (arriving_at came t), others)
-
-  -- of cells one after another none comes before the first, nor with it
-  none_before : (a : Arrival) (came : List Arrival) (t : ℕ) → t ≤ a.slot → IsInRange 1 classes a →
-      AllByRecursion (IsLater a) came → found came t 0 ≡ []
-  none_before a came t early here later = search (arith, rules, found_none, all_weaker (IsLater a))
+  one_comes inputs many came t here = grind
+      (arith, common_steps, arriving_is came t (suc inputs) many, all_none (arriving_at came t), none_there came t)
 
   -- so what is still to come is what comes in this slot, and then what is to come from the next one on
   next_comes : (s : ℕ) (came : List Arrival) → AllByRecursion (IsInRange 1 classes) came → EachPair IsLater came →
       to_come s came ≡ map (as_come s) (found came s 0) ++ to_come (s + 1) came
   unfolding found
   next_comes s [] here later = refl
-  next_comes s (a ∷ came) here later =
-      grind (arith, common_steps, le-leb, lt-leb, found_here, other_slot, none_before a came, next_comes s came)
+  next_comes s (a ∷ came) here later = search
+      (arith, rules, le-leb, lt-leb, found_here, other_slot, found_none, all_weaker (IsLater a), next_comes s came)
 
 -- ## One slot
 

@@ -1,10 +1,9 @@
 -- From one judgement after another to a plan that meets what is aimed at: for each command what is judged of what it
 -- reads, and a plan that it comes to.
-use Rattle.cq_run.proofs.Terms.{resumed_best, resumed_slack, parted_best, parted_slack, rules, arith, ◌≡◌, ◌∙◌, ℕ, List, [], ◌∷◌, refl, ap, Result, Ok, Err, IfOk, IfErr, IsOk, common_steps, soak_captures, soak_tables, Captured, Tables, Call, Contents, Space, Closed, Command, Ideal, Run, Soak, Pass, Audit, Part, Resume, Given, Refusal, Halt, Aim, Reporting, Meets, Exactly, Auditing, IsGiven, IsPassage, AreRead, IsAudited, AreGiven, IsJudged, IsHaltOf, Judges, Pace, InTurn, Uncounted, Plan, known_to, Reader, ◌>>=◌, ideally_sent, capture_in, text_in, state_in, passed, audited, file_alone, IsCrossing, IsIdeal, IsPassing, plain_tables, AreTables, Lasts, trace_of, IsAuditHalted, IsAuditPassed, IsPartHalt, IsResumeHalt, IsResuming, IsPartText, written, recursion_from_All, IfSome_then}
-use Rattle.cq_run.proofs.Chain.{judges_computed, judges_computed_err, told_any}
-use Rattle.cq_run.proofs.Reached.{computed_halts, computed_plans, given_so, Reached, begun, read_on, sent_of, settled}
+use Rattle.cq_run.proofs.Terms.{resumed_best, resumed_slack, parted_best, parted_slack, rules, arith, ◌≡◌, ◌∙◌, ℕ, List, [], ◌∷◌, refl, ap, Result, Ok, Err, IfOk, IfErr, IsOk, common_steps, soak_captures, soak_tables, Captured, Tables, Call, Contents, Space, Closed, Command, Ideal, Run, Soak, Pass, Audit, Part, Resume, Given, Refusal, Halt, Aim, Reporting, Meets, Exactly, Auditing, IsGiven, IsPassage, AreRead, IsAudited, AreGiven, IsJudged, IsHaltOf, Judges, Pace, InTurn, Uncounted, Plan, known_to, Reader, ◌>>=◌, ideally_sent, capture_in, text_in, state_in, passed, audited, file_alone, IsCrossing, IsIdeal, IsPassing, plain_tables, AreTables, Lasts, trace_of, IsAuditHalted, IsAuditPassed, IsPartHalt, IsResumeHalt, IsResuming, IsPartText, written, recursion_from_All, IfSome_then, left_in_packets}
+use Rattle.cq_run.proofs.Reached.{computed_halts, computed_plans, given_so, Reached, begun, read_on, sent_of, settled, exit_is, tables_end, no_memory}
 use Rattle.cq_run.proofs.OnePort.{all_leave_is, none_limited}
-use Rattle.cq_run.proofs.Stays.{capture_stays, short_stays}
+use Rattle.cq_run.proofs.Chain.{capture_stays, short_stays}
 use Rattle.cq_run.specs.declared.denial.Denial.TheVariants.{LongLog, LongTrace}
 use Rattle.cq_run.specs.Headline.{IsTakenUp}
 use Rattle.cq_run.specs.declared.judge.Asked.TheVariants as asked
@@ -37,14 +36,14 @@ module _ {S : Type 0} {space : S → Space} {may_fail : Call → S → S → Typ
       IsJudged space may_fail keeps InTurn (Soak seed ports slots) s s result
   soak_judged (Ok plan) meets none is halts =
       let aim = Reporting (soak_tables ports) (soak_captures seed ports slots) in record {
-        judges = λ r. (aim, meets, judges_computed closed (grind (arith, common_steps)));
+        judges = λ r. (aim, meets, search (arith, rules));
         kept = kept;
         names = rw none tt;
         emulates = λ r. search (arith, rules);
         closed = closed;
         told = refl;
       }
-  soak_judged (Err halt) meets none is halts = search (arith, rules, judges_computed_err)
+  soak_judged (Err halt) meets none is halts = grind (arith, common_steps)
 
 -- ## Judging a configuration, its captures, and then what the ideal switch sends of them
 
@@ -55,9 +54,9 @@ module _ {S : Type 0} {space : S → Space} {may_fail : Call → S → S → Typ
       (result : Result Plan Halt) → IfOk result (IsCrossing given.tables given.captures) →
       IfErr result (IsHaltOf (ideally_sent given.tables given.captures)) →
       IsJudged space may_fail keeps p (Run config) old now result
-  run_judged {given = given} is (Ok plan) crossing refused = computed_plans _ _ (given_so asked.Run is)
-      crossing.is_sent (crossing.records, crossing.keeps_up.runs, crossing.written)
-      (search (rules, recursion_from_All)) (λ r. let read = is.read r in search (arith, rules, IfSome_then))
+  run_judged is (Ok plan) crossing refused = computed_plans _ _ (given_so asked.Run is) crossing.is_sent
+      (crossing.records, crossing.keeps_up.runs, crossing.written) (search (rules, recursion_from_All))
+      (λ r. search (arith, rules, IfSome_then, is.read r))
   run_judged is (Err halt) crossing refused = computed_halts _ _ (given_so asked.Run is) halt refused
 
   -- the same of the ideal switch
@@ -66,46 +65,36 @@ module _ {S : Type 0} {space : S → Space} {may_fail : Call → S → S → Typ
       IfErr result (IsHaltOf (ideally_sent given.tables given.captures)) →
       IsJudged space may_fail keeps p (Ideal config) old now result
   ideal_judged is (Ok plan) ideal refused = computed_plans _ _ (given_so asked.Ideal is) ideal.is_sent ideal.written
-      (search (rules, recursion_from_All)) (λ r. told_any (space old).told _ (λ m. tt))
+      (search (rules, recursion_from_All)) (λ r. search (arith, rules))
   ideal_judged is (Err halt) ideal refused = computed_halts _ _ (given_so asked.Ideal is) halt refused
 
 -- ## Passing: what leaves a switch of one port, from the one capture that is read
 
-module _ (from to : List ℕ) (packets : List Captured) where
-  -- what is judged once the capture is read
-  abbrev passing_of : Result Aim Refusal
-  passing_of =
-      ideally_sent (plain_tables from to) (packets ∷ []) >>= (λ sent. Ok (Exactly (passed from to packets sent)))
-
-  passage_at : (plan : Plan) (is : IsPassing (plain_tables from to) packets to plan) (r : Reader) →
-      AreTables (plain_tables from to) → (m : Contents) →
-      capture_in r from 0 (plain_tables from to).limit_bytes m ≡ Ok packets → IsPassage r from to m plan
-  unfolding plain_tables
-  passage_at plan is r are m captured =
-      search (arith, rules, all_leave_is (plain_tables from to) packets, none_limited)
+passage_at : (from to : List ℕ) (packets : List Captured) (plan : Plan)
+    (is : IsPassing (plain_tables from to) packets to plan) (r : Reader) → AreTables (plain_tables from to) →
+    (m : Contents) → capture_in r from 0 (plain_tables from to).limit_bytes m ≡ Ok packets → IsPassage r from to m plan
+unfolding plain_tables
+passage_at from to packets plan is r are m captured =
+    search (arith, rules, all_leave_is (plain_tables from to) packets, none_limited)
 
 module _ {S : Type 0} {space : S → Space} {keeps : S → S → Type 0}
-    (lasts : Lasts keeps) {from to : List ℕ} {old : S} (closed : (space old).mode ≡ Closed) where
-  -- nothing is read yet
-  pub at_capture : Reached space keeps (Pass from to) old old
-      (λ r m. capture_in r from 0 (plain_tables from to).limit_bytes m >>= (λ packets. passing_of from to packets))
-  at_capture = begun (λ s. refl) lasts closed
+    (lasts : Lasts keeps) {from to : List ℕ} {old new : S} (closed : (space old).mode ≡ Closed) (kept : keeps old new)
+    {R : List ℕ → Type 0} {packets : List Captured} (are : AreTables (plain_tables from to)) (h : (r : Reader) →
+    Judges InTurn (capture_in r from 0 (plain_tables from to).limit_bytes) R (space old) (space new) (Ok packets))
+  where
+    -- what the ideal switch sends of the capture is left
+    at_packets : Reached space keeps (Pass from to) old new (λ r m.
+        ideally_sent (plain_tables from to) (packets ∷ []) >>= (λ sent. Ok (Exactly (passed from to packets sent))))
+    at_packets = read_on _ lasts (begun (λ s. refl) lasts closed) kept (λ r. capture_stays r from 0 _) h
 
-  module _ {new : S} (kept : keeps old new) {R : List ℕ → Type 0} {packets : List Captured}
-      (are : AreTables (plain_tables from to)) (h : (r : Reader) →
-      Judges InTurn (capture_in r from 0 (plain_tables from to).limit_bytes) R (space old) (space new) (Ok packets))
-    where
-      at_packets : Reached space keeps (Pass from to) old new (λ r m. passing_of from to packets)
-      at_packets = read_on _ lasts at_capture kept (λ r. capture_stays r from 0 _) h
-
-      pub passing_judged : {may_fail : Call → S → S → Type 0} (result : Result Plan Halt) →
-          IfOk result (IsPassing (plain_tables from to) packets to) →
-          IfErr result (IsHaltOf (ideally_sent (plain_tables from to) (packets ∷ []))) →
-          IsJudged space may_fail keeps InTurn (Pass from to) old new result
-      passing_judged (Ok plan) is refused =
-          computed_plans _ _ at_packets is.is_sent (grind (arith, common_steps)) (rw is.writes (refl, tt))
-          (λ r. IfSome_then (space old).told (h r).ok (passage_at from to packets plan is r are))
-      passing_judged (Err halt) is refused = computed_halts _ _ at_packets halt refused
+    pub passing_judged : {may_fail : Call → S → S → Type 0} (result : Result Plan Halt) →
+        IfOk result (IsPassing (plain_tables from to) packets to) →
+        IfErr result (IsHaltOf (ideally_sent (plain_tables from to) (packets ∷ []))) →
+        IsJudged space may_fail keeps InTurn (Pass from to) old new result
+    passing_judged (Ok plan) is refused =
+        computed_plans _ _ at_packets is.is_sent (grind (arith, common_steps)) (rw is.writes (refl, tt))
+        (λ r. IfSome_then (space old).told (h r).ok (passage_at from to packets plan is r are))
+    passing_judged (Err halt) is refused = computed_halts _ _ at_packets halt refused
 
 -- ## An audit: the configuration, its captures, the trace, the log, and then the ideal run
 
@@ -212,4 +201,12 @@ module _ {S : Type 0} {space : S → Space} {keeps : S → S → Type 0} {old no
     resume_judged result met refused =
         let at = read_on _ lasts (given_so (asked.Resume name) is) kept (λ r. short_stays _ _ name) (λ r. read) in
         settled at result (grind (arith, common_steps)) (grind (arith, common_steps, recursion_from_All))
-        (λ r. let found = rw is.told at read.ok in grind (arith, common_steps, goes_as, is.read r))
+        (λ r. grind (arith, common_steps, goes_as, is.read r))
+
+-- ## What the prover is given beside its own rules where functions are proved without an answer
+
+pub ruleset tables_steps = (exit_is, tables_end)
+
+pub ruleset capture_steps = (exit_is, no_memory, begun)
+
+pub ruleset crossed_steps = (exit_is, left_in_packets)

@@ -3,8 +3,7 @@
 -- contents as they are, so the first capture is judged as if nothing had come between. Where it ends the whole, the
 -- later inputs say nothing but what the count of faults may show.
 use Rattle.cq_run.proofs.Terms.{rules, ◌≡◌, ◌<◌, ℕ, ◌+◌, List, [], ◌∷◌, ◌++◌, ◌≤◌, append-nil, append_assoc, drop_all, drop_more, length, drop, get_or, arith, Result, Ok, Err, Option, Some, IfSome, IfOk, IfErr, MatchOption, common_steps, Contents, Space, Closed, Captured, PortRow, Refusal, Halt, Judges, Halts, Ahead, AnyName, Uncounted, Reader, ◌>>=◌, packets_at, captures_from, Spells, Call, Fails, Lasts, Reads}
-use Rattle.cq_run.proofs.Stays.{packets_stay}
-use Rattle.cq_run.proofs.Chain.{Stands, both, stands_back, stands_first, stands_on, judges_then, counts_of, name_after, fails_after, told_any}
+use Rattle.cq_run.proofs.Chain.{packets_stay, Stands, both, stands_back, stands_first, stands_on, judges_then, counts_of, name_after, fails_after}
 use Rattle.cq_run.specs.declared.decoding.Decoding.{Decoding}
 use Rattle.cq_run.specs.Decoding.{HasBegun, IsBegunFor, source}
 use Rattle.cq_run.specs.Input.{IsHaltFor, IsInFront}
@@ -42,7 +41,7 @@ module _ (r : Reader) (input limit : ℕ) where
       → IsBegunFor read input limit told begun → MatchOption begun (packets ≡ []) (λ d. Spells (source d) packets)
       → IfSome told (λ m. packets_at r input limit read m ≡ Ok packets)
   arrived told packets (Some name) (Some d) b h = grind (arith, common_steps, capture_is r name input limit (source d))
-  arrived told packets read begun b h = grind (arith, common_steps, told_any)
+  arrived told packets read begun b h = grind (arith, common_steps)
 
   -- what is wrong with its bytes ends judging
   halted : (R : List ℕ → Type 0) (old new : Space) (halt : Halt) (read : Option (List ℕ)) (begun : Option Decoding)

@@ -1,13 +1,12 @@
 -- What is known at a moment of judging a command. All that was judged so far was accepted: no fault was counted, the
 -- file space is closed, its contents are as before, and of these the command comes to what is left to judge. So where a
 -- name that is read next is unread or refused, or what was read is judged, that is what the command comes to.
-use Rattle.cq_run.proofs.Terms.{rules, arith, ◌≡◌, ◌⊎◌, ℕ, IsTrue, List, inl, inr, length, IfOk, IfSome, Result, Ok, Err, common_steps, AllByRecursion, Captured, Tables, Call, Fails, Lasts, Reads, Closed, Contents, Space, Command, Given, Refusal, Halt, NoMemory, Refused, Unread, Aim, Auditing, Crossing, Denies, Exactly, Meets, Parting, Resuming, Departure, switched, command_asking, ideally_sent, state_in, text_in, IsGiven, judged_of_given, Emulates, AreRead, IfSome_then, refl, IsJudged, IsHaltOf, Judges, Pace, InTurn, Plan, Decides, known_to, Reader, meaning_of, ◌>>=◌, MayRead, MayWrite, captures_in, judged, tables_in, AreTables, ports_of, IsErrAnd}
+use Rattle.cq_run.proofs.Terms.{rules, arith, ◌≡◌, ◌⊎◌, ℕ, IsTrue, List, inl, length, IfOk, IfSome, Result, Ok, Err, common_steps, AllByRecursion, Captured, Tables, Call, Fails, Lasts, Reads, Closed, Contents, Space, Command, Given, Refusal, Halt, NoMemory, Refused, Unread, Aim, Auditing, Crossing, Denies, Exactly, Meets, Parting, Resuming, Departure, switched, command_asking, ideally_sent, state_in, text_in, IsGiven, judged_of_given, Emulates, AreRead, IfSome_then, refl, IsJudged, IsHaltOf, Judges, Pace, InTurn, Plan, Decides, known_to, Reader, meaning_of, ◌>>=◌, MayRead, MayWrite, captures_in, judged, tables_in, AreTables, ports_of, IsErrAnd}
 use Rattle.cq_run.specs.declared.denial.Denial.TheVariants.{LongLog, LongTrace}
 use Rattle.cq_run.specs.declared.judge.Asked.{Asked}
 use Rattle.cq_run.specs.declared.judge.Asked.TheVariants as asked
-use Rattle.cq_run.proofs.Chain.{ComesTo, Stands, both, comes_on, stands_back, stands_first, stands_on, judges_computed_err, judges_then, judges_at, fails_after}
+use Rattle.cq_run.proofs.Chain.{ComesTo, Stands, both, comes_on, stands_back, stands_first, stands_on, judges_then, fails_after, Stays, captures_from_stay, tables_stay}
 use Rattle.cq_run.proofs.TextRead.{from_front}
-use Rattle.cq_run.proofs.Stays.{Stays, captures_from_stay, tables_stay}
 
 -- what the exit of a `?` returns, where the conversion of the error is told by an equation
 pub exit_is : {T E : Type 0} {e : E} (r : Result T E) → IsErrAnd r (λ y. y ≡ e) → r ≡ Err e
@@ -87,11 +86,6 @@ module _ {S : Type 0} {space : S → Space} {keeps : S → S → Type 0} {comman
       let stands = λ (r : Reader). stands_on (f r) (stays r) (reached.stands r) (h r) in
       search (arith, rules, stands, lasts.both)
 
-  module _ {now : S} {v : Result Aim Refusal} (reached : Reached space keeps command old now (λ r m. v)) where
-    aims : (p : Pace) (r : Reader) (R : List ℕ → Type 0) (aim : Aim) → v ≡ Ok aim →
-        Judges p (judged r command) R (space old) (space now) (Ok aim)
-    aims p r R aim e = grind (arith, common_steps, reached.stands r)
-
 -- once a configuration and its captures are read, what is judged of these is left
 comes_so : (r : Reader) (config : List ℕ) (asked : Asked) (t : Tables) (captures : List (List Captured))
     (m : Contents) → AreRead r config m t captures →
@@ -104,11 +98,9 @@ comes_so r config asked t captures m read = rw (asks config asked r) (comes_on (
 pub given_so : {S : Type 0} {space : S → Space} {keeps : S → S → Type 0} {config : List ℕ} {old now : S} {given : Given}
     (asked : Asked) → IsGiven space keeps config old now given →
     Reached space keeps (command_asking config asked) old now (λ r. rest_of asked r given.tables given.captures)
-given_so {space = space} {config = config} {old = old} {given = given} asked is = record {
+given_so {config = config} asked is = record {
   knows = asks_known config asked;
-  stands = λ r.
-      let comes = IfSome_then (space old).told (is.read r) (comes_so r config asked given.tables given.captures) in
-      search (arith, rules, comes);
+  stands = λ r. search (arith, rules, IfSome_then, is.read r, comes_so r config asked);
   kept = is.kept;
   closed = is.closed;
 }
@@ -138,8 +130,7 @@ module _ {S : Type 0} {space : S → Space} {may_fail : Call → S → S → Typ
   -- memory runs out
   pub no_memory : {rest : Reader → Contents → Result Aim Refusal} → Reached space keeps command old new rest →
       IsJudged space may_fail keeps p command old new (Err NoMemory)
-  no_memory reached =
-      halted reached.knows (λ r. let at = reached.stands r in grind (arith, common_steps)) reached.kept
+  no_memory reached = halted reached.knows (λ r. grind (arith, common_steps, reached.stands r)) reached.kept
 
   -- what was read is judged
   pub settled : {v : Result Aim Refusal} → Reached space keeps command old new (λ r m. v) →
@@ -147,24 +138,10 @@ module _ {S : Type 0} {space : S → Space} {may_fail : Call → S → S → Typ
       IfOk result (λ plan. AllByRecursion (λ write. MayWrite command write.0) plan.writes) →
       ((r : Reader) → IfOk result (λ plan. IfSome (space old).told (λ m. Emulates r command m plan))) →
       IsJudged space may_fail keeps p command old new result
-  settled reached (Ok plan) (aim, e, meets) names emulates =
+  settled reached result h names emulates =
       let judges = λ (r : Reader). known command reached.knows p r (Failed space may_fail keeps command old new)
-      (space old) (space new) (Ok plan) (aim, meets, aims reached p r _ aim e) in
+      (space old) (space new) result (grind (arith, common_steps, reached.stands r)) in
       let front = reached.stands from_front in search (arith, rules, judges)
-  settled reached (Err (Refused refusal)) (untold, inl e) names emulates =
-      halted reached.knows
-      (λ r. stands_back (λ name u. u) (reached.stands r) (judges_computed_err reached.closed (e, untold))) reached.kept
-  settled {v} reached (Err (Refused refusal)) (untold, inr (aim, e, denied)) names emulates = record {
-    judges = λ r.
-        let judges = aims reached p r (Failed space may_fail keeps command old new) aim e in
-        search (arith, rules, known command reached.knows);
-    kept = reached.kept;
-    names = tt;
-    emulates = λ r. tt;
-    closed = reached.closed;
-    told = (reached.stands from_front).told;
-  }
-  settled reached (Err halt) h names emulates = grind (arith, common_steps, no_memory reached)
 
   -- judging ends in what is computed of one result
   module _ {A : Type 0} (w : Result A Refusal) (f : A → Aim)
@@ -188,8 +165,8 @@ module _ {S : Type 0} {space : S → Space} {may_fail : Call → S → S → Typ
   pub tables_end : keeps old new → Judges InTurn (tables_in config)
       (λ name. (name ≡ config) × Fails space may_fail keeps (Reads name) old new) (space old) (space new) (Err halt) →
       IsJudged space may_fail keeps p (command_asking config asked) old new (Err halt)
-  tables_end kept h = halted (asks_known config asked) (λ r. rw (asks config asked r)
-      (judges_then _ (λ name u. (asks_any config asked name, u.1)) (judges_at h))) kept
+  tables_end kept h = halted (asks_known config asked)
+      (λ r. grind (arith, common_steps, asks config asked r, asks_any config asked)) kept
 
   -- the captures end it
   pub captures_end : {mid : S} {t : Tables} {Q : List ℕ → Type 0} → Lasts keeps →

@@ -33,7 +33,7 @@ unfoldable pub use Rattle.cq_simulate.specs.Packets.{packets_out}
 pub use Rattle.cq_simulate.specs.{declared.fabric_run.PackedFabricRun.PackedFabricRun}
 pub use Rattle.cq_words.specs.Words.{command_for, most_slots, with_three}
 pub use Rattle.cq_words.specs.declared.command.Command.{Command}
-pub use Rattle.cq_words.specs.declared.command.Command.TheVariants.{Audit, Ideal, Part, Pass, Resume, Run, Soak}
+pub use Rattle.cq_words.specs.declared.command.Command.TheVariants.{Audit, Check, Ideal, Part, Pass, Resume, Run, Soak}
 pub use Rattle.cq_run.specs.Aim.{Aim, Auditing, Crossing, Denies, Exactly, Meets, Parting, Reporting, Resuming}
 pub use Rattle.cq_run.specs.Asked.{command_asking}
 pub use Rattle.cq_run.specs.Given.{Given, IsGiven, judged_of_given}
@@ -51,7 +51,7 @@ pub use Rattle.cq_run.specs.Plan.{audited, capture_out, passed, file_alone}
 unfoldable pub use Rattle.cq_run.specs.Plan.{captures_out, crossed, resumed, switched}
 pub use Rattle.cq_run.specs.Refusals.{meaning_of}
 pub use Rattle.cq_run.specs.Switching.{IsCrossed, IsCrossing, IsIdeal, IsPassing, halt_for, under_names}
-pub use Rattle.cq_run.specs.Verdict.{MayRead, MayWrite, capture_in, captures_in, file_in, found_or_missing, ideally_sent, judged, judged_or_words, named, packets_at, read_or_refused_for, short_in, short_or, state_in, tables_in, text_in, ◌>>=◌}
+pub use Rattle.cq_run.specs.Verdict.{MayRead, MayWrite, capture_in, captures_in, file_in, found_or_missing, ideally_sent, judged, judged_or_words, packets_at, read_or_refused_for, short_in, state_in, tables_in, text_in, ◌>>=◌}
 unfoldable pub use Rattle.cq_run.specs.Verdict.{captures_from}
 pub use Rattle.cq_run.specs.World.{Taken, World, taken_by}
 pub use Rattle.cq_run.specs.{declared.denial.Denial.Denial, declared.refusal.Refusal.Refusal, declared.stop.Halt.Halt}

@@ -59,7 +59,7 @@ pub fn judge<R: Threads + Sync, F: Files, G: Gate>(
     }
 }
 
-#[tactic(auto, using(crate::proofs::Steps::capture_steps))]
+#[tactic(auto, using(crate::proofs::Planned::capture_steps))]
 fn pass<R: Threads + Sync, F: Files, G: Gate>(
     rt: &R,
     alloc: Global,
@@ -158,7 +158,7 @@ enum Asked {
 }
 
 // What a command comes to that asks this of a configuration.
-#[tactic(auto, using(crate::proofs::Steps::tables_steps))]
+#[tactic(auto, using(crate::proofs::Planned::tables_steps))]
 fn judge_configured<R: Threads + Sync, F: Files, G: Gate>(
     rt: &R,
     alloc: Global,
@@ -236,7 +236,7 @@ fn judge_captures<R: Threads + Sync, F: Files, G: Gate>(
 
 // What the ideal switch makes of these captures, one for each port, with all its bytes. The captures are given up on
 // the way.
-#[tactic(auto, using(crate::proofs::Steps::crossed_steps))]
+#[tactic(auto, using(crate::proofs::Planned::crossed_steps))]
 fn send_ideally<R: Threads + Sync>(
     rt: &R,
     alloc: Global,
@@ -254,7 +254,7 @@ fn send_ideally<R: Threads + Sync>(
 
 /// What `run` comes to for a configuration, or its first refusal, where captures are decoded by readers ahead of
 /// judging. The watch is told of each that begins, and changes no answer.
-#[tactic(auto, using(crate::proofs::Steps::tables_steps))]
+#[tactic(auto, using(crate::proofs::Planned::tables_steps))]
 pub fn run_ahead<R, F: Files, G: Gate, W: Watch + 'static>(
     rt: R,
     alloc: Global,
@@ -300,7 +300,7 @@ where
 
 // What the crossbar switch makes of these captures, one for each port, with all its bytes. The captures are given up
 // on the way.
-#[tactic(auto, using(crate::proofs::Steps::crossed_steps), unfolding(crate::specs::Plan::crossed))]
+#[tactic(auto, using(crate::proofs::Planned::crossed_steps), unfolding(crate::specs::Plan::crossed))]
 fn cross<R: Threads + Sync, G: Gate>(
     rt: &R,
     alloc: Global,

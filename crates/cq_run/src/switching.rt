@@ -131,6 +131,7 @@ pub fn audit_texts<R: Threads + Sync>(
 }
 
 // The same, over the schedule of these captures.
+#[tactic(auto, using(crate::proofs::Reached::exit_is))]
 fn audit_over(
     alloc: Global,
     tables: &Tables,

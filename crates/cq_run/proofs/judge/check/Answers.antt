@@ -1,6 +1,6 @@
 use Rattle.cq_run.proofs.Terms.{arith, rules, common_steps, refl}
 use Rattle.cq_run.proofs.Reached.{begun, read_ends, read_on, settled, exit_is}
-use Rattle.cq_run.proofs.Stays.{tables_stay}
+use Rattle.cq_run.proofs.Chain.{tables_stay}
 use Rattle.cq_run.proofs.judge.check.Goals as goal
 
 pub returns-in_err-tables : goal.returns-in_err-tables

@@ -1,4 +1,4 @@
-use Rattle.cq_run.proofs.Terms.{◌∙◌, ap, length, List, PortRow}
+use Rattle.cq_run.proofs.Terms.{◌∙◌}
 use Rattle.cq_run.proofs.Planned.{run_judged}
 use Rattle.cq_run.proofs.Reached.{captures_end, given_read, exit_is}
 use Rattle.cq_run.specs.declared.judge.Asked.TheVariants as asked
@@ -11,8 +11,7 @@ returns-in_err-captures g c = λ config start kept read. rw (exit_is _ c.from_re
 
 pub returns : goal.returns
 returns g c = λ config start kept read.
-    let many = ap (λ (rows : List PortRow). length rows) c.as_slice-rows.ensures in
+    let each = rw c.as_slice-rows.ensures at c.in_ok-captures.ensures.each in
     run_judged (given_read g.met.F.Files.lasts_unbegun c.requires.tables read kept
-    (λ r. rw c.as_slice-rows.ensures at (c.in_ok-captures.ensures.judges r))
-    (c.in_ok-captures.ensures.each ∙ many ∙ c.requires.tables.files) c.stream_from.ensures.kept)
-    c.cross.result c.cross.ensures.crossing c.cross.ensures.refused
+    (λ r. rw c.as_slice-rows.ensures at (c.in_ok-captures.ensures.judges r)) (each ∙ c.requires.tables.files)
+    c.stream_from.ensures.kept) _ c.cross.ensures.crossing c.cross.ensures.refused

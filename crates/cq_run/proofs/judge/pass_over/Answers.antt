@@ -1,6 +1,6 @@
-use Rattle.cq_run.proofs.Terms.{arith, rules, plain_tables}
-use Rattle.cq_run.proofs.Planned.{at_capture, passing_judged}
-use Rattle.cq_run.proofs.Reached.{read_ends, exit_is}
+use Rattle.cq_run.proofs.Terms.{arith, rules, refl, plain_tables}
+use Rattle.cq_run.proofs.Planned.{passing_judged}
+use Rattle.cq_run.proofs.Reached.{begun, read_ends, exit_is}
 use Rattle.cq_run.proofs.judge.pass_over.Goals as goal
 
 pub pass_on-requires-clause-port : goal.pass_on-requires-clause-port
@@ -10,7 +10,7 @@ pass_on-requires-clause-port g c = search (arith, rules)
 pub returns-in_err-capture : goal.returns-in_err-capture
 returns-in_err-capture g c =
     rw (exit_is _ c.from_residual.ensures.1) (read_ends _ g.met.F.Files.lasts_unbegun
-    (at_capture g.met.F.Files.lasts_unbegun c.requires.closed) c.read_input.ensures.kept
+    (begun (λ s. refl) g.met.F.Files.lasts_unbegun c.requires.closed) c.read_input.ensures.kept
     (rw c.requires.plain at c.in_err-capture.ensures.judges)
     (λ name u. u))
 

@@ -4,8 +4,7 @@ use Rattle.cq_run.proofs.Reached.{exit_is}
 use Rattle.cq_run.proofs.perform.conclude.Goals as goal
 
 pub returns-in-Err-clause-ends : goal.returns-in-Err-clause-ends
-returns-in-Err-clause-ends g c = λ pace command start r is.
-    let halted = rw c.in-Err.is at is in grind (arith, common_steps, halted.judges r)
+returns-in-Err-clause-ends g c = λ pace command start r is. grind (arith, common_steps, is.judges r)
 
 pub returns-in_err-perform-in-Ok-clause-ends : goal.returns-in_err-perform-in-Ok-clause-ends
 returns-in_err-perform-in-Ok-clause-ends g c = λ pace command start r is.

@@ -1,5 +1,5 @@
 use Rattle.cq_run.proofs.Terms.{arith, rules, ap, Err}
-use Rattle.cq_run.proofs.Stays.{get-remove_same}
+use Rattle.cq_run.proofs.Chain.{get-remove_same}
 use Rattle.cq_run.proofs.reading.read_configuration.Goals as goal
 
 pub returns-in-Err-Fault-clause-judges : goal.returns-in-Err-Fault-clause-judges

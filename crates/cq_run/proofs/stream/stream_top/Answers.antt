@@ -1,4 +1,4 @@
-use Rattle.cq_run.proofs.Terms.{map, string_bytes, Option, Some, Command, Run, Ahead}
+use Rattle.cq_run.proofs.Terms.{map, string_bytes, Ahead}
 use Rattle.cq_run.proofs.Ends.{causes_at, emulated_at, halted_so, words_end}
 use Rattle.cq_run.proofs.TextRead.{from_front}
 use Rattle.cq_run.proofs.Within.{others, streams}
@@ -18,7 +18,6 @@ returns-in-Some g c =
     let runs = c.in-Some.ensures.runs in
     let ends = c.stream-end.ensures.ends in
     let is = c.answer.ensures.status in
-    let command : Option Command = Some (Run c.in-Some.config.now) in
     record {
       answer = rw (e.0, e.1) (λ r. record {
         end = c.stream-end.result;
@@ -26,9 +25,9 @@ returns-in-Some g c =
         status = is;
         tells = c.answer.ensures.tells;
       });
-      causes = rw (e.0, e.1) (λ r. causes_at Ahead r _ _ _ command _ _ _ is (ends r) runs);
-      headline = rw (e.0, runs) (λ r. emulated_at Ahead r _ _ _ command _ _ _ is (ends r));
-      no_command = rw (e.0, runs) (words_end Ahead from_front _ _ _ command _ _ _ is (ends from_front));
+      causes = rw (e.0, e.1) (λ r. causes_at Ahead r _ _ _ _ _ _ _ is (ends r) runs);
+      headline = rw (e.0, runs) (λ r. emulated_at Ahead r _ _ _ _ _ _ _ is (ends r));
+      no_command = rw (e.0, runs) (words_end Ahead from_front _ _ _ _ _ _ _ is (ends from_front));
       unbegun = halted_so _ is c.stream-end.ensures.unbegun;
       closed = c.stream-end.ensures.closed;
     }
