@@ -12,12 +12,9 @@ unfolding first
 first_on c cs e = rw e
 
 -- a check that does not hold
-refuses_first : (c : Check) (d : Check) (r : TableRefusal) → Refuses c r → Refuses (otherwise c d) r
-refuses_first c d r h = grind (arith, common_steps)
-
 pub first_here : (c : Check) (cs : List Check) (r : TableRefusal) → Refuses c r → Refuses (first (c ∷ cs)) r
 unfolding first
-first_here c cs r h = refuses_first c (first cs) r h
+first_here c cs r h = grind (arith, common_steps)
 
 -- all hold
 pub first_all : (c : Check) (cs : List Check) → c ≡ None → first cs ≡ None → first (c ∷ cs) ≡ None
@@ -50,11 +47,11 @@ later r c cs e h = rw (first_on c cs e) h
 -- of two lists of checks
 pub here_in : {A : Type 0} (r : Result A TableRefusal) (cs ds : List Check) → IfErr r (Refuses (first cs)) →
     IfErr r (Refuses (first (cs ++ ds)))
-here_in r cs ds h = search (arith, rules, first-append, refuses_first)
+here_in r cs ds h = search (arith, rules, first-append)
 
 pub later_in : {A : Type 0} (r : Result A TableRefusal) (cs ds : List Check) → first cs ≡ None →
     IfErr r (Refuses (first ds)) → IfErr r (Refuses (first (cs ++ ds)))
-later_in r cs ds e h = rw (first-append cs ds) (otherwise_later r (first cs) (first ds) e h)
+later_in r cs ds e h = rw (first-append cs ds, e) h
 
 pub all_in : (cs ds : List Check) → first cs ≡ None → first ds ≡ None → first (cs ++ ds) ≡ None
 all_in cs ds e h = first-append cs ds ∙ rw e h

@@ -1,5 +1,5 @@
 -- The document that a text is, and the verdict on it.
-use Rattle.cq_tables.proofs.Terms.{rules, arith, ◌≡◌, ℕ, nat_le, ◌<◌, ◌≤◌, List, [], ◌∷◌, ◌++◌, Option, Some, None, Result, Ok, IfErr, length, is_some, unwrap_or, subst, ap, ◌∙◌, sym, le-leb, common_steps, IsUtf8, cases_Bool, lt-leb, is_utf8-from_IsUtf8, IsUtf8-from_is_utf8, Members, no_members, Tables, TableRefusal, Refuses, at, first, refused, unless, NotToml, TooLong, Top, table_checks, checks_in, default_checks, document, file_check, top_keys, whole, read_or_refused, IsRefusedFor, tables_of, top_of, verdict}
+use Rattle.cq_tables.proofs.Terms.{rules, arith, ◌≡◌, ℕ, nat_le, ◌<◌, ◌≤◌, List, [], ◌∷◌, ◌++◌, Option, Some, None, Result, Ok, IfErr, length, is_some, unwrap_or, subst, ap, ◌∙◌, sym, le-leb, common_steps, IsUtf8, cases_Bool, lt-leb, is_utf8-from_IsUtf8, IsUtf8-from_is_utf8, Members, no_members, Tables, TableRefusal, Refuses, at, first, refused, unless, NotToml, TooLong, Top, table_checks, default_checks, document, file_check, top_keys, whole, read_or_refused, IsRefusedFor, tables_of, top_of, verdict}
 use Rattle.toml.specs.Parse.{parse_document}
 use Rattle.cq_tables.proofs.Checks.{all_in, first_all, first_here, first_none, first_on, here, here_in, later, later_in}
 
@@ -45,8 +45,7 @@ left_of : (text : List ℕ) (top : Members) → length text ≤ 1048576 → docu
     →
     verdict text
     ≡ first ((table_checks Top (top_keys top) top ++ default_checks top) ++ (file_check (tables_of top) ∷ []))
-left_of text top small is = ap (λ (o : Option Members). first (checks_in text (unwrap_or o no_members))) is
-    ∙ (search (arith, rules, first_on, fits, is_some))
+left_of text top small is = rw is (search (arith, rules, first_on, fits, is_some))
 
 pub table_fault : {A : Type 0} (text : List ℕ) (top : Members) (r : Result A TableRefusal) → length text ≤ 1048576 →
     document text ≡ Some top

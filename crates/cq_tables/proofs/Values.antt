@@ -6,15 +6,12 @@ pub listed_items : (ds : List Data) → listed (items_of ds) ≡ ds
 listed_items [] = refl
 listed_items (d ∷ ds) = ap (λ t. d ∷ t) (listed_items ds)
 
-pub listed_view : (vs : List Value) → listed (items_view vs) ≡ map view vs
-listed_view vs = listed_items (map view vs)
-
 pub array_view_in : (least most : ℕ) (d : Data) (vs : List Value) → as_array d ≡ Some (items_view vs) →
     array_of least most d ≡ unless (is_from least most (length vs)) OutOfRange
-array_view_in least most d vs e = grind (arith, common_steps, listed_view)
+array_view_in least most d vs e = grind (arith, common_steps, listed_items)
 
 pub array_view_elements : (d : Data) (vs : List Value) → as_array d ≡ Some (items_view vs) → elements d ≡ map view vs
-array_view_elements d vs e = rw (e, listed_view vs)
+array_view_elements d vs e = rw (e, listed_items)
 
 -- a test of each byte is the test of the whole text
 pub each_is_digit : (text : List ℕ) → list_all is_ascii_digit text ≡ all_ascii_digits text
@@ -29,9 +26,8 @@ pub parsed_is_written : {E : Type 0} (text : List ℕ) (r : Result ℕ E) →
     (is_from 1 39 (length text) && all_ascii_digits text) ≡ true → ParsesUnsigned 128 10 text r →
     result_ok r ≡ written text
 unfolding written
-parsed_is_written {E} text r test parsed =
-    let parsed_is = parse_digits whole 128 text r parsed in
-    search (arith, rules, parsed_is, and_parts, leb-true, cases_Bool, nat_lt, ltb-true)
+parsed_is_written text r test parsed = search
+    (arith, rules, parse_digits whole 128 text r parsed, and_parts, leb-true, cases_Bool, nat_lt, ltb-true)
 
 -- a number in a range is at least its least, where there is one
 pub least_of : (least most : ℕ) (n : Option ℕ) → IfSome n (IsInRange least most) → IfSome n (λ n. least ≤ n)
@@ -53,9 +49,8 @@ module _ (names : List (Bor (List ℕ))) where
   lesser_first : (k : String Global) (ks : List (String Global)) → AllByRecursion (λ y. string_cmp k y ≡ Less) ks →
       lesser (string_bytes k) (option_map string_bytes (find is_unknown ks)) ≡ Some (string_bytes k)
   lesser_first k [] h = refl
-  lesser_first k (y ∷ ks) h =
-      let after = nat_list_cmp_total.antisymm (string_bytes y) (string_bytes k) in
-      grind (arith, common_steps, lesser_first k ks h.1)
+  lesser_first k (y ∷ ks) h = grind
+      (arith, common_steps, lesser_first k ks h.1, nat_list_cmp_total.antisymm (string_bytes y) (string_bytes k))
 
   pub least_is_first : (es : List Entry) → IsStrictlySortedBy string_cmp (keys_of es) →
       option_map string_bytes (find is_unknown (keys_of es))
@@ -63,7 +58,6 @@ module _ (names : List (Bor (List ℕ))) where
   unfolding least_unknown IsStrictlySortedBy
   least_is_first [] h = refl
   least_is_first (e ∷ es) h =
-      let first = lesser_first e.0 (keys_of es) h.0 in
-      grind (arith, common_steps, among_behind names (string_bytes e.0), least_is_first es h.1)
+      search (arith, rules, among_behind names, least_is_first es h.1, lesser_first e.0 (keys_of es) h.0)
 
 pub ruleset elements_steps = (nat_tests, array_view_in, array_view_elements)

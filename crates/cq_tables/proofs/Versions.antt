@@ -1,7 +1,7 @@
 -- What version 1 accepts as classes version 2 accepts too. A class that version 1 accepts has no key but the priority
 -- and the cost, and so none that version 2 does not know. And since it has no level, its level is the default, which
 -- every class has in version 1. So it is from class to class.
-use Rattle.cq_tables.proofs.Terms.{arith, rules, ◌≡◌, ℕ, suc, Bool, true, cond, List, [], ◌∷◌, map, Option, None, refl, ap, codes, option_map, cond-true, Data, Members, no_members, member, get_member, Classes, Place, UnknownKey, Check, at, each, first, otherwise, refused, class_array, class_keys, class_row, class_rows, element_check, elements_at, or_one, check_of, key_check, least_unknown, lesser, no_other, optional, table_checks, array_key, path, array_of, members, wide_from, common_steps}
+use Rattle.cq_tables.proofs.Terms.{arith, rules, ◌≡◌, ℕ, suc, Bool, true, cond, List, [], ◌∷◌, map, Option, None, refl, codes, cond-true, Data, Members, no_members, member, get_member, Classes, Place, Check, each, first, otherwise, class_array, class_keys, class_row, class_rows, element_check, elements_at, check_of, least_unknown, lesser, table_checks, members, common_steps}
 use Rattle.cq_tables.specs.declared.version.Version.TheVariants.{One, Two}
 use Rattle.cq_tables.proofs.Checks.{first_all, first_none}
 
@@ -16,7 +16,7 @@ then_other c d e on h = grind (arith, common_steps)
 
 pub first_parts : (c : Check) (cs : List Check) → first (c ∷ cs) ≡ None → (c ≡ None) × (first cs ≡ None)
 unfolding first
-first_parts c cs h = both_none c (first cs) h
+first_parts c cs h = grind (arith, common_steps)
 
 -- ## The keys of one class
 
@@ -42,23 +42,10 @@ no_level (member k d ms) h = search (arith, rules, known_first, no_level ms)
 
 -- ## One class
 
-none_unknown : (place : Place) (o : Option (List ℕ)) →
-    option_map (λ (name : List ℕ). refused (path place name) UnknownKey) o ≡ None → o ≡ None
-none_unknown place o h = grind (arith, common_steps)
-
-module _ (place : Place) (table : Members) (holds : first (table_checks place (class_keys One place) table) ≡ None)
-  where
-    abbrev priority : Check
-    priority = key_check place (codes "priority") (optional (wide_from 0)) table
-
-    abbrev cost : Check
-    cost = key_check place (codes "cost") (optional (wide_from 1)) table
-
-    parts : (no_other place first_keys table ≡ None) × (first (priority ∷ cost ∷ []) ≡ None)
-    parts = first_parts (no_other place first_keys table) (priority ∷ cost ∷ []) holds
-
-    all_known : least_unknown first_keys table ≡ None
-    all_known = none_unknown place (least_unknown first_keys table) parts.0
+all_known : (place : Place) (table : Members) → first (table_checks place (class_keys One place) table) ≡ None →
+    least_unknown first_keys table ≡ None
+unfolding first
+all_known place table holds = search (arith, rules)
 
 abbrev in_one : ℕ → Data → Check
 in_one = element_check Classes (λ _. class_keys One)
@@ -78,18 +65,15 @@ all_same : (i : ℕ) (ds : List Data) → first (each in_one i ds) ≡ None →
     map (class_row Two) (map members ds) ≡ map (class_row One) (map members ds)
 unfolding each
 all_same i [] h = refl
-all_same i (d ∷ ds) h = search (arith, rules, first_parts, both_none, no_level, all_known, all_same (suc i) ds)
+all_same i (d ∷ ds) h = search (arith, rules, first_parts, no_level, all_known, all_same (suc i) ds)
 
 module _ (top : Members) (holds : check_of top (class_array One) ≡ None) where
   -- the classes that the document states
   abbrev stated : List Data
   stated = elements_at (get_member (codes "class") top)
 
-  abbrev may_be_there : Check
-  may_be_there = at (array_key Classes) (optional (array_of 1 16) (get_member (codes "class") top))
-
   pub accepted : check_of top (class_array Two) ≡ None
   accepted = search (rules, then_other, all_hold)
 
   pub same_classes : class_rows Two top ≡ class_rows One top
-  same_classes = ap or_one (all_same 0 stated (both_none may_be_there (first (each in_one 0 stated)) holds).1)
+  same_classes = search (arith, rules, all_same 0 stated, both_none)

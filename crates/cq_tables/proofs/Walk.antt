@@ -1,5 +1,5 @@
 -- A walk over the elements of an array: what is checked and read so far, and what is left to check.
-use Rattle.cq_tables.proofs.Terms.{common_steps, rules, ◌≡◌, ℕ, suc, ◌+◌, ◌<◌, ◌≤◌, List, [], ◌∷◌, ◌++◌, length, get_or, take, drop, map, None, Result, IfErr, All, refl, ap, ◌∙◌, sym, arith, add-one, drop_all, map-append, All-push, drop-cons, take-suc, Data, Members, view, Value, TableRefusal, Check, Refuses, first, each, members, ◌≢◌, zero, Bool, true, false, ◌||◌, Option, Some, nat_cmp, slice_cmp, AllPairs, list_any, list_any-append, list_any_at, length-map, get_or-map, is_eq, insert_key, bytes_eq, not-true, is_eq-slice_cmp, bytes_eq-Decides, all_pairs_push, DuplicateAddress, Addresses, address_keys, address_row, and_then, element_check, is_new, mac_in, required, address, address_value}
+use Rattle.cq_tables.proofs.Terms.{common_steps, rules, ◌≡◌, ℕ, suc, ◌+◌, ◌<◌, ◌≤◌, List, [], ◌∷◌, ◌++◌, length, get_or, take, drop, map, None, Result, IfErr, All, refl, ap, ◌∙◌, sym, arith, add-one, drop_all, map-append, All-push, drop-cons, take-suc, Data, Members, view, Value, TableRefusal, Check, Refuses, first, each, members, ◌≢◌, Bool, true, false, ◌||◌, Option, Some, nat_cmp, slice_cmp, AllPairs, list_any, list_any-append, list_any_at, length-map, get_or-map, is_eq, insert_key, bytes_eq, not-true, is_eq-slice_cmp, bytes_eq-Decides, all_pairs_push, DuplicateAddress, Addresses, address_keys, address_row, and_then, element_check, is_new, mac_in, required, address, address_value}
 use Rattle.cq_tables.proofs.Checks.{first_none, first_on, here}
 use Rattle.cq_route.specs.declared.tables.AddressRow.{AddressRow}
 
@@ -10,16 +10,12 @@ each_drop : (check : ℕ → Data → Check) (vs : List Value) (i n : ℕ) (d : 
 unfolding each
 each_drop check vs i n d h = rw (drop-cons vs i d)
 
-each_past : (check : ℕ → Data → Check) (vs : List Value) (i n : ℕ) → length vs ≤ i →
-    each check n (map view (drop i vs)) ≡ []
-unfolding each
-each_past check vs i n h = grind (arith, common_steps, drop_all)
-
 -- where no element is left to check, all hold
 pub walk_holds : (check : ℕ → Data → Check) (vs : List Value) (i : ℕ) →
     first (each check 0 (map view vs)) ≡ first (each check i (map view (drop i vs))) → length vs ≤ i →
     first (each check 0 (map view vs)) ≡ None
-walk_holds check vs i so_far past = so_far ∙ (ap first (each_past check vs i i past) ∙ first_none)
+unfolding each
+walk_holds check vs i so_far past = grind (arith, common_steps, drop_all, first_none)
 
 module _ {A : Type 0} where
   abbrev pub rows_of : (Members → A) → List Value → List A
@@ -46,8 +42,7 @@ module _ {A : Type 0} where
         → check i (view v) ≡ None → x ≡ row (members (view v)) → P x → after ≡ rows ++ x ∷ [] →
         Walked check row P vs (i + 1) after
     walked_more v {x} small is held reads p pushed =
-        let push = All-push P rows x w.kept p in
-        rw (pushed, add-one) (search (arith, rules, each_drop check vs i i v small, first_on, rows_more, push))
+        search (arith, rules, add-one, each_drop check vs i i v small, first_on, rows_more, All-push P)
 
     pub walked_stop : {B : Type 0} (r : Result B TableRefusal) (v : Value) → i < length vs → v ≡ get_or vs i v
         → IfErr r (Refuses (check i (view v))) → IfErr r (Refuses (first (each check 0 (map view vs))))
@@ -65,8 +60,7 @@ has macs mac = list_any (bytes_eq mac) macs
 -- as the set looks an address up
 pub set_has : (mac : List ℕ) (macs : List (List ℕ)) →
     list_any (λ x. is_eq (slice_cmp nat_cmp mac x)) macs ≡ has macs mac
-set_has mac [] = refl
-set_has mac (x ∷ xs) = rw (is_eq-slice_cmp mac x, set_has mac xs)
+set_has mac macs = search (arith, rules, is_eq-slice_cmp mac)
 
 -- one more address in a set
 pub has-insert : (macs : List (List ℕ)) (mac q : List ℕ) →
@@ -98,9 +92,8 @@ abbrev pub AreKnown : List (List ℕ) → List AddressRow → Type 0
 AreKnown known rows = (q : List ℕ) → has known q ≡ has (map mac rows) q
 
 take_macs : (vs : List Value) (i : ℕ) → map mac (rows_of address_row (take i vs)) ≡ take i (macs_of vs)
-take_macs [] i = grind (arith, common_steps)
-take_macs (v ∷ vs) zero = refl
 take_macs (v ∷ vs) (suc i) = ap (λ t. mac_in (members (view v)) ∷ t) (take_macs vs i)
+take_macs vs i = grind (arith, common_steps)
 
 has_last : (rows : List AddressRow) (row : AddressRow) (q : List ℕ) →
     has (map mac (rows ++ row ∷ [])) q ≡ (bytes_eq q row.mac || has (map mac rows) q)
@@ -108,9 +101,8 @@ has_last rows row q = grind (arith, common_steps, list_any-append, map-append)
 
 others : (rows : List AddressRow) (q : List ℕ) → has (map mac rows) q ≡ false → (k : ℕ) (d : AddressRow) →
     k < length rows → (get_or rows k d).mac ≢ q
-others rows q h k d small same =
-    let at = list_any_at (bytes_eq q) (map mac rows) k d.mac in
-    grind (arith, common_steps, at, length-map, get_or-map, bytes_eq-Decides q)
+others rows q h k d small same = search
+    (arith, rules, list_any_at (bytes_eq q) (map mac rows) k d.mac, length-map, get_or-map, bytes_eq-Decides q)
 
 pub record Walked_apart (ports : ℕ) (vs : List Value) (i : ℕ) (known : List (List ℕ)) (rows : List AddressRow) : Type
     0 where
@@ -130,12 +122,11 @@ module _ {ports : ℕ} {vs : List Value} {i : ℕ} {known : List (List ℕ)} {ro
       row ≡ address_row (members (view v)) → row.output < ports → is_new known row.mac ≡ true
       → ((q : List ℕ) → has known_after q ≡ (bytes_eq q row.mac || has known q)) → after ≡ rows ++ row ∷ [] →
       Walked_apart ports vs (i + 1) known_after after
-  apart_more v {row} small is held reads below fresh added pushed = rw pushed (record {
-    walked = walked_more w.walked v small is (sym (same_at ports i vs (view v) known rows w) ∙ held) reads below
-        refl;
-    knows = λ q. added q ∙ (ap (λ (b : Bool). bytes_eq q row.mac || b) (w.knows q) ∙ sym (has_last rows row q));
-    differ = search (arith, rules, all_pairs_push (λ (a b : AddressRow). a.mac ≢ b.mac), others, w.knows, not-true);
-  })
+  apart_more v {row} small is held reads below fresh added pushed =
+      let walked = walked_more w.walked v small is (sym (same_at ports i vs (view v) known rows w) ∙ held) reads below
+      pushed in
+      let pairs = all_pairs_push (λ (a b : AddressRow). a.mac ≢ b.mac) in
+      search (arith, rules, walked, has_last, pairs, others, w.knows, not-true)
 
   pub apart_stop : {B : Type 0} (r : Result B TableRefusal) (v : Value) → i < length vs → v ≡ get_or vs i v
       → IfErr r (Refuses (element_check Addresses (λ _. address_keys ports known) i (view v))) →

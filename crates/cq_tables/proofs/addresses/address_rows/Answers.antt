@@ -3,8 +3,7 @@ use Rattle.cq_tables.proofs.Walk.{apart_more, apart_stop, walk_holds, walked_rea
 use Rattle.cq_tables.proofs.addresses.address_rows.Goals as goal
 
 pub returns-in_err-row-clause-refused : goal.returns-in_err-row-clause-refused
-returns-in_err-row-clause-refused c =
-    apart_stop c.addresses.invariant _ _ (omega arith) c.index-values-index.is (search rules)
+returns-in_err-row-clause-refused c = search (arith, rules, apart_stop c.addresses.invariant)
 
 pub addresses-preserved : goal.addresses-preserved
 addresses-preserved c =

@@ -11,7 +11,4 @@ classes-preserved c = walked_more c.classes.invariant _ (omega arith) c.index-va
 
 pub returns : goal.returns
 returns c =
-    let walked = c.classes.invariant in
-    let held = walk_holds _ _ _ walked.checked (omega arith) in
-    let value = walked_read walked (omega arith) in
-    search (arith, rules, walked.kept)
+    let walked = c.classes.invariant in search (arith, rules, walk_holds, walked_read, walked.kept)

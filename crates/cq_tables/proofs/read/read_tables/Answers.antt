@@ -4,8 +4,7 @@ use Rattle.cq_tables.proofs.read.read_tables.Goals as goal
 
 pub returns-then-bytes-gt-LONGEST_CONFIGURATION-clause-refused :
     goal.returns-then-bytes-gt-LONGEST_CONFIGURATION-clause-refused
-returns-then-bytes-gt-LONGEST_CONFIGURATION-clause-refused c =
-    long_told c.args.bytes.now _ (omega arith) c.refusal.ensures
+returns-then-bytes-gt-LONGEST_CONFIGURATION-clause-refused c = search (arith, rules, long_told)
 
 pub returns-in_err-top-clause-refused : goal.returns-in_err-top-clause-refused
 returns-in_err-top-clause-refused c = no_document c.args.bytes.now _ (omega arith) (search rules)
