@@ -5,7 +5,7 @@
 -- What calls on files in memory do. The entry of a name answers for the name in each map, since it is the
 -- first. So a new value at that entry is a new value of the name and changes nothing else, and the cut and
 -- the bytes of the open name, which the code takes from its entry, are those that the meaning has.
-use Rattle.cq_space.proofs.Terms.{rules, ◌≡◌, ℕ, ◌+◌, ◌-◌, ◌<◌, ◌≤◌, min, true, false, List, [], ◌++◌, length, get_or, map, take, drop, ap, ◌∙◌, arith, unwrap_or, string_bytes, common_steps, length-map, get_or-map, get_or_past, with_items_is, length-drop, length-take, take-append-drop, drop_all, drop-drop, Option, None, Some, Vec, is_some, Global, with_items, position, option_map, get, Entry, State, Calls, IsShort, one_more, StaysBefore, MemSpace, told_space, cut_at, moved_at, Closed, Reading, Space, BeginsReading, TakesNext, ReadsOn, Appends, bytes_of, Columns, columns_of, contents_of, read_cuts_of, write_cuts_of, by_name, IsEntryOf, name_at, bytes_at, mode_of, IsInPlace, with_bytes, with_read_cut, with_write_cut, SaysTheSame, Bool, cond, ◌∷◌, set, position_or_len, is_eq-slice_cmp, bytes_eq-Decides, nat_cmp, eq_by_cmp_equiv, slice_cmp, nat_list_cmp_total, FinMap, get-empty, get-insert, get-remove, same_map, slice_cmp-IsAntisymmetric, nat_cmp-IsAntisymmetric, same_name, put, passes_at_first, length-set, get_or-set_same, get_or-set_other, length-append, add-zero, map-append, map-set, get_or_append_left, set-get_or, get_or-append_seam, map-set_same, ltb-false, eq-eqb, ne_eqb, prefix_len-le-length, position_or_len_push, position_or_len_is, told_at, position_or_len-map}
+use Rattle.cq_space.proofs.Terms.{rules, ◌≡◌, ℕ, ◌+◌, ◌-◌, ◌<◌, ◌≤◌, min, true, false, List, [], ◌++◌, length, get_or, map, take, drop, ap, arith, unwrap_or, string_bytes, common_steps, length-map, get_or-map, get_or_past, with_items_is, length-drop, length-take, take-append-drop, drop_all, drop-drop, Option, None, Some, Vec, is_some, Global, with_items, position, option_map, get, Entry, State, Calls, IsShort, one_more, StaysBefore, MemSpace, told_space, cut_at, moved_at, Closed, Reading, Space, BeginsReading, TakesNext, ReadsOn, Appends, bytes_of, Columns, columns_of, contents_of, by_name, IsEntryOf, name_at, bytes_at, mode_of, IsInPlace, with_bytes, with_read_cut, with_write_cut, SaysTheSame, Bool, cond, ◌∷◌, set, position_or_len, is_eq-slice_cmp, bytes_eq-Decides, nat_cmp, eq_by_cmp_equiv, slice_cmp, nat_list_cmp_total, FinMap, get-empty, get-insert, get-remove, same_map, slice_cmp-IsAntisymmetric, nat_cmp-IsAntisymmetric, same_name, put, passes_at_first, length-set, get_or-set_same, get_or-set_other, length-append, add-zero, map-append, map-set, get_or_append_left, set-get_or, get_or-append_seam, map-set_same, ltb-false, eq-eqb, ne_eqb, prefix_len-le-length, position_or_len_push, position_or_len_is, told_at, position_or_len-map}
 use Rattle.std.specs.FinMap.{insert}
 use Rattle.cq_space.specs.declared.mem_files.MemFiles.TheInside.{Inside}
 use Rattle.cq_space.specs.MemFiles.{mem_space, IsSound}
@@ -26,8 +26,7 @@ module _ {X : Type 0} where
 
   get-put : (m : FinMap (slice_cmp nat_cmp) X) (name : List ℕ) (value : Option X) (q : List ℕ) →
       get (put m name value) q ≡ cond (same_name q name) value (get m q)
-  get-put m name None q = get-remove nat_list_cmp_total m name q
-  get-put m name (Some x) q = get-insert nat_list_cmp_total m name x q
+  get-put m name value q = search (arith, rules, get-remove nat_list_cmp_total m, get-insert nat_list_cmp_total m)
 
   -- the first entry of a name has its value; a name without an entry has none
   pub get-first : (names : List (List ℕ)) (values : List (Option X)) (name : List ℕ) → length values ≡ length names →
@@ -48,11 +47,8 @@ module _ {X : Type 0} where
   -- an entry without a value, put at the end, changes no value
   pub by_name-push : (names : List (List ℕ)) (values : List (Option X)) (name : List ℕ) →
       length values ≡ length names → by_name (names ++ name ∷ []) (values ++ None ∷ []) ≡ by_name names values
-  by_name-push [] [] name even =
-      let removed = get-remove {X = X} nat_list_cmp_total (by_name [] []) name in
-      same_answers _ _ (λ q. grind (arith, common_steps, removed, get-empty {X = X} (slice_cmp nat_cmp) q))
-  by_name-push (n ∷ names) (value ∷ values) name even = search (rules, arith, by_name-push names values name)
-  by_name-push names values name even = absurd (omega arith)
+  by_name-push names values name even = same_answers _ _ (λ q. grind
+      (arith, common_steps, get-first, get_or_past, position_or_len_push, length-append, get_or_append_left))
 
 -- ## Entries as columns, all of one length. A new entry at the end says nothing new of any name, and leaves what is
 -- open in place; a change of one column at the entry of a name changes one map at that name.
@@ -70,15 +66,11 @@ are_even es = grind (arith, common_steps, length-map)
 abbrev pub has_name : List ℕ → Entry → Bool
 has_name name e = same_name name (string_bytes e.name)
 
-entry_found : (names : List (List ℕ)) (name : List ℕ) (i : ℕ) → position (same_name name) names ≡ Some i →
-    IsEntryOf names i name
-entry_found names name i e =
-    search (arith, rules, position_or_len_is (same_name name) names i [], is_same name, position-Some)
-
 pub finds : (es found : List Entry) (name : List ℕ) (i : ℕ) → found ≡ es →
     Some i ≡ position (has_name name) found → IsEntryOf (columns_of es).names i name
 finds es found name i same answer =
-    entry_found _ name i (search (rules, length-map, string_bytes, position_or_len-map))
+    let place = position_or_len_is (same_name name) in
+    search (arith, rules, place, is_same name, position-Some, length-map, string_bytes, position_or_len-map)
 
 pub finds_none : (es found : List Entry) (name : List ℕ) → found ≡ es → None ≡ position (has_name name) found →
     length (columns_of es).names ≤ position_or_len (same_name name) (columns_of es).names
@@ -99,12 +91,9 @@ columns_of-push : (es : List Entry) (e : Entry) → e.bytes ≡ None → e.read_
     columns_of (es ++ e ∷ []) ≡ grown (columns_of es) (string_bytes e.name)
 columns_of-push es e bytes reads writes = grind (arith, common_steps, map-append, string_bytes)
 
-still_entry : (names : List (List ℕ)) (n : List ℕ) (at : ℕ) → IsEntryOf names at (get_or names at []) →
-    IsEntryOf (names ++ n ∷ []) at (get_or (names ++ n ∷ []) at [])
-still_entry names n at is = search (arith, rules, get_or_append_left, ne_eqb, length-append, position_or_len_push)
-
 still_in_place : (c : Columns) (name : List ℕ) → AreEven c → (s : State) → IsInPlace c s → IsInPlace (grown c name) s
-still_in_place c name even s sound = search (rules, unwrap_or, still_entry, get_or_append_left)
+still_in_place c name even s sound =
+    search (arith, rules, unwrap_or, get_or_append_left, ne_eqb, length-append, position_or_len_push)
 
 -- a list with one more behind it
 ruleset seams = (get_or_append_left, unwrap_or)
@@ -183,12 +172,6 @@ read_is : (es : List Entry) (at place : ℕ) (e : Entry) → IsInPlace (columns_
     moved_at (mode_of (columns_of es) (state.Reads at place)) (contents_of (columns_of es)) ≡ place
 read_is es at place e sound here = grind (arith, common_steps, bytes_first, held_is, length-drop)
 
-seen_as : (k : Inside) (v : MemSpace) → mode_of (columns_of k.entries.items) k.state ≡ v.mode →
-    contents_of (columns_of k.entries.items) ≡ v.contents → read_cuts_of (columns_of k.entries.items) ≡ v.read_cuts →
-    write_cuts_of (columns_of k.entries.items) ≡ v.write_cuts → k.faults ≡ v.faults → k.starved ≡ v.starved →
-    k.begun ≡ v.begun → k.calls ≡ v.calls → mem_space k ≡ v
-seen_as k v mode contents reads writes faults starved begun calls = grind (arith, common_steps)
-
 -- what a call that was counted may move, fewer bytes could be moved by before
 pub short_before : (old new : Calls) (n k : ℕ) → new ≡ one_more old → k ≤ n → IsShort new n → IsShort old k
 short_before old new n k e h s = search (arith, rules)
@@ -196,21 +179,12 @@ short_before old new n k e h s = search (arith, rules)
 pub stays_less : (cut : Option ℕ) (moved n k : ℕ) → k ≤ n → StaysBefore cut moved n → StaysBefore cut moved k
 stays_less cut moved n k less stays = grind (arith, common_steps)
 
-untold : (o : Option (Vec ℕ Global)) → false ≡ is_some o → option_map (λ v. v.items) o ≡ None
-untold o e = grind (arith, common_steps)
-
 -- a read takes the next piece
-module _ (name bytes : List ℕ) (most place count : ℕ) (counted : count ≡ min (length (drop place bytes)) most)
-    (some : 0 < most) where
-  next_length : length (take count (drop place bytes)) ≡ count
-  next_length = omega (arith, length-take count (drop place bytes), counted)
-
-  at_end : take count (drop place bytes) ≡ [] → drop (place + count) bytes ≡ []
-  at_end none = grind (arith, common_steps, next_length, length-drop, drop_all)
-
-  takes_next : TakesNext (Reading name (drop place bytes)) (take count (drop place bytes))
-      (Reading name (drop (place + count) bytes))
-  takes_next = search (arith, rules, take-append-drop count (drop place bytes), drop-drop, at_end)
+takes_next : (name bytes : List ℕ) (most place count : ℕ) → count ≡ min (length (drop place bytes)) most → 0 < most →
+    TakesNext (Reading name (drop place bytes)) (take count (drop place bytes))
+    (Reading name (drop (place + count) bytes))
+takes_next name bytes most place count counted some =
+    search (arith, rules, take-append-drop count (drop place bytes), drop-drop, length-take, length-drop, drop_all)
 
 -- the meaning is that of these entries with this one open, which is in place
 record Stands (ins : Inside) (s : State) (m : MemSpace) : Type 0 where
@@ -233,7 +207,7 @@ module _ (ins : Inside) {m : MemSpace} (view : mem_space ins ≡ m) where
   pub told_nothing : {found : List Entry} (name : List ℕ) {i : ℕ} (e : Entry) → found ≡ es →
       Some i ≡ position (has_name name) found → e ≡ get_or es i e → false ≡ is_some e.bytes →
       get m.contents name ≡ None
-  told_nothing name e lent answer at no_bytes = told_found name e lent answer at ∙ untold e.bytes no_bytes
+  told_nothing name e lent answer at no_bytes = search (arith, rules, told_found name e lent answer at)
 
   pub told_none : {found : List Entry} (name : List ℕ) → found ≡ es → None ≡ position (has_name name) found →
       get m.contents name ≡ None
@@ -259,15 +233,15 @@ module _ (ins : Inside) {m : MemSpace} (view : mem_space ins ≡ m) where
 
       pub bytes_are_set : (bytes : List ℕ) → m.mode ≡ Closed → columns_of new ≡ with_bytes (columns_of lent) i bytes →
           mem_space after ≡ record m { contents = insert m.contents name bytes }
-      bytes_are_set bytes closed changed = grind (arith, common_steps, written_back, seen_as, gives_bytes)
+      bytes_are_set bytes closed changed = grind (arith, common_steps, written_back, gives_bytes)
 
       pub reading_is_cut : (most : ℕ) → columns_of new ≡ with_read_cut (columns_of lent) i most →
           mem_space after ≡ record m { read_cuts = insert m.read_cuts name most }
-      reading_is_cut most changed = grind (arith, common_steps, written_back, seen_as, are_even, by_name-set)
+      reading_is_cut most changed = grind (arith, common_steps, written_back, are_even, by_name-set)
 
       pub writing_is_cut : (most : ℕ) → columns_of new ≡ with_write_cut (columns_of lent) i most →
           mem_space after ≡ record m { write_cuts = insert m.write_cuts name most }
-      writing_is_cut most changed = grind (arith, common_steps, written_back, seen_as, are_even, by_name-set)
+      writing_is_cut most changed = grind (arith, common_steps, written_back, are_even, by_name-set)
 
     stands : (s : State) → ins.state ≡ s → Stands ins s m
     stands s opened = grind (arith, common_steps)

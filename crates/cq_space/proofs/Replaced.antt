@@ -3,10 +3,6 @@ use Rattle.cq_space.proofs.Terms.{◌∙◌, rules, arith, ◌≡◌, ℕ, ◌+�
 use Rattle.std.specs.FinMap.{insert}
 use Rattle.cq_space.proofs.InMemory.{same_self, same_answers}
 
--- the first n of the rest, as the code takes them, is what follows
-take_of_rest : (bs : List ℕ) (done n : ℕ) → take n (take (length bs - done) (drop done bs)) ≡ take n (drop done bs)
-take_of_rest bs done n = ap (take n) (take_rest bs done)
-
 pub length-rest : (bs : List ℕ) (done n : ℕ) → done ≤ length bs →
     n ≤ length (take (length bs - done) (drop done bs)) → done + n ≤ length bs
 length-rest bs done n h k = let e = ap length (take_rest bs done) in omega (arith, e, length-drop done bs)
@@ -16,7 +12,7 @@ pub put_on : (known before now : Option (List ℕ)) (bs : List ℕ) (done n : �
     before ≡ append_known known (take done bs) →
     now ≡ append_known before (take n (take (length bs - done) (drop done bs))) →
     now ≡ append_known known (take (done + n) bs)
-put_on known before now bs done n front piece = search (arith, rules, take_of_rest, append_assoc, take-add)
+put_on known before now bs done n front piece = search (arith, rules, take_rest, append_assoc, take-add)
 
 pub get_same : (m : Contents) (name bytes : List ℕ) → get (insert m name bytes) name ≡ Some bytes
 get_same m name bytes = get-insert nat_list_cmp_total m name bytes name ∙ rw (same_self name)
@@ -24,7 +20,7 @@ get_same m name bytes = get-insert nat_list_cmp_total m name bytes name ∙ rw (
 insert-insert : (m : Contents) (name front bytes : List ℕ) →
     insert (insert m name front) name bytes ≡ insert m name bytes
 insert-insert m name front bytes =
-    let set = get-insert {X = List ℕ} nat_list_cmp_total in search (arith, rules, same_answers, set)
+    search (arith, rules, same_answers, get-insert {X = List ℕ} nat_list_cmp_total)
 
 -- one more piece of the bytes of a name
 pub replaced_on : (start before now : Option Contents) (mode : Mode) (name bytes : List ℕ) (done n : ℕ) →
@@ -32,7 +28,7 @@ pub replaced_on : (start before now : Option Contents) (mode : Mode) (name bytes
     now ≡ appended (written_name mode) (take n (take (length bytes - done) (drop done bytes))) before →
     now ≡ replaced name (take (done + n) bytes) start
 replaced_on start before now mode name bytes done n begun front piece =
-    search (arith, rules, take_of_rest, take-add, get_same, insert-insert)
+    search (arith, rules, take_rest, take-add, get_same, insert-insert)
 
 -- these bytes were taken of the name, and what is left is the rest
 abbrev pub LeftAfter : Contents → List ℕ → List ℕ → Mode → Type 0

@@ -1,5 +1,4 @@
-use Rattle.cq_space.proofs.Terms.{ap, ◌∙◌, rules, Some, Columns, with_bytes}
-use Rattle.std.specs.FinMap.{insert}
+use Rattle.cq_space.proofs.Terms.{arith, rules, Columns, with_bytes}
 use Rattle.cq_space.proofs.InMemory.{written_back, gives_bytes}
 use Rattle.cq_space.proofs.mem_files.MemFilesFiles.start_write.Goals as goal
 
@@ -10,8 +9,4 @@ returns-in-Ok-clause-ok c =
     c.put_bytes.auto.entries c.put_bytes.ensures in
     let told = gives_bytes c.self.inside c.self.view_is c.self.invariant c.place_of.new.entries c.put_bytes.new.entries
     c.in-Ok.ensures.same c.in-Ok.ensures.ok c.deref_mut.ensures.value c.put_bytes.auto.entries c.new.result.items
-    c.put_bytes.ensures in
-    record {
-      mode = search rules;
-      told = ap Some (told ∙ ap (insert c.args.self.now.contents c.args.name.now) c.new.ensures.items);
-    }
+    c.put_bytes.ensures in search (arith, rules, told)
