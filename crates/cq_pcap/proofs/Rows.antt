@@ -53,8 +53,7 @@ rows_more form bytes rows at row fits small is_row so_far =
     let r : IsRowOf form (drop at bytes) at row = rw take_rest at is_row in
     let says = first_says form at (drop at bytes) (Ok (packet_at bytes row)) (packet_is form bytes at row r) in
     let more = places_more form bytes rows at row small so_far.ends so_far.stand r in
-    let spelt = spelt_more form bytes at (packets_at bytes rows) fits so_far.within so_far.spelt says.0 in
-    search (arith, rules, inside_is, more, body_length, AreBytes-drop, length_is, map-append, spelt)
+    search (arith, rules, inside_is, more, body_length, AreBytes-drop, length_is, map-append, spelt_more)
 
 -- a fault at the place is the file's, whatever refusal names it
 pub rows_fault : (form : Form) (bytes : List ℕ) (rows : List PacketRow) (at : ℕ) (refusal : PcapRefusal)

@@ -55,8 +55,7 @@ capture_read : (form : Form) (front rest : List ℕ) (packets : List Captured) (
     SpellsIn form front packets → packets_of (front ++ rest) ≡ joined packets left
 unfolding packets_of packets_from
 capture_read form front rest packets left ends at then s =
-    let spelt = flat_map (spelling form.big) s.records in
-    let after = drop_at s.header (spelt ++ rest) 24 in
+    let after = drop_at s.header (flat_map (spelling form.big) s.records ++ rest) 24 in
     search (arith, rules, records_read, length-append, append_assoc, header_read form s.header, after)
 
 pub spelt_is_read : (bytes : List ℕ) (packets : List Captured) → Spells bytes packets → packets_of bytes ≡ Ok packets
@@ -85,6 +84,5 @@ fault_is_read bytes (LongRecord offset len) h =
     let read = record_fault_read h.0 bytes offset (LongRecord offset len) h.1 in
     grind (arith, common_steps, read, length-drop, number_at-drop)
 fault_is_read bytes (CutBody offset) h =
-    let read = record_fault_read h.0 bytes offset (CutBody offset) h.1 in
-    grind (arith, common_steps, read, length-drop, number_at-drop)
+    grind (arith, common_steps, record_fault_read h.0 bytes offset (CutBody offset) h.1, length-drop, number_at-drop)
 fault_is_read bytes fault h = header_fault_read bytes fault (header_faulty bytes fault refl h)
