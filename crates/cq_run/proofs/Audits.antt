@@ -9,7 +9,6 @@ use Rattle.cq_run.specs.RunsAudited.{RunsAreAudited}
 use Rattle.cq_run.proofs.Left.{captures_same, last_two, outputs_named, untouched}
 use Rattle.cq_run.proofs.TextRead.{text_is}
 use Rattle.std.proofs.lemmas.List.Folds.{list_any-append}
-use Rattle.cq_audit.specs.declared.refusal.AuditRefusal.TheVariants as of_log
 use Rattle.cq_run.specs.declared.denial.Denial.TheVariants as why
 
 -- ## Checks that hold
@@ -134,11 +133,10 @@ module _ (t : Tables) (captures : List (List Captured)) (rs : List LimitedRecord
 
     -- nothing denies it
     never_denied : (denial : Denial) → IsDenied t captures sent (trace_of sent) (log_of note) denial → ⊥
-    never_denied (why.Log of_log.NoMemory) denied = denied
     never_denied (why.Log refusal) denied =
-        (audit_is_exact t.setup t.limits (arrivals t captures)).never_both (log_of note) refusal (λ e. cc) log_is denied
-    never_denied (why.Trace n) denied = trace_is_exact.differ (trace_of sent) (trace_of sent) n denied.1 refl
-    never_denied _ denied = denied
+        let never = (audit_is_exact t.setup t.limits (arrivals t captures)).never_both (log_of note) refusal in
+        search (arith, rules, never, log_is)
+    never_denied denial denied = search (arith, rules, trace_is_exact.differ)
 
     -- ## What is judged of what was left
 

@@ -104,13 +104,10 @@ pub sent_in_slot : (t : Tables) (came : List Arrival) (sent : List Departure) â†
     AreInSlot came sent
 unfolding ideal_departures ran_ideal enough
 sent_in_slot t came sent one none traffic h =
-    let ms = machines_of t.setup in
-    let ports = ports_of t.setup in
-    let ranks = openings_of t.setup in
-    let same = same_sent ms ports ranks came in
-    let before = run_as_before t.limits ms ports ranks came none in
-    let each = each_in_its_slot ms (classes_of t.setup) 63 refl came (rw one at traffic.in_range)
-    (each_pair IsLater came traffic.one_by_one) (enough came) 0 (omega arith) ranks in
+    let same = same_sent (machines_of t.setup) (ports_of t.setup) (openings_of t.setup) came in
+    let before = run_as_before t.limits (machines_of t.setup) (ports_of t.setup) (openings_of t.setup) came none in
+    let each = each_in_its_slot (machines_of t.setup) (classes_of t.setup) 63 refl came (rw one at traffic.in_range)
+    (each_pair IsLater came traffic.one_by_one) (enough came) 0 (omega arith) (openings_of t.setup) in
     search (arith, rules, same, before, each, all_slots, filter_all, all_weaker, le-leb, before_end came)
 
 -- ## Every packet leaves, once and in its place: with its last cell, which alone is marked, in its slot

@@ -1,6 +1,6 @@
 -- From one judgement after another to a plan that meets what is aimed at: for each command what is judged of what it
 -- reads, and a plan that it comes to.
-use Rattle.cq_run.proofs.Terms.{resumed_best, resumed_slack, parted_best, parted_slack, rules, arith, ◌≡◌, ◌∙◌, ℕ, List, [], ◌∷◌, refl, ap, Result, Ok, Err, IfOk, IfErr, IsOk, common_steps, soak_captures, soak_tables, Captured, Tables, Call, Contents, Space, Closed, Command, Ideal, Run, Soak, Pass, Audit, Part, Resume, Given, Refusal, Halt, Aim, Reporting, Meets, Exactly, Auditing, IsGiven, IsPassage, AreRead, IsAudited, AreGiven, IsJudged, IsHaltOf, Judges, Pace, InTurn, Uncounted, Plan, known_to, Reader, ◌>>=◌, ideally_sent, capture_in, text_in, state_in, passed, audited, file_alone, IsCrossing, IsIdeal, IsPassing, plain_tables, AreTables, Lasts, trace_of, IsAuditHalted, IsAuditPassed, IsPartHalt, IsResumeHalt, IsResuming, IsPartText, written, recursion_from_All, IfSome_then, left_in_packets}
+use Rattle.cq_run.proofs.Terms.{resumed_best, resumed_slack, parted_best, parted_slack, rules, arith, ◌≡◌, ◌∙◌, ℕ, List, [], ◌∷◌, refl, ap, Result, Ok, Err, IfOk, IfErr, IsOk, common_steps, soak_captures, soak_tables, Captured, Tables, Call, Contents, Space, Closed, Command, Ideal, Run, Soak, Pass, Audit, Part, Resume, Given, Halt, Reporting, Meets, Exactly, Auditing, IsGiven, IsPassage, AreRead, IsAudited, AreGiven, IsJudged, IsHaltOf, Judges, Pace, InTurn, Uncounted, Plan, known_to, Reader, ◌>>=◌, ideally_sent, capture_in, text_in, state_in, passed, audited, file_alone, IsCrossing, IsIdeal, IsPassing, plain_tables, AreTables, Lasts, trace_of, IsAuditHalted, IsAuditPassed, IsPartHalt, IsResumeHalt, IsResuming, IsPartText, written, recursion_from_All, IfSome_then, left_in_packets}
 use Rattle.cq_run.proofs.Reached.{computed_halts, computed_plans, given_so, Reached, begun, read_on, sent_of, settled, exit_is, tables_end, no_memory}
 use Rattle.cq_run.proofs.OnePort.{all_leave_is, none_limited}
 use Rattle.cq_run.proofs.Chain.{capture_stays, short_stays}
@@ -144,8 +144,7 @@ module _ {S : Type 0} {space : S → Space} {keeps : S → S → Type 0} {old s1
     audit_judged (Ok plan) passed written halted =
         computed_plans _ _ at_last passed.ideally (passed.meets, written) (rw written tt)
         (λ r. grind (arith, common_steps, is.read r, emulates_at given trace log r config plan passed written))
-    audit_judged (Err halt) passed written halted =
-        settled at_last (Err halt) (grind (arith, common_steps)) tt (λ r. tt)
+    audit_judged (Err halt) passed written halted = settled at_last (Err halt) (search (arith, rules)) tt (λ r. tt)
 
 -- ## Stopping a run and taking one up: the configuration, its captures, and then the text of a state
 

@@ -62,12 +62,6 @@ abbrev Failed : {S : Type 0} → (S → Space) → (Call → S → S → Type 0)
 Failed space may_fail keeps command old new name =
     MayRead command name × Fails space may_fail keeps (Reads name) old new
 
--- a command that reads files knows all of them
-known : (command : Command) → ((s : Space) → known_to command s ≡ s) → (p : Pace) (r : Reader) (R : List ℕ → Type 0)
-    (old new : Space) (result : Result Plan Halt) → Decides p (judged r command) R old new result →
-    Decides p (judged r command) R (known_to command old) (known_to command new) result
-known command knows p r R old new result h = grind (arith, common_steps)
-
 module _ {S : Type 0} {space : S → Space} {keeps : S → S → Type 0} {command : Command} {old : S} where
   -- at first all is left
   pub begun : ((s : Space) → known_to command s ≡ s) → Lasts keeps → (space old).mode ≡ Closed →
@@ -112,8 +106,9 @@ module _ {S : Type 0} {space : S → Space} {may_fail : Call → S → S → Typ
       Judges p (judged r command) (Failed space may_fail keeps command old new) (space old) (space new) (Err halt)) →
       keeps old new → IsJudged space may_fail keeps p command old new (Err halt)
   halted {halt} knows h kept =
-      let halts = λ (r : Reader). known command knows p r _ (space old) (space new) (Err halt) (inl (h r)) in
-      search (arith, rules, halts, h from_front)
+      let halts : (r : Reader) → Decides p (judged r command) (Failed space may_fail keeps command old new)
+      (known_to command (space old)) (known_to command (space new)) (Err halt) =
+      λ r. rw (knows (space old), knows (space new)) (inl (h r)) in search (arith, rules, halts, h from_front)
 
   -- what is read next ends judging
   pub read_ends : {A : Type 0} {mid : S} {j : Reader → Contents → Result A Refusal}
@@ -139,8 +134,9 @@ module _ {S : Type 0} {space : S → Space} {may_fail : Call → S → S → Typ
       ((r : Reader) → IfOk result (λ plan. IfSome (space old).told (λ m. Emulates r command m plan))) →
       IsJudged space may_fail keeps p command old new result
   settled reached result h names emulates =
-      let judges = λ (r : Reader). known command reached.knows p r (Failed space may_fail keeps command old new)
-      (space old) (space new) result (grind (arith, common_steps, reached.stands r)) in
+      let judges : (r : Reader) → Decides p (judged r command) (Failed space may_fail keeps command old new)
+      (known_to command (space old)) (known_to command (space new)) result =
+      λ r. grind (arith, common_steps, reached.knows, reached.stands r) in
       let front = reached.stands from_front in search (arith, rules, judges)
 
   -- judging ends in what is computed of one result
@@ -189,5 +185,4 @@ given_read {space = space} {config = config} {old = old} {mid = mid} {new = new}
     in_range read kept h each kept_on =
     let front = h from_front in
     let arrive : (r : Reader) → IfSome (space old).told (λ m. AreRead r config m t captures) =
-    λ r. let at = rw read.told at (h r).ok in grind (arith, common_steps) in
-    search (arith, rules, arrive, lasts.both)
+    λ r. grind (arith, common_steps, (h r).ok) in search (arith, rules, arrive, lasts.both)
