@@ -1,3 +1,2 @@
 mod Terms
-pub mod Sending
 pub mod Closing

@@ -1,6 +1,6 @@
 use Rattle.cq_stream.proofs.Terms.{arith, rules, ◌≡◌, length}
 use Rattle.cq_pcap.proofs.Refused.{some_is}
-use Rattle.cq_stream.proofs.Sending.{SendsTo, sends_all, sends_more}
+use Rattle.cq_stream.proofs.Closing.{SendsTo, sends_all, sends_more}
 use Rattle.cq_stream.proofs.finding.send_records.Goals as goal
 
 pub records-preserved : goal.records-preserved

@@ -1,5 +1,5 @@
 use Rattle.cq_stream.proofs.Terms.{◌-◌, length, SameProducer, sent}
-use Rattle.cq_stream.proofs.Sending.{SendsTo}
+use Rattle.cq_stream.proofs.Closing.{SendsTo}
 use Rattle.cq_stream.proofs.finding.send_records.Given as goal
 
 abbrev pub invariant-records : goal.invariant-records
