@@ -216,8 +216,10 @@ module _ (w : Switch) (s : State) (f : Found) (found : IsFound w.came s f) where
 
     pub slack_alike : HaveSlack w s ↔ SlackStands f.listed.items f.buffered.items
     slack_alike = (
-      (λ have i ahead c is. grind (arith, common_steps, input_is i, cushion_is i ahead c, have i ahead c)),
-      (λ stands i ahead c is. grind (arith, common_steps, input_is i, cushion_is i ahead c, stands i ahead c)),
+      (λ have i. record {
+        each = λ ahead c is. grind (arith, common_steps, input_is i, cushion_is i ahead c, have i ahead c);
+      }),
+      (λ stands i ahead c is. grind (arith, common_steps, input_is i, cushion_is i ahead c, (stands i).each ahead c)),
     )
 
   -- ## Names
@@ -349,6 +351,6 @@ module _ (t : Tables) (c : Scheduled) (s : State) (f : Found) (k : AreFoundIn t 
 pub ruleset judge_finds = (length-map, inputs_low)
 
 -- what a found state is judged by
-pub ruleset judge_asks = (outputs_low, few_ports, names_for, ports_are, cells_for, err_from_is_err_and)
+pub ruleset judge_asks = (outputs_low, inputs_of_list, few_ports, names_for, ports_are, cells_for, err_from_is_err_and)
 
 pub ruleset judge_steps = (judge_asks, stand_refused, packets_refused, leave_refused, can_take_up, is_sound)

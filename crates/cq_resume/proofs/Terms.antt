@@ -1,5 +1,5 @@
 -- The words of this crate's proofs that stand elsewhere, each passed on from its place.
-pub use Rattle.cq_base.proofs.Library.{All, All-from_recursion, All-permutation, All-replicate, AllAdjacentBelow, AllByRecursion, AllPairs, AllZip, Bool, Bor, Called, ComputesKey, FnReturnsAtPair, IfSome, IsDistinct, IsDistinct-IsPermutation, IsDistinct-from_apart, IsNonDecreasingBy, IsNonDecreasingBy-take, IsPartitionPoint, IsPartitionedBy-leb, IsPartitionedBy-ltb, IsPermutation, IsPermutation-sym, IsSome, IsSortedByKey, List, Mut, None, Option, Ordering, Some, YieldsList-from_map, YieldsList-from_slice, [], always_returns_same, and_from, and_left, and_parts, and_right, ap, apart_from_distinct, append-nil, append_assoc, arith, below_more, cases_Bool, cases_eq, cases_lt, common_steps, cond, drop, enumerate_from, eq-eqb, eqb, eqb-true, err_from_is_err_and, false, false_from_ne_true, filter, filter-append, filter_map, filter_more, flat_map, flat_map-append, fold, get_or, get_or-drop, get_or-map, get_or-map-range_with_len, get_or-replicate, get_or-set_other, get_or-set_same, get_or-take, get_or_default, get_or_past, get_or_read, inl, inr, items_from_extend, le-leb, le-ltb, leb, leb-false, length, length-append, length-drop, length-enumerate_from, length-filter, length-map, length-map-range_with_len, length-replicate, length-take-le, list_any, list_any-IsPermutation, list_any_at, list_any_none, lt-leb, lt-ltb, ltb, ltb-true, map, map-append, map-id, map-range_with_len_more, nat_cmp, nat_lt, ne_eqb, not, option_map, ordering_then, range_with_len, recursion_from_All, refl, replicate, rules, set, slice_get, slice_get-get_or, slice_index_or, suc, sum_by-IsPermutation, sym, take, take-append-drop, take_all, take_at, take_more, tests, true, with_items_is, zero, ℕ, ◌&&◌, ◌*◌, ◌++◌, ◌+◌, ◌-◌, ◌<◌, ◌==◌, ◌^◌, ◌↔◌, ◌∙◌, ◌∷◌, ◌≡◌, ◌≢◌, ◌≤◌, ◌⊎◌, fill_by_all}
+pub use Rattle.cq_base.proofs.Library.{All, All-from_recursion, All-permutation, All-replicate, AllAdjacentBelow, AllByRecursion, AllPairs, AllZip, Bool, Bor, Called, ComputesKey, FnReturnsAtPair, IfSome, IsDistinct, IsDistinct-IsPermutation, IsDistinct-from_apart, IsNonDecreasingBy, IsNonDecreasingBy-take, IsPartitionPoint, IsPartitionedBy-leb, IsPartitionedBy-ltb, IsPermutation, IsPermutation-sym, IsSome, IsSortedByKey, List, Mut, None, Option, Ordering, Some, YieldsList-from_map, YieldsList-from_slice, [], always_returns_same, and_from, and_left, and_parts, and_right, ap, apart_from_distinct, append-nil, append_assoc, arith, below_more, cases_Bool, cases_eq, cases_lt, common_steps, cond, drop, enumerate_from, eq-eqb, eqb, eqb-true, err_from_is_err_and, false, false_from_ne_true, filter, filter-append, filter_map, flat_map, flat_map-append, fold, get_or, get_or-drop, get_or-map, get_or-map-range_with_len, get_or-replicate, get_or-set_other, get_or-set_same, get_or-take, get_or_default, get_or_past, get_or_read, inl, inr, items_from_extend, le-leb, le-ltb, leb, leb-false, length, length-append, length-drop, length-enumerate_from, length-filter, length-map, length-map-range_with_len, length-replicate, length-take-le, list_any, list_any-IsPermutation, list_any_at, list_any_none, lt-leb, lt-ltb, ltb, ltb-true, map, map-append, map-id, map-range_with_len_more, nat_cmp, nat_lt, ne_eqb, not, option_map, ordering_then, range_with_len, recursion_from_All, refl, replicate, rules, set, slice_get, slice_get-get_or, slice_index_or, suc, sum_by-IsPermutation, sym, take, take-append-drop, take_all, take_more, tests, true, with_items_is, zero, ℕ, ◌&&◌, ◌*◌, ◌++◌, ◌+◌, ◌-◌, ◌<◌, ◌==◌, ◌^◌, ◌↔◌, ◌∙◌, ◌∷◌, ◌≡◌, ◌≢◌, ◌≤◌, ◌⊎◌, fill_by_all}
 pub use Rattle.cq_base.specs.Arriving.{Arrival, arriving, arriving_at, end_of}
 pub use Rattle.cq_base.specs.Cells.{IsBefore, IsRising, is_for}
 pub use Rattle.cq_base.specs.Items.{EachPair, Has}
@@ -21,7 +21,7 @@ pub use Rattle.cq_laws.specs.Fabric.{Fabric, IsEmptyFabric, IsFabric, ListsKeepO
 pub use Rattle.cq_laws.specs.Frozen.{AreCountsOf, AreOwn, HasPorts, IsSoundFabric, fabric_in, marked_in}
 pub use Rattle.cq_resume.specs.Counted.{IsTally, departure_of, input_told, latest, output_told, sent_told}
 unfoldable pub use Rattle.cq_resume.specs.Counted.{figures_told, frozen_told}
-pub use Rattle.cq_resume.specs.Finding.{AreFound, AreGone, ArePackets, ComeBehind, ComesNext, FlowsStand, InOneFlow, IsBufferedBefore, IsBufferedBefore as IsFoundBefore, IsFound, IsGone, IsLine, IsListedBefore, IsNameBefore, IsNameNotAfter, IsNoLaterInput, IsSentBefore, IsSentBefore as IsGoneBefore, IsTimely, IsTold, IsWholePacket, Leaves, LeavesEarlier, PacketsStand, SlackStands, StandsBelow, TalliesUp, begins_at, coming, cushion_in, firsts_before, has_limit, has_name, is_left_out, left_out, mark_on, may_come, names_of, sent_name, told_of, unnamed, waiting_name}
+pub use Rattle.cq_resume.specs.Finding.{AreFound, AreGone, ArePackets, ComeBehind, ComesNext, FlowsStand, InOneFlow, IsBufferedBefore, IsBufferedBefore as IsFoundBefore, IsFound, IsGone, IsLine, IsListedBefore, IsNameBefore, IsNameNotAfter, IsNoLaterInput, IsSentBefore, IsSentBefore as IsGoneBefore, IsTimely, IsTold, IsWholePacket, Leaves, LeavesEarlier, PacketsStand, SlackStands, StandsBelow, TalliesUp, HasRoom, IsAheadInFlow, IsAheadInList, flow_of, coming, cushion_in, firsts_before, has_limit, has_name, is_left_out, left_out, mark_on, may_come, names_of, sent_name, told_of, unnamed, waiting_name}
 pub use Rattle.cq_resume.specs.Sound.{AllNamed, AreArrivals, AreBelowFloors, AreWholePackets, Clause, HaveSlack, IsBelowFloor, IsFirstOf, IsFirstUnsound, IsForPorts, IsSound, KeepArrivalOrder, NoneNamed, OfOneFlow, StandInOrder}
 pub use Rattle.cq_resume.specs.Steps.{AreCellsFor, AreNamesFor, AreOrdered, HaveRoom, IsCellFor, IsFirstOfTwo, AreFoundIn, StandBelow}
 pub use Rattle.cq_resume.specs.Switch.{HasLimit, HasShape, IsScheduleOf, Switch, switch_of}

@@ -1,10 +1,11 @@
 -- Only proofs use this.
 -- The clauses of a sound state, over cells that were looked up: each cell stands with its output and its class.
-use Rattle.std.specs.Prelude.{◌≡◌, ◌⊎◌, ℕ, ◌+◌, ◌-◌, ◌<◌, ◌≤◌, ◌&&◌, ◌||◌, ◌==◌, nat_lt, nat_le, not, is_some, Bool, true, false, if◌then◌else◌, AllPairs, List, [], ◌∷◌, ◌++◌, map, filter, length, Option, Some, None, slice_get, slice_index, slice_index_or, IsPermutation, ⊤}
+use Rattle.std.specs.Prelude.{◌≡◌, ◌⊎◌, ℕ, ◌*◌, ◌+◌, ◌<◌, ◌≤◌, ◌&&◌, ◌||◌, ◌==◌, nat_lt, nat_le, not, is_some, Bool, true, false, if◌then◌else◌, AllPairs, List, [], ◌∷◌, ◌++◌, map, filter, length, Option, Some, None, slice_get, slice_index_or, IsPermutation, ⊤}
 use Rattle.std.specs.List.{AllByRecursion, AllZip, flat_map, list_any, range_with_len}
 use Rattle.cq_base.specs.Arriving.{Arrival}
 use Rattle.cq_base.specs.Cells.{IsBefore}
 use Rattle.cq_base.specs.Key.{is_before}
+use Rattle.cq_base.specs.Limits.{most_classes}
 use Rattle.cq_base.specs.declared.cell.Queued.{Queued}
 use Rattle.cq_base.specs.declared.setup.Setup.{Setup}
 use Rattle.cq_cells.specs.Traffic.{is_from}
@@ -88,6 +89,10 @@ IsNoLaterInput a b = a.key.input ≤ b.key.input
 abbrev pub IsListedBefore : Queued → Queued → Type 0
 IsListedBefore a b = a.key.input ≡ b.key.input → a.cell.output ≡ b.cell.output → IsBefore a b
 
+-- a cell of a list stands before another for its output: by input, and then by key
+abbrev pub IsAheadInList : Queued → Queued → Type 0
+IsAheadInList a b = (a.key.input < b.key.input) ⊎ ((a.key.input ≡ b.key.input) × IsBefore a b)
+
 -- a buffered cell stands before another: by output, and then by key
 abbrev pub IsBufferedBefore : Queued → Queued → Type 0
 IsBufferedBefore a b = (a.cell.output < b.cell.output) ⊎ ((a.cell.output ≡ b.cell.output) × IsBefore a b)
@@ -114,21 +119,19 @@ pub record SentStand (next : ℕ) (sent : List Gone) : Type 0 where
   pub ordered : AllPairs IsSentBefore sent
   pub timely : AllByRecursion (IsTimely next) sent
 
--- of items with these inputs the one at this place is of a later input than the one before it
-abbrev pub begins_at : List ℕ → ℕ → Bool
-begins_at inputs n = nat_lt 0 n && nat_lt (slice_index inputs (n - 1)) (slice_index inputs n)
-
 -- ## Slack
 
 -- the more urgent cells of the buffer of its output
 abbrev pub cushion_in : List Queued → Queued → List Queued
 cushion_in buffered t = filter (λ o. o.cell.output == t.cell.output && is_before o.key t.key) buffered
 
--- of each cell in the list of an input there are more in the cushion than ahead in that list
+-- of each cell of a list there are more in the cushion than ahead in that list
+pub record HasRoom (buffered list : List Queued) : Type 0 where
+  pub each : (ahead : ℕ) (t : Queued) → slice_get list ahead ≡ Some t → ahead < length (cushion_in buffered t)
+
+-- so it is in the list of each input
 abbrev pub SlackStands : List Queued → List Queued → Type 0
-SlackStands listed buffered =
-    (input ahead : ℕ) (t : Queued) → slice_get (filter (λ o. o.key.input == input) listed) ahead ≡ Some t →
-    ahead < length (cushion_in buffered t)
+SlackStands listed buffered = (input : ℕ) → HasRoom buffered (filter (λ o. o.key.input == input) listed)
 
 -- ## Flows
 
@@ -148,6 +151,15 @@ Leaves a b None None = IsBefore a b
 -- so it is with two names, where they are of one flow
 abbrev pub LeavesEarlier : Name → Name → Type 0
 LeavesEarlier a b = InOneFlow a b → Leaves a.queued b.queued a.sent b.sent
+
+-- the number of a flow, by output and class
+abbrev pub flow_of : Name → ℕ
+flow_of n = n.queued.cell.output * most_classes + n.queued.cell.class
+
+-- a name stands before another of its output and class: by input, and then as they leave
+abbrev pub IsAheadInFlow : Name → Name → Type 0
+IsAheadInFlow a b = (a.queued.key.input < b.queued.key.input) ⊎
+    ((a.queued.key.input ≡ b.queued.key.input) × Leaves a.queued b.queued a.sent b.sent)
 
 -- the cells of each flow leave in the order of arrival
 abbrev pub FlowsStand : List Name → Type 0

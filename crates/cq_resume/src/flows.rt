@@ -1,9 +1,10 @@
 //! The cells of one input, output and class: they leave in the order of arrival.
-ghost use Rattle.std.specs.Prelude.{◌≡◌, ◌↔◌, ◌<◌, ◌≤◌, AllPairs, IfOk, IfSome, IsTrue, None, length, map, replicate};
+ghost use Rattle.std.specs.Prelude.{◌≡◌, ◌↔◌, ◌<◌, ◌≤◌, AllPairs, IfOk, IsTrue, None, replicate};
 ghost use Rattle.std.specs.List.{AllByRecursion};
-ghost use Rattle.cq_resume.specs.Terms.{FlowsStand, IsNameBefore, Leaves, begins_at, most_classes, most_ports};
+ghost use Rattle.cq_resume.specs.Terms.{FlowsStand, IsNameBefore, Leaves, IsAheadInFlow, flow_of, most_classes, most_ports};
 
 use crate::found::Name;
+use crate::laned::{Laned, lanes_in_order};
 use crate::order::is_before;
 use cq_base::{MOST_CLASSES, NoMemory};
 use std::alloc::Global;
@@ -20,25 +21,21 @@ fn leaves(first: &Name, other: &Name) -> bool
     }
 }
 
-// Whether a cell may leave behind the last one of its flow, if there is one.
-fn may_leave(last: Option<Name>, name: &Name) -> bool
-    ensures { IsTrue result ↔ IfSome last (λ first. Leaves first.queued name.now.queued first.sent name.now.sent) }
-{
-    match last {
-        Some(first) => leaves(&first, name),
-        None => true,
-    }
-}
+// An output and a class have a lane: its cells stand by input, and those of one input as they leave.
+impl Laned for Name {
+    ghost lane_of = { flow_of };
 
-// Whether the name at a place is of a later input than the one before it. The first of all has none before it.
-fn begins(names: &[Name], at: usize) -> bool
-    requires { at < length names.now }
-    ensures { result ≡ begins_at (map (λ n. n.queued.key.input) names.now) at }
-{
-    if at == 0 {
-        return false;
+    ghost stands_before = { IsAheadInFlow };
+
+    fn lane(&self) -> usize {
+        let cell = self.queued.cell;
+        cell.output as usize * MOST_CLASSES + cell.class as usize
     }
-    names[at - 1].queued.key.input < names[at].queued.key.input
+
+    fn is_ahead(&self, other: &Name) -> bool {
+        let (input, than) = (self.queued.key.input, other.queued.key.input);
+        input < than || input == than && leaves(self, other)
+    }
 }
 
 // No cell was seen of any of so many flows.
@@ -48,16 +45,9 @@ fn none_seen(alloc: Global, flows: usize) -> Result<Vec<Option<Name>>, NoMemory>
     Ok(vec![in alloc; None; flows]?)
 }
 
-// So again, in the same places.
-#[tactic(auto, using(std::proofs::lemmas::List::ext_get_or))]
-fn forget(last: &mut [Option<Name>])
-    ensures { last.new ≡ replicate (length last.old) None }
-{
-    last.fill(None);
-}
-
 /// Whether the cells of each flow were sent in the order of arrival, and those that wait arrived after them and are
 /// to be sent in that order. The names stand by input and then by slot of arrival. The error is want of memory.
+#[tactic(auto, using(crate::proofs::Lanes::flow_steps))]
 pub fn keep_arrival_order(alloc: Global, names: &[Name], ports: u16) -> Result<bool, NoMemory>
     requires ordered { AllPairs IsNameBefore names.now }
     requires ports { ports ≤ most_ports }
@@ -67,17 +57,5 @@ pub fn keep_arrival_order(alloc: Global, names: &[Name], ports: u16) -> Result<b
 {
     let flows = ports as usize * MOST_CLASSES;
     let mut last = none_seen(alloc, flows)?;
-    'places: for at in 0..names.len() {
-        let name = names[at];
-        if begins(names, at) {
-            forget(&mut last);
-        }
-        let cell = name.queued.cell;
-        let flow = cell.output as usize * MOST_CLASSES + cell.class as usize;
-        if !may_leave(last[flow], &name) {
-            return Ok(false);
-        }
-        last[flow] = Some(name);
-    }
-    Ok(true)
+    Ok(lanes_in_order(names, &mut last))
 }

@@ -8,6 +8,7 @@ mod between;
 mod floors;
 mod flows;
 mod found;
+mod laned;
 mod laws;
 mod neighbours;
 mod order;

@@ -1,9 +1,10 @@
 //! Whether the lines of a state stand in order.
-ghost use Rattle.std.specs.Prelude.{◌≡◌, ◌↔◌, ◌<◌, AllPairs, IfSome, IsTrue, None, length, map, replicate};
+ghost use Rattle.std.specs.Prelude.{◌≡◌, ◌↔◌, ◌<◌, AllPairs, IsTrue, None, length, replicate};
 ghost use Rattle.std.specs.List.{AllByRecursion};
-ghost use Rattle.cq_resume.specs.Terms.{AreOrdered, IsBefore, BuffersStand, IsBufferedBefore, IsListedBefore, IsNoLaterInput, IsSentBefore, IsTimely, ListsStand, SentStand, begins_at, most_ports, IsTransferBefore};
+ghost use Rattle.cq_resume.specs.Terms.{AreOrdered, IsBefore, BuffersStand, IsBufferedBefore, IsListedBefore, IsNoLaterInput, IsSentBefore, IsTimely, ListsStand, SentStand, IsAheadInList, most_ports, IsTransferBefore};
 
 use crate::found::{Found, Gone};
+use crate::laned::{Laned, lanes_in_order};
 use crate::neighbours::neighbours_hold;
 use cq_base::{Key, MOST_PORTS, Queued, Slot, Transfer};
 use cq_state::State;
@@ -29,18 +30,6 @@ fn inputs_in_order(listed: &[Queued]) -> bool
     neighbours_hold(listed, is_no_later)
 }
 
-/// Whether the cell at a place is of a later input than the one before it, of cells that stand by input. The first of
-/// all has none before it.
-pub fn begins(listed: &[Queued], at: usize) -> bool
-    requires { at < length listed.now }
-    ensures { result ≡ begins_at (map (λ q. q.key.input) listed.now) at }
-{
-    if at == 0 {
-        return false;
-    }
-    listed[at - 1].key.input < listed[at].key.input
-}
-
 // No cell was seen for any output.
 fn none_seen() -> [Option<Queued>; MOST_PORTS]
     ensures { result ≡ replicate most_ports None }
@@ -48,43 +37,31 @@ fn none_seen() -> [Option<Queued>; MOST_PORTS]
     [None; MOST_PORTS]
 }
 
-// So again, in the same places.
-#[tactic(auto, using(std::proofs::lemmas::List::ext_get_or))]
-fn forget(last: &mut [Option<Queued>; MOST_PORTS])
-    ensures { last.new ≡ replicate most_ports None }
-{
-    last.fill(None);
-}
+// The list of an input has a lane for each output: its cells stand by input, and those of one input by their keys.
+impl Laned for Queued {
+    ghost lane_of = { λ q. q.cell.output };
 
-// Whether a cell may come behind the last one of its list for its output, if there is one.
-fn may_follow(last: Option<Queued>, queued: &Queued) -> bool
-    ensures { IsTrue result ↔ IfSome last (λ before. IsBefore before queued.now) }
-{
-    match last {
-        Some(before) => is_before(&before, queued),
-        None => true,
+    ghost stands_before = { IsAheadInList };
+
+    fn lane(&self) -> usize {
+        self.cell.output as usize
+    }
+
+    fn is_ahead(&self, other: &Queued) -> bool {
+        self.key.input < other.key.input
+            || self.key.input == other.key.input && is_before(self, other)
     }
 }
 
 // Whether the cells of each list for one output stand by their keys. The lists stand by input.
+#[tactic(auto, using(crate::proofs::Lanes::list_steps))]
 fn keys_in_order(listed: &[Queued]) -> bool
     requires outputs { AllByRecursion (λ q. q.cell.output < most_ports) listed.now }
     requires inputs { AllPairs IsNoLaterInput listed.now }
     ensures { IsTrue result ↔ AllPairs IsListedBefore listed.now }
 {
     let mut last = none_seen();
-    'places: for at in 0..listed.len() {
-        let queued = listed[at];
-        if begins(listed, at) {
-            forget(&mut last);
-        }
-        let output = queued.cell.output as usize;
-        if !may_follow(last[output], &queued) {
-            return false;
-        }
-        last[output] = Some(queued);
-    }
-    true
+    lanes_in_order(listed, &mut last)
 }
 
 // Whether the lists stand by input, and the cells of each for one output by their keys.

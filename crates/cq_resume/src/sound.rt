@@ -18,7 +18,8 @@ use std::alloc::Global;
 
 // Refuses lines that are out of order, and then a cell of a list without slack: the second clause and the third.
 fn judge_places(found: &Found, state: &State) -> Result<(), StateRefusal>
-    requires { AllByRecursion (λ q. q.cell.output < most_ports) found.now.listed.items }
+    requires outputs { AllByRecursion (λ q. q.cell.output < most_ports) found.now.listed.items }
+    requires inputs { AllByRecursion (λ q. q.key.input < state.now.head.ports) found.now.listed.items }
     ensures stand { OnOk result (AreOrdered found.now state.now.head.next state.now.moved × HaveRoom found.now) }
     ensures refused { IfErr result
         (IsFirstOfTwo 2 (AreOrdered found.now state.now.head.next state.now.moved) (HaveRoom found.now)) }
@@ -26,7 +27,7 @@ fn judge_places(found: &Found, state: &State) -> Result<(), StateRefusal>
     if !in_order(found, state) {
         return Err(StateRefusal::Unsound { clause: 2 });
     }
-    if !have_slack(&found.listed, &found.buffered) {
+    if !have_slack(&found.listed, &found.buffered, state.head.ports) {
         return Err(StateRefusal::Unsound { clause: 3 });
     }
     Ok(())

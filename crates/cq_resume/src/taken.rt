@@ -3,10 +3,9 @@ ghost use Rattle.std.specs.Prelude.{◌≡◌, ◌+◌, ◌==◌, ◌<◌, ◌�
 ghost use Rattle.std.specs.List.{AllByRecursion, enumerate_from, range_with_len};
 ghost use Rattle.cq_resume.specs.Terms.{slots_of, IsTally, output_told, taken_of, BuffersStand, IsFound, IsNameBefore, IsNoLaterInput, Switch, CanTakeUp, departed, figures_at_input, longer, with_departure, most_ports};
 
-use crate::between::between;
 use crate::found::{Found, Gone, Name, names_at};
 use crate::packets::Tally;
-use crate::slack::buffer_at;
+use crate::slack::{buffer_at, list_at};
 use cq_base::{
     Departure, Figures, InputFigures, NoMemory, OutputFigures, Port, Queued, Sequence, Slot,
     Transfer,
@@ -24,18 +23,6 @@ pub struct Taken {
     pub sent: Sequence<Departure>,
     /// The transfers so far, in order of slot, then phase, then input.
     pub note: Sequence<Transfer>,
-}
-
-// The cells of one input's list, of cells that stand by input.
-fn list_at(listed: &[Queued], input: Port) -> &[Queued]
-    requires { AllPairs IsNoLaterInput listed.now }
-    ensures { result.now ≡ filter (λ q. q.key.input == input) listed.now }
-{
-    between(
-        listed,
-        |queued| queued.key.input <= input,
-        |queued| queued.key.input < input,
-    )
 }
 
 // The list of each input, and the buffer of each output.

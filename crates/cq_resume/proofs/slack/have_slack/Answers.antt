@@ -1,24 +1,20 @@
-use Rattle.cq_resume.proofs.Terms.{take_all, common_steps, rules, arith, Queued}
-use Rattle.cq_resume.proofs.Lanes.{At, threads_next, threads_stop}
-use Rattle.cq_resume.proofs.slack.have_slack.Goals.{After-cushion_of-cushion}
+use Rattle.cq_resume.proofs.Terms.{arith, rules, ◌==◌, filter, below_more, refl, HasRoom, SlackStands}
+use Rattle.cq_resume.proofs.Lanes.{slack_by_input}
 use Rattle.cq_resume.proofs.slack.have_slack.Goals as goal
 
-here : (c : After-cushion_of-cushion) → At (λ (q : Queued). q.key.input) c.args.listed.now c.places.at 0 c.places.thread
-    c.if-begins.thread c.begins.result
-here c = search (arith, rules)
+pub returns-then-not-list_has_room : goal.returns-then-not-list_has_room
+returns-then-not-list_has_room c =
+    let here = λ (stands : SlackStands c.args.listed.now c.args.buffered.now). stands c.inputs.input in
+    search (arith, rules, here)
 
-pub places-init : goal.places-init
-places-init c = grind (arith, common_steps)
-
-pub places-preserved : goal.places-preserved
-places-preserved c =
-    search (arith, rules, threads_next, here (goal.at.places-preserved c).After-cushion_of-cushion)
-
-pub returns-then-cushion-thread : goal.returns-then-cushion-thread
-returns-then-cushion-thread c =
-    search (arith, rules, threads_stop, here (goal.at.returns-then-cushion-thread c).After-cushion_of-cushion)
+pub inputs-preserved : goal.inputs-preserved
+inputs-preserved c =
+    below_more (λ i. HasRoom c.args.buffered.now (filter (λ q. q.key.input == i) c.args.listed.now)) c.inputs.input
+    c.inputs.invariant (rw c.list_at.ensures at (c.list_has_room.ensures.0 c.if-not-list_has_room.false))
 
 pub returns : goal.returns
-returns c =
-    let all = rw (take_all c.places.at c.args.listed.now (omega arith)) at c.places.invariant.stand in
-    search (arith, rules)
+returns c = (
+  (λ yes. slack_by_input c.args.listed.now c.args.buffered.now c.args.ports c.requires.inputs
+      (λ i lt. c.inputs.invariant i (omega arith))),
+  (λ stands. refl),
+)

@@ -1,5 +1,6 @@
-use Rattle.cq_resume.proofs.Lanes.{Threads}
+use Rattle.cq_resume.proofs.Terms.{ℕ, ◌<◌, ◌==◌, filter}
+use Rattle.cq_resume.specs.Finding.{HasRoom}
 use Rattle.cq_resume.proofs.slack.have_slack.Given as goal
 
-abbrev pub invariant-places : goal.invariant-places
-invariant-places l = Threads l.listed l.buffered l.at l.thread
+abbrev pub invariant-inputs : goal.invariant-inputs
+invariant-inputs l = (i : ℕ) → i < l.input → HasRoom l.buffered (filter (λ q. q.key.input == i) l.listed)

@@ -1,6 +1,6 @@
 use Rattle.cq_resume.proofs.Terms.{rules, tests, Queued, IsNoLaterInput, arith}
 use Rattle.cq_resume.proofs.Cut.{computes, not_falling}
-use Rattle.cq_resume.proofs.taken.list_at.Goals as goal
+use Rattle.cq_resume.proofs.slack.list_at.Goals as goal
 
 pub returns : goal.returns
 returns c =
