@@ -1,8 +1,10 @@
 -- What is left out at all inputs, input after input, comes to what is left out of all that arrives. No more cells are
 -- left out than arrive, and so the counts have room for them.
-use Rattle.cq_resume.proofs.Terms.{rules, ◌≡◌, ℕ, zero, suc, ◌+◌, ◌-◌, ◌<◌, ◌≤◌, ◌^◌, ltb, leb, Bool, false, List, [], ◌∷◌, ◌++◌, length, map, Option, Some, refl, sym, length-append, arith, common_steps, ◌&&◌, filter, flat_map, nat_lt, not, range_with_len, le-leb, append-nil, length-map, map-append, flat_map-append, filter-append, map-range_with_len_more, Arrival, is_from, range_more, Refused, CanCount, refused_counts, with_refused, all_counted_both, counts_fit, none_counted, zero_fits, ArePackets, coming, has_limit, has_name, left_out, mark_on, unnamed, Name, few_kept, counts_more}
-use Rattle.cq_resume.proofs.Coming.{is_between}
-use Rattle.cq_resume.proofs.Walking.{cells_in}
+-- Where the walks over all inputs ended with a mark, all packets stand, and the marks and the counts are those of what is
+-- left out; where one stopped, a packet does not stand.
+use Rattle.cq_resume.proofs.Terms.{rules, ◌≡◌, ℕ, zero, suc, ◌+◌, ◌-◌, ◌<◌, ◌≤◌, ◌^◌, ltb, leb, Bool, false, List, [], ◌∷◌, ◌++◌, length, map, Option, Some, refl, sym, length-append, arith, common_steps, ◌&&◌, filter, flat_map, nat_lt, not, range_with_len, le-leb, append-nil, length-map, map-append, flat_map-append, filter-append, map-range_with_len_more, Arrival, is_from, range_more, Refused, CanCount, refused_counts, with_refused, all_counted_both, counts_fit, none_counted, zero_fits, ArePackets, coming, has_limit, has_name, left_out, mark_on, unnamed, Name, few_kept, counts_more, get_or, None, get_or-map, get_or-map-range_with_len, length-map-range_with_len, latest, PacketsStand, TalliesUp, firsts_before, is_left_out, Tally, fill_by_all}
+use Rattle.cq_resume.proofs.Coming.{is_between, cells_in}
+use Rattle.cq_resume.proofs.Tallied.{line_ends, line_stands, LineStands, as_first, mark_is, packets_stand, whole}
 
 -- a test of lists one after the other
 filter_flat : (p : Arrival → Bool) (f : ℕ → List Arrival) (is : List ℕ) →
@@ -73,3 +75,38 @@ module _ (limits : List (Option ℕ)) (next : ℕ) (came : List Arrival) (names 
     pub tallied_counts : (marks : List Bool) (refused : List Refused) → Tallied ports marks refused →
         refused ≡ refused_counts limits (cells_in (left_out next came names))
     tallied_counts marks refused known = grind (arith, common_steps, counts_more limits [], all_left_out)
+
+-- ## All inputs
+
+module _ (limits : List (Option ℕ)) (next : ℕ) (came : List Arrival) (names : List Name) (ports : ℕ)
+    (are : ArePackets ports came) where
+  -- one that stopped
+  pub packet_fails : (input : ℕ) → input < ports → None ≡ mark_at limits next came names input →
+      PacketsStand limits next came names → ⊥
+  packet_fails input inside stops stand =
+      search (rules, line_ends, whole limits ports next came names are, as_first limits ports next came names are stand)
+
+  module _ (marks : List Bool) (refused : List Refused) (known : Tallied limits next came names ports marks
+      refused) where
+    many : length marks ≡ ports
+    many = grind (arith, common_steps, length-map, length-map-range_with_len, mark_at)
+
+    mark_there : (i : ℕ) → i < ports → mark_at limits next came names i ≡ Some (get_or marks i false)
+    mark_there i inside =
+        let there = get_or-map-range_with_len (mark_at limits next came names) 0 ports i i None in
+        search (arith, rules, there, get_or-map, many)
+
+    stands : (i : ℕ) → i < ports → LineStands limits ports next came names are i
+    stands i inside = search (rules, line_stands, whole, mark_there)
+
+    pub all_stand : PacketsStand limits next came names
+    all_stand = packets_stand limits ports next came names are stands
+
+    abbrev told : ℕ → Bool
+    told i = is_left_out names next came (latest (firsts_before i next came))
+
+    pub tallies_up : (x : Tally) → length limits ≡ ports → x.marks ≡ marks → x.refused ≡ refused →
+        TalliesUp limits next came names x
+    tallies_up x as_many own_marks own_counts =
+        let low = fill_by_all told marks ports false many (λ k low. search (rules, mark_is, stands, mark_there)) in
+        grind (arith, common_steps, low, tallied_counts limits next came names ports are marks refused known)

@@ -5,7 +5,8 @@
 -- figures of the outputs change departure by departure, each those of its own output. Items that stand in order of a
 -- number, taken number by number and laid end on end, are the same list. And the slots of a run: departures that stand
 -- by slot end with the last.
-use Rattle.cq_resume.proofs.Terms.{IsBefore, pairs_kept_with, ◌&&◌, rules, ◌≡◌, ℕ, ◌+◌, ◌-◌, ◌<◌, ◌≤◌, eqb, leb, ltb, Bool, true, false, List, [], ◌∷◌, length, get_or, take, drop, refl, ap, ◌∙◌, length-drop, Bor, arith, map, common_steps, filter, Called, ComputesKey, Mut, IsPartitionPoint, IsNonDecreasingBy, always_returns_same, append-nil, get_or-drop, get_or-take, length-take-le, take-append-drop, map-append, take_more, filter-append, eq-eqb, leb-false, ltb-true, ne_eqb, cases_eq, eqb-true, AllPairs, range_with_len, IsRising, Queued, IsBufferedBefore, ◌^◌, set, length-append, AllByRecursion, Departure, OutputFigures, output_told, IsSentBefore, IsTimely, departed, with_departure, Gone, recursion_from_All, filter_all, filter_none, cases_Bool, get_or-map-range_with_len, set_one, slots_of, all_weaker, of_images, few_kept, each_pair, all_pairs, EachPair, pairs_mapped, All-from_recursion, map-constant, take_all, flat_map-append, has_at, ◌==◌, flat_map, suc, zero}
+use Rattle.cq_resume.proofs.Terms.{IsBefore, pairs_kept_with, ◌&&◌, rules, ◌≡◌, ℕ, ◌+◌, ◌-◌, ◌<◌, ◌≤◌, eqb, leb, ltb, Bool, true, false, List, [], ◌∷◌, length, get_or, take, drop, refl, ap, ◌∙◌, length-drop, Bor, arith, map, common_steps, filter, Called, ComputesKey, Mut, IsPartitionPoint, IsNonDecreasingBy, always_returns_same, append-nil, get_or-drop, get_or-take, length-take-le, take-append-drop, map-append, take_more, filter-append, eq-eqb, leb-false, ltb-true, ne_eqb, cases_eq, eqb-true, AllPairs, range_with_len, IsRising, Queued, IsBufferedBefore, ◌^◌, set, length-append, AllByRecursion, Departure, OutputFigures, output_told, IsSentBefore, IsTimely, departed, with_departure, Gone, recursion_from_All, filter_all, filter_none, cases_Bool, get_or-map-range_with_len, set_one, slots_of, all_weaker, of_images, few_kept, each_pair, all_pairs, EachPair, pairs_mapped, All-from_recursion, map-constant, take_all, flat_map-append, has_at, ◌==◌, flat_map, suc, zero, get_or-map, length-map}
+use Rattle.std.proofs.iter.Serving.{serving}
 use Rattle.std.proofs.lemmas.Bool.Decides.{nat_tests}
 use Rattle.std.proofs.lemmas.List.{take_rest}
 
@@ -72,6 +73,11 @@ filter_both p q (x ∷ xs) = grind (arith, common_steps, filter_both p q xs)
 pub ruleset named_on = (take_more, flat_map-append, append-nil, map-append)
 
 pub ruleset found_on = (All-from_recursion, has_at, take_all)
+
+-- what a chain serves, and what is asked of each item; and how many numbers a rank state has
+pub ruleset served = (serving, All-from_recursion, recursion_from_All)
+
+pub ruleset size_steps = (get_or-map, length-map)
 
 -- ## Items in order of a number
 

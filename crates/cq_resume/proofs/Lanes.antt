@@ -6,7 +6,7 @@
 -- one in which the cells of a flow leave. Cells and names that stand by input: those of one list or of one flow stand
 -- in order exactly where those of one lane do, by input first. One name more of those that stand by input and then by
 -- slot. And the cells of lists have slack where those of the list of each port have.
-use Rattle.cq_resume.proofs.Terms.{common_steps, rules, ap, ◌==◌, ◌≡◌, ℕ, ◌+◌, ◌<◌, ◌≤◌, ◌⊎◌, ◌↔◌, Bool, true, false, List, length, get_or, set, replicate, Option, None, Some, refl, inl, inr, arith, ◌*◌, IfSome, AllPairs, AllByRecursion, cases_eq, cases_lt, get_or-replicate, get_or-set_other, get_or-set_same, get_or_default, get_or_past, length-replicate, get_or_read, FlowsStand, IsNameBefore, Leaves, IsBefore, Queued, Name, ne_eqb, SlackStands, slice_get-get_or, key_laws, most_classes, All-from_recursion, zero, suc, AllAdjacentBelow, all_weaker, filter, HasRoom, IsAheadInFlow, IsAheadInList, flow_of, IsNoLaterInput, IsListedBefore, filter_none}
+use Rattle.cq_resume.proofs.Terms.{common_steps, rules, ap, ◌==◌, ◌≡◌, ℕ, ◌+◌, ◌<◌, ◌≤◌, ◌⊎◌, ◌↔◌, Bool, true, false, List, length, get_or, set, replicate, Option, None, Some, refl, inl, inr, arith, ◌*◌, IfSome, AllPairs, AllByRecursion, cases_eq, cases_lt, get_or-replicate, get_or-set_other, get_or-set_same, get_or_default, get_or_past, length-replicate, get_or_read, FlowsStand, IsNameBefore, IsBefore, Queued, Name, ne_eqb, SlackStands, slice_get-get_or, key_laws, most_classes, All-from_recursion, zero, suc, AllAdjacentBelow, all_weaker, filter, HasRoom, IsAheadInFlow, IsAheadInList, flow_of, IsNoLaterInput, IsListedBefore, filter_none}
 use Rattle.cq_resume.specs.Neighbours.{IsOfNeighbours}
 use Rattle.cq_base.proofs.Each.{one_there}
 
@@ -77,13 +77,8 @@ module _ {X : Type 0} (lane : X → ℕ) (R : X → X → Type 0) where
         pairs_then i j d lt le = grind (arith, common_steps, last_is i d, known.pairs i j d, get_or_default, cases_eq j n)
 
         some_then : (l : ℕ) (y : X) → get_or then l None ≡ Some y → IsThere xs (n + 1) l y
-        some_then l y shown = elim (cases_eq l (lane here)) [
-          | inl same ↦
-              let one : here ≡ y = cc read_here in
-              let there : (d : X) → get_or xs n d ≡ y = search (arith, rules, get_or_default) in
-              record { place = n; below = omega arith; stands = there; in_lane = cc }
-          | inr other ↦ search (arith, rules, known.some l y, get_or-set_other)
-        ]
+        some_then l y shown =
+            search (arith, rules, read_here, known.some l y, get_or-set_other, get_or_default, cases_eq l (lane here))
 
         each_then : (k : ℕ) (d : X) → k < n + 1 → (y : X) × (get_or then (lane (get_or xs k d)) None ≡ Some y)
             × ((get_or xs k d ≡ y) ⊎ R (get_or xs k d) y)
@@ -128,14 +123,8 @@ lists_as_lanes listed inputs = grind (arith, common_steps, inputs)
 
 -- ## Flows
 
-abbrev LeavesFirst : Name → Name → Type 0
-LeavesFirst a b = Leaves a.queued b.queued a.sent b.sent
-
-leaves_on : (a b c : Name) → LeavesFirst a b → LeavesFirst b c → LeavesFirst a c
-leaves_on a b c = search (arith, rules, urgent_on)
-
 pub in_flow_on : (a b c : Name) → IsAheadInFlow a b → IsAheadInFlow b c → IsAheadInFlow a c
-in_flow_on a b c first second = grind (arith, common_steps, leaves_on)
+in_flow_on a b c first second = grind (arith, common_steps, urgent_on)
 
 module _ (ports : ℕ) (xs : List Name)
     (each : AllByRecursion (λ n. (n.queued.cell.output < ports) × (n.queued.cell.class < most_classes)) xs) where
@@ -145,10 +134,7 @@ module _ (ports : ℕ) (xs : List Name)
   pub flows_as_lanes : AllPairs IsNameBefore xs → AllPairs (InLane flow_of IsAheadInFlow) xs ↔ FlowsStand xs
   flows_as_lanes ordered = (
     (λ lanes i j d lt inside. grind (arith, common_steps, lanes i j d lt inside)),
-    (λ stand i j d lt inside.
-        let low = All-from_recursion _ xs each i d (omega arith) in
-        let high = All-from_recursion _ xs each j d inside in
-        grind (arith, common_steps, ordered i j d lt inside, stand i j d lt inside)),
+    (λ stand i j d lt inside. grind (arith, common_steps, ordered i j d, stand i j d, All-from_recursion _ xs each)),
   )
 
 pub ruleset flow_steps = (flows_fit, flows_as_lanes, in_flow_on, length-replicate)
@@ -162,5 +148,4 @@ pub ruleset room_steps = (get_or_default, slice_get-get_or)
 -- an input behind the last one has no list
 pub slack_by_input : (listed buffered : List Queued) (ports : ℕ) → AllByRecursion (λ q. q.key.input < ports) listed →
     ((i : ℕ) → i < ports → HasRoom buffered (filter (λ q. q.key.input == i) listed)) → SlackStands listed buffered
-slack_by_input listed buffered ports inputs each =
-    search (arith, rules, filter_none, all_weaker, ne_eqb, cases_lt)
+slack_by_input listed buffered ports inputs each = search (arith, rules, filter_none, all_weaker, ne_eqb, cases_lt)

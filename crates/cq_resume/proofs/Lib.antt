@@ -3,10 +3,8 @@ pub mod Zipped
 pub mod Cut
 pub mod Lanes
 pub mod Coming
-pub mod Walking
 pub mod Tallied
 pub mod Adding
-pub mod Upheld
 pub mod Judging
 pub mod Scheduling
 pub mod Joining

@@ -98,7 +98,7 @@ fn walk(
 
 /// What the arrivals before the next slot come to that are not named. None where a packet is named in part, or where
 /// one is not named whose output has no limit. The error is want of memory.
-#[tactic(auto, using(crate::proofs::Upheld::packet_fails))]
+#[tactic(auto, using(crate::proofs::Adding::packet_fails))]
 pub fn tally_packets(
     alloc: Global,
     schedule: &Schedule,

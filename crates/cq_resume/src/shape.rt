@@ -19,6 +19,7 @@ fn width_of(kind: Kind, classes: &[ClassRow]) -> usize
 }
 
 // Whether each rank state has as many numbers as its output's.
+#[tactic(auto, using(crate::proofs::Cut::size_steps))]
 fn are_sized(setup: &Setup, ranks: &[Sequence<u128>]) -> bool
     requires few { length setup.now.classes ≤ most_classes }
     requires as_many { length ranks.now ≡ length setup.now.kinds }

@@ -1,6 +1,6 @@
 use Rattle.cq_resume.proofs.Terms.{rules, ◌<◌, ◌∙◌, refl, sym, arith, none_counted, Arrival, IsNameBefore, all_of_has}
 use Rattle.std.proofs.lemmas.List.Kept.{AllPairs-filter}
-use Rattle.cq_resume.proofs.Walking.{comes_from, walk_goes_on, walk_stops}
+use Rattle.cq_resume.proofs.Coming.{comes_from, walk_goes_on, walk_stops}
 use Rattle.cq_resume.proofs.packets.walk.Goals as goal
 
 pub arrivals-init : goal.arrivals-init

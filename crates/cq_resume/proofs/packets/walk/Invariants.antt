@@ -1,5 +1,5 @@
 use Rattle.cq_resume.proofs.Terms.{◌-◌, coming}
-use Rattle.cq_resume.proofs.Walking.{Walked}
+use Rattle.cq_resume.proofs.Coming.{Walked}
 use Rattle.cq_resume.proofs.packets.walk.Given as goal
 
 -- the cells from this slot on are left
