@@ -6,7 +6,9 @@
 -- the slot's transfers are the same, so are those of each phase, and they tell the matchings
 -- (`transfers_tell_the_matching`). All else follows from the state and what arrives. In a run the transfers of a
 -- slot stand before those of later ones.
-use Rattle.cq_audit.proofs.Terms.{common_steps, rules, ◌≡◌, ℕ, ◌+◌, ◌<◌, ◌≤◌, List, [], ◌∷◌, length, Option, arith, AllByRecursion, Cell, Queued, Machine, Marked, orders_of, transfers_of, Orders, IsStable, Partners, Fabric, FabricSlot, SlotRecord, LimitedFabricRun, LimitedRecord, slots_in, Transfers, transfers_in, transfers_of_run, one_arrival, one_departure, one_transfer, same_record, transfers_tell, all_weaker, in_phase, all_both, all_from_has, looked_up, Bool, true, false, ◌++◌, refl, ◌⊎◌, take, drop, ap, ⊎_elim, filter, position_or_len, and_left, and_parts, cases_lt, cond_both, eq-eqb, eqb-true, lt-ltb, ltb-true, ne_eqb, cases_Bool, append-nil, append_cancel_left, filter-append, Transfer, AreInOrder, IsTransferBefore, AllBehind, NoneBefore, is_at, AreParted, FirstIsLeast, before_slot, not, first_here, first_later, all_front, all_give, filter_all, filter_none, recursion_from_All}
+-- Slots that a replay skips. No cell arrives up to the next arrival, and no line is of a slot before the first one's.
+-- And a stretch of no slots leaves everything as it is.
+use Rattle.cq_audit.proofs.Terms.{common_steps, rules, ◌≡◌, ℕ, ◌+◌, ◌<◌, ◌≤◌, List, [], ◌∷◌, length, Option, arith, AllByRecursion, Cell, Queued, Machine, Marked, orders_of, transfers_of, Orders, IsStable, Partners, Fabric, FabricSlot, SlotRecord, LimitedFabricRun, LimitedRecord, slots_in, Transfers, transfers_in, transfers_of_run, one_arrival, one_departure, one_transfer, same_record, transfers_tell, all_weaker, in_phase, all_both, all_from_has, looked_up, Bool, true, false, ◌++◌, refl, ◌⊎◌, take, drop, ap, ⊎_elim, filter, position_or_len, and_left, and_parts, cases_lt, cond_both, eq-eqb, eqb-true, lt-ltb, ltb-true, ne_eqb, cases_Bool, append-nil, append_cancel_left, filter-append, Transfer, AreInOrder, IsTransferBefore, AllBehind, NoneBefore, is_at, AreParted, FirstIsLeast, before_slot, not, first_here, first_later, all_front, all_give, filter_all, filter_none, recursion_from_All, min, None, Some, slice_get, Arrival, quiet_of, HasRested, IsInStep, ReplayView, IsStill, IsStillUntil, IsQuietUntil}
 use Rattle.std.proofs.lemmas.Bool.Decides.{nat_tests}
 
 -- ## What is kept of lines by a test
@@ -179,3 +181,38 @@ module _ (limits : List (Option ℕ)) (ms : List Machine) where
       let one = one_stable_slot ms slot r.admission.cells f.state x.0.state y.0.state r.of_slot s.of_slot x.1.runs in
       search (arith, rules, parts, all_weaker, run_later, slot_at IsStable ms, one, one_stable_run (slot + 1) traffic)
   one_stable_run slot traffic f g h rs ss x y moved = grind (arith, common_steps)
+
+-- ## Slots that are skipped: up to where nothing happens
+
+-- none of the lines is of an earlier slot
+pub all_late : (slot : ℕ) (lines : List Transfer) → NoneBefore slot 1 lines → AllByRecursion (λ t. slot ≤ t.slot) lines
+all_late slot lines = all_weaker _ _ (λ t had. grind arith) lines
+
+module _ {came : List Arrival} {slot next : ℕ} (until : IsQuietUntil came slot next) where
+  -- there is no line, so at the next arrival one arrives
+  pub until_arrival : (lines : List Transfer) → None ≡ slice_get lines 0 → IsStillUntil came lines slot next
+  until_arrival [] none = search (arith, rules, quiet_of)
+  until_arrival (t ∷ lines) none = cc
+
+  -- and at the line, if it is earlier, there is a line
+  pub until_line : (lines : List Transfer) (t : Transfer) → NoneBefore slot 1 lines → FirstIsLeast lines →
+      Some t ≡ slice_get lines 0 → IsStillUntil came lines slot (min next t.slot)
+  until_line lines t before least is = search (arith, rules, quiet_of, cases_lt, all_late, all_weaker)
+
+-- no slot is skipped
+pub not_skipped : (came : List Arrival) (slot : ℕ) (lines : List Transfer) → NoneBefore slot 1 lines →
+    IsStill came lines slot slot
+not_skipped came slot lines before = grind (arith, common_steps, all_late)
+
+-- where there is a line of this slot, no slot is skipped
+pub until_here : (came : List Arrival) (slot : ℕ) (lines : List Transfer) (t : Transfer) → NoneBefore slot 1 lines →
+    Some t ≡ slice_get lines 0 → t.slot ≡ slot → IsStillUntil came lines slot slot
+until_here came slot [] t before first here = cc
+until_here came slot (u ∷ lines) t before first here = search (arith, rules, not_skipped came slot (u ∷ lines))
+
+-- ## A stretch of no slots
+
+pub no_rest : (ms : List Machine) (slot : ℕ) (v : ReplayView) → IsInStep ms slot v → HasRested ms slot slot v v
+no_rest ms slot v step = search rules
+
+pub ruleset skip_steps = (not_skipped, no_rest, first_least)

@@ -2,13 +2,10 @@ mod Terms
 pub mod LogLines
 pub mod OneDifference
 pub mod Ahead
-pub mod TellingLines
 pub mod PhaseExact
 pub mod Crossings
 pub mod Following
 pub mod Slots
-pub mod Skips
 pub mod Steps
-pub mod Opened
 pub mod AuditExact
 pub mod Noted

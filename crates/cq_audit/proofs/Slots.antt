@@ -1,30 +1,21 @@
 -- A slot of a replay, step by step. It is a slot of the fabric with limits, whose matchings are those that the lines
 -- tell. So what each step asks for is what it asks of any fabric that agrees with an ideal switch, and each fault of
--- the lines is one of the phase in which it comes. What is known where the slot begins is one record, and so is what
--- each step leaves: what comes is judged and ranked and arrives, the lines of the first phase are gone by, the outputs
--- send, and the lines of the second are gone by.
--- A replay before its first slot, and after slots in which nothing happens.
-use Rattle.cq_audit.proofs.Terms.{common_steps, rules, ◌≡◌, ℕ, ◌+◌, ◌<◌, ◌≤◌, ◌^◌, Bool, List, ◌++◌, length, map, get_or, Option, Ok, Err, sym, ap, ◌∙◌, subst, arith, append_assoc, length-append, [], replicate, length-map, length-replicate, Cell, Queued, TagFault, Transfer, RoomView, Machine, class_count, AreForOneSwitch, admitted, marked, marks_after, marks_down, count_for, ranking, admitted_arrives, admitted_for_ports, list_of, SlotRecord, fabric_admission, LimitedFabricRun, Arrives, transfers_in, ComeApart, FitLists, Queues, fabric_of, admits_are, admitted_room, numbers_fit, still_holds, holds_first, IsPhaseFault, in_phase, CanCome, CanReplay, IsInStep, IsSlotFault, ReplayView, SlotReplayed, shown, SlotFault, all_weaker, no_arrivals, IsStable, IsEmptyFabric, quiet_limited_slots, empty_agree, fronts, ComeToPorts, LimiterView, RanksView, idled, length-told, by_marks, SendsAlike, HoldsFabric, AreRanked, BuffersHaveRoom, HaveArrived, HaveJudged, HaveMoved, HaveSent, stable_limited_too, rested_agrees, rested_limited_run, still_held, length-map-range_with_len, length-idle}
+-- the lines is one of the phase in which it comes. What each step leaves is one record: what comes is judged and ranked
+-- and arrives, the lines of the first phase are gone by, the outputs send, and the lines of the second are gone by.
+-- Then a replay before its first slot, and after slots in which nothing happens. And how the replay of a log begins
+-- that is made for a setup: the machines are those of the disciplines, each in its opening state, and there is room for
+-- all cells that arrive, and for what one slot notes.
+use Rattle.cq_audit.proofs.Terms.{common_steps, rules, ◌≡◌, ℕ, ◌+◌, ◌<◌, ◌≤◌, ◌^◌, Bool, List, ◌++◌, length, map, get_or, Option, Ok, Err, sym, ap, ◌∙◌, subst, arith, append_assoc, length-append, [], replicate, length-map, length-replicate, Cell, Queued, TagFault, Transfer, RoomView, Machine, class_count, AreForOneSwitch, admitted, marked, marks_after, marks_down, count_for, ranking, admitted_arrives, admitted_for_ports, list_of, SlotRecord, fabric_admission, LimitedFabricRun, Arrives, transfers_in, ComeApart, FitLists, Queues, fabric_of, admits_are, admitted_room, numbers_fit, still_holds, holds_first, IsPhaseFault, in_phase, CanCome, CanReplay, IsInStep, IsSlotFault, ReplayView, SlotReplayed, shown, SlotFault, all_weaker, no_arrivals, IsStable, IsEmptyFabric, quiet_limited_slots, empty_agree, fronts, ComeToPorts, LimiterView, RanksView, idled, length-told, by_marks, SendsAlike, HoldsFabric, AreRanked, BuffersHaveRoom, HaveArrived, HaveJudged, HaveMoved, HaveSent, stable_limited_too, rested_agrees, rested_limited_run, still_held, length-map-range_with_len, length-idle, ◌*◌, IsOk, get_or-map-range_with_len, Arrival, Setup, IsShort, IsTraffic, is_from, is_to, rooms_of, machines_of, openings_of, whole_limited_run, empty_limited, opening_fabric, AreInOrder, ports_in, IsReady}
 use Rattle.cq_fabric.proofs.Slot.{alike as sends_alike, arrive as slot_arrives, can_cross_first, can_cross_second, come_apart, depart as slot_departs, few_cross, fill as slot_fills, fits_lists, held_before, is_slot, recorded}
 use Rattle.cq_audit.specs.SlotSteps.{CanGoBy, CanSend, HasGoneBy, HaveAllSent, HaveCome}
 use Rattle.cq_audit.proofs.Following.{second_behind}
 
 -- ## Before a slot
 
--- what is known of the parts
-pub record Begun (M : List ℕ → Machine) (slot : ℕ) (cells : List (Option Cell)) (lines : List Transfer)
-    (note : RoomView Transfer) (v : ReplayView) (ranks : RanksView) (q : Queues) (l : LimiterView) : Type 0 where
-  pub is : shown ranks q l ≡ v
-  pub can : CanReplay (map M ranks.fixed) slot cells lines (shown ranks q l) note
-
 module _ (M : List ℕ → Machine) {slot : ℕ} {v : ReplayView} (ranks : RanksView) (q : Queues) (l : LimiterView)
     (is : shown ranks q l ≡ v) where
   pub in_step_here : IsInStep (map M v.fixed) slot v → IsInStep (map M ranks.fixed) slot (shown ranks q l)
   in_step_here step = subst (λ (w : ReplayView). IsInStep (map M w.fixed) slot w) (sym is) step
-
-  pub begun : {cells : List (Option Cell)} {lines : List Transfer} {note : RoomView Transfer} →
-      CanReplay (map M v.fixed) slot cells lines v note → Begun M slot cells lines note v ranks q l
-  begun can = grind (arith, common_steps)
 
 -- ## What comes
 
@@ -68,19 +59,23 @@ module _ (M : List ℕ → Machine) {slot : ℕ} {cells : List (Option Cell)} (r
 
 -- ## A slot
 
-module _ {M : List ℕ → Machine} {slot : ℕ} {cells : List (Option Cell)} {lines : List Transfer}
+module _ (M : List ℕ → Machine) {slot : ℕ} {cells : List (Option Cell)} {lines : List Transfer}
     {note : RoomView Transfer} {v : ReplayView} {ranks0 : RanksView} {q0 : Queues} {l : LimiterView}
-    (known : Begun M slot cells lines note v ranks0 q0 l) {ranks1 : RanksView} {q1 : Queues} {judged : LimiterView}
-    (come : HaveCome (map M ranks0.fixed) slot cells ranks0 ranks1 q0 q1 l judged) where
+    {ranks1 : RanksView} {q1 : Queues} {judged : LimiterView}
+    (come : HaveCome (map M ranks0.fixed) slot cells ranks0 ranks1 q0 q1 l judged) (is : shown ranks0 q0 l ≡ v)
+    (can : CanReplay (map M v.fixed) slot cells lines v note) where
   abbrev ms : List Machine
   ms = map M ranks0.fixed
+
+  known : CanReplay ms slot cells lines (shown ranks0 q0 l) note
+  known = rw (← is) at can
 
   -- the cells that are admitted
   abbrev comes : List (Option Cell)
   comes = admitted judged.marks cells
 
   ranked : AreRanked ms slot q0 ranks0.states comes (class_count ms) come.came ranks1.states
-  ranked = keyed M ranks0 q0 l known.can.come judged.marks come.came ranks1.states come.ranked
+  ranked = keyed M ranks0 q0 l known.come judged.marks come.came ranks1.states come.ranked
 
   arrived : HaveArrived q0 come.came q1
   arrived = grind (arith, common_steps)
@@ -89,27 +84,27 @@ module _ {M : List ℕ → Machine} {slot : ℕ} {cells : List (Option Cell)} {l
   judges = grind (arith, common_steps)
 
   room : BuffersHaveRoom (length ms) q0 comes
-  room = search (arith, rules, admitted_room, buffers_room)
+  room = let all = known in search (arith, rules, admitted_room, buffers_room)
 
   first_long : length q1.inputs ≡ length ranks0.fixed
   first_long = search (arith, rules, length-map)
 
   arrives : Arrives ms slot (fabric_admission l.limits cells (marked l.marks (fabric_of q0 ranks0.states))).cells
       come.came (fabric_of q0 ranks0.states) (fabric_of q1 ranks1.states)
-  arrives = grind (arith, common_steps, admits_are, holds, slot_arrives, ranked, arrived)
+  arrives = let all = known in grind (arith, common_steps, admits_are, holds, slot_arrives, ranked, arrived)
 
   -- the lines of the first phase can be gone by
   pub first_goes : CanGoBy slot 1 lines q1 note
-  first_goes = search (rules, can_cross_first, ranked, arrived, room, first_long)
+  first_goes = let all = known in search (rules, can_cross_first, ranked, arrived, room, first_long)
 
   -- a fault of the parts is one of what is seen of them
   seen : (f : SlotFault) → IsSlotFault ms slot cells lines (shown ranks0 q0 l) f →
       IsSlotFault (map M v.fixed) slot cells lines v f
-  seen f is = rw (← known.is) is
+  seen f wrong = rw (← is) wrong
 
   pub first_fault : (f : SlotFault) → (f.phase ≡ 1) × IsPhaseFault q1.inputs (in_phase slot 1 lines) f.fault →
       IsSlotFault (map M v.fixed) slot cells lines v f
-  first_fault f is = grind (arith, common_steps, seen, ranked, arrived, arrives)
+  first_fault f wrong = grind (arith, common_steps, seen, ranked, arrived, arrives)
 
   module _ {behind : List Transfer} {q2 : Queues} {note1 : RoomView Transfer}
       (one : HasGoneBy slot 1 lines behind q1 q2 note note1) where
@@ -130,6 +125,7 @@ module _ {M : List ℕ → Machine} {slot : ℕ} {cells : List (Option Cell)} {l
       -- the lines of the second phase can be gone by: no more cells crossed than there are inputs
       pub second_goes : CanGoBy slot 2 behind q3 note1
       second_goes =
+          let all = known in
           let few = few_cross one.crossed.pairs q1.inputs slot 1 one.crossed.told.stable.matching in
           let same = ap length one.crossed.told.moved in
           let long = first_long in
@@ -137,7 +133,7 @@ module _ {M : List ℕ → Machine} {slot : ℕ} {cells : List (Option Cell)} {l
 
       pub second_fault : (f : SlotFault) → (f.phase ≡ 2) × IsPhaseFault q3.inputs (in_phase slot 2 behind) f.fault →
           IsSlotFault (map M v.fixed) slot cells lines v f
-      second_fault f is =
+      second_fault f wrong =
           let gone = slot_departs ranked arrived room moved1 have_sent in
           search (arith, rules, seen, ranked, arrived, arrives, second_behind, slot_fills)
 
@@ -158,12 +154,13 @@ module _ {M : List ℕ → Machine} {slot : ℕ} {cells : List (Option Cell)} {l
 
         pub replayed : SlotReplayed (map M v.fixed) slot cells lines rest v (shown ranks2 q4 after) note note2
         replayed =
+            let all = known in
             let both = moved in
             let long = second_long ∙ first_long in
             let still = still_holds ranked (fronts q2.buffers) (fabric_of q4 ranks2.states) l judged after alike
-            (holds M ranks0 q0 l known.can.come) judges sent.released in
+            (holds M ranks0 q0 l known.come) judges sent.released in
             let slot_is = is_slot ranked arrived room moved1 have_sent moved2 in
-            rw (← known.is) (record {
+            rw (← is) (record {
               of_slot = record { admission = by_marks judged.marks cells; of_slot = of_slot };
               is_slot = search (arith, rules, admits_are, holds, slot_is);
               moved = search (arith, rules, append_assoc);
@@ -212,3 +209,26 @@ module _ (ms : List Machine) (slot to : ℕ) (ranks rested : RanksView) (q : Que
 pub ruleset lengths = (length-map, length-map-range_with_len, length-idle)
 
 pub ruleset rest_steps = (in_step_here, rested_run, rested_step, lengths)
+
+-- ## Made for a setup
+
+-- the replay of a switch of this setup with these limits, before its first slot
+pub record IsOpened (M : List ℕ → Machine) (setup : Setup) (limits : List (Option ℕ)) (first : ReplayView) : Type 0
+  where
+    pub ports : ports_in first ≡ length setup.kinds
+    pub machines : map M first.fixed ≡ machines_of setup
+    pub limits_are : first.limits ≡ limits
+    pub fabric : first.fabric ≡ opening_fabric setup
+
+module _ {M : List ℕ → Machine} {setup : Setup} {limits : List (Option ℕ)} {first : ReplayView}
+    (is : IsOpened M setup limits first) (came : List Arrival) where
+  pub ready : (lines : List Transfer) (note : RoomView Transfer) (ports : ℕ) → ports ≡ length setup.kinds →
+      IsInStep (map M first.fixed) 0 first → class_count (machines_of setup) ≡ length setup.classes →
+      IsTraffic (length setup.kinds) (length setup.classes) came → IsShort came →
+      IsOk
+      (whole_limited_run limits (machines_of setup) came (empty_limited (length setup.kinds) (openings_of setup)))
+      → first.from_inputs ≡ rooms_of is_from came ports → first.to_outputs ≡ rooms_of is_to came ports →
+      AreInOrder ports lines → note.items ≡ [] → note.spare ≡ 2 * ports →
+      IsReady (map M first.fixed) came lines first note
+  ready lines note ports many step classes traffic short ranked from_inputs to_outputs order none spare =
+      search (arith, rules, get_or-map-range_with_len)

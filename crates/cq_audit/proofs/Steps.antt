@@ -9,8 +9,7 @@
 -- more than arrives in all. Beside the fabric an ideal switch runs, with which it agrees. So where the whole run of
 -- that one meets no tag fault, the fabric meets none, and it goes on for no more slots than that one.
 use Rattle.cq_audit.proofs.Terms.{common_steps, rules, ◌≡◌, ℕ, ◌+◌, ◌-◌, ◌<◌, ◌≤◌, Bool, List, [], length, map, Option, Result, Err, arith, length-append, ◌*◌, zero, suc, ◌∷◌, ◌++◌, refl, append_assoc, IfErr, IsOk, OnOk, cases_lt, take_all, take-append-le, Arrival, arriving, end_of, enough, RoomView, Cell, Transfer, Machine, class_count, Marked, first_slots, arriving_from, ranking, IsStable, Fabric, IsEmptyFabric, LimitedFabricRun, empty_limited_fabric, fabric_admission, IsLimitedFault, LimitedFabricSlot, LimitedRecord, arrivals_for, refusal_of, AreInOrder, NoneBefore, CanReplay, HasRested, IsInStep, IsSlotFault, ReplayView, SlotReplayed, ports_in, IsMadeAs, IsReady, IsStill, RunEnds, Reaches, before_slot, AuditRefusal, Left, SlotFault, arriving_length, arriving_parts, quiet_limited_slots, transfers_of_run, AfterBy, run_length, first_more, quiet_slots, Ok, Some, TagFault, arrival_at, IsTraffic, is_from, is_to, number_of, count_for, whole_limited_run, empty_limited, input, reach, empty_list, empty_together, nothing_for, slots_fit, arrives_found, come_from, from_here, from_last, no_more_from, one_if, some_one, idled, all_go_on, transfers_one, quiet_transfers, limited_parts, run_fault, held_for, LimitedAgrees, LimitedRunsAlike, same_limited_fault, begin, same_limited_run, limited_lists_kept, limited_outputs_kept, come_for, for_here, for_last, no_more_to}
-use Rattle.cq_audit.proofs.Following.{before_is, phase_later, none_first, none_from, none_next, one_stable_run}
-use Rattle.cq_audit.proofs.Skips.{all_late}
+use Rattle.cq_audit.proofs.Following.{before_is, phase_later, none_first, none_from, none_next, one_stable_run, all_late}
 use Rattle.cq_audit.proofs.AuditExact.{Going, Runs, all_before, moved, moved_parts}
 use Rattle.cq_ideal.proofs.LimitedEnds.{last, limited_ends, limited_not_more, limited_whole_fault}
 

@@ -63,7 +63,7 @@ fn still_until(schedule: &Schedule, lines: &[Transfer], slot: Slot) -> Slot
 
 // Where no cell waits, the slots up to the next arrival or line are skipped: the fabric rests. The answer is the slot
 // that comes then.
-#[tactic(auto, using(crate::proofs::Skips::not_skipped, crate::proofs::Skips::no_rest))]
+#[tactic(auto, using(crate::proofs::Following::skip_steps))]
 fn skip<R: Rank>(
     replay: &mut Replay<R>,
     schedule: &Schedule,

@@ -31,7 +31,7 @@ fn is_right(list: &InputList, pairs: &Pairs, line: &Transfer) -> bool
 /// The pairs that the lines of a phase tell, which come in order of input: each names its input's first cell for its
 /// output, and no output is in two of them. The error is the least input whose line is wrong. It takes no memory, and
 /// each line is looked at once.
-#[tactic(auto, using(crate::proofs::TellingLines::told_steps))]
+#[tactic(auto, using(crate::proofs::PhaseExact::told_steps))]
 pub fn told(lists: &[InputList], lines: &[Transfer]) -> Result<Pairs, Port>
     requires few { length lists.now ≤ most_ports }
     requires lines { AllByRecursion (IsOf (length lists.now)) lines.now }

@@ -1,5 +1,5 @@
 use Rattle.cq_audit.proofs.Terms.{rules, ◌≡◌, length, ◌∙◌, arith, length-map, err_from_is_err_and, machine_from, common_steps}
-use Rattle.cq_audit.proofs.Opened.{IsOpened, ready}
+use Rattle.cq_audit.proofs.Slots.{IsOpened, ready}
 use Rattle.cq_audit.proofs.LogLines.{log_in_order}
 use Rattle.cq_audit.proofs.audit.audit_log.Goals as goal
 use Rattle.cq_audit.proofs.audit.audit_log.Goals.{After-as_slice, After-len-ports, In_ok-ranks}

@@ -1,4 +1,4 @@
-use Rattle.cq_audit.proofs.Skips.{until_arrival, until_here, until_line}
+use Rattle.cq_audit.proofs.Following.{until_arrival, until_here, until_line}
 use Rattle.cq_audit.proofs.audit.still_until.Goals as goal
 
 pub returns-in-Some : goal.returns-in-Some

@@ -1,5 +1,5 @@
 use Rattle.cq_audit.proofs.Terms.{arith, rules, length-map, cells_of, take_all}
-use Rattle.cq_audit.proofs.TellingLines.{ToldBy, all_told, right_at, wrong_at}
+use Rattle.cq_audit.proofs.PhaseExact.{ToldBy, all_told, right_at, wrong_at}
 use Rattle.cq_audit.proofs.told.told.Goals as goal
 use Rattle.cq_audit.proofs.told.told.Goals.{After-lines}
 

@@ -1,5 +1,5 @@
 use Rattle.cq_audit.proofs.Terms.{take, cells_of}
-use Rattle.cq_audit.proofs.TellingLines.{ToldBy}
+use Rattle.cq_audit.proofs.PhaseExact.{ToldBy}
 use Rattle.cq_audit.proofs.told.told.Given as goal
 
 -- the lines before this one are right, and these are the pairs that they tell
