@@ -1,4 +1,2 @@
 mod Terms
-mod Faulty
-mod Left
 mod Whole

@@ -1,16 +1,62 @@
 -- What `part` left is read as what was left and as nothing else, and is refused for nothing (`stopped_runs_are_read`).
 -- What goes on from there keeps what the run keeps, and comes to an end where the run does (`read_runs_go_on`); both
 -- write the same of it. A tag fault that is met from there is one of the whole run, and so that of the ideal switch,
--- for which `run` is refused.
-use Rattle.cq_parts.proofs.Terms.{common_steps, arith, rules, ◌≡◌, ◌<◌, ◌^◌, ℕ, List, refl, subst, Ok, Err, Scheduled, schedule_of, LimitedRecord, Captured, IsScheduleOf, Switch, switch_of, Tables, Contents, Run, Aim, Denies, Meets, Resuming, Reader, captures_in, judged, tables_in, IsRead, Taken, departures_in_run, read_runs_go_on, stopped_runs_are_read, GoesOnAsRun, IsReadAs, kept_in_run, traffic_is, AreGiven, IsEmulation, IsPartText, Plan, Refusal}
-use Rattle.cq_resume.specs.declared.refusal.StateRefusal.TheVariants as of_state
+-- for which `run` is refused: both act alike in every slot, and a fault of the ideal switch ends its whole run. And
+-- `resume` reads the configuration and the captures that `part` read, and the text that it wrote: where it alone wrote,
+-- under a name of its own, these are there.
+use Rattle.cq_parts.proofs.Terms.{common_steps, arith, rules, ◌≡◌, ◌<◌, ◌^◌, ℕ, List, refl, subst, Ok, Err, Scheduled, schedule_of, LimitedRecord, Captured, IsScheduleOf, Switch, switch_of, Tables, Contents, Run, Aim, Denies, Meets, Resuming, Reader, captures_in, judged, tables_in, IsRead, Taken, departures_in_run, read_runs_go_on, stopped_runs_are_read, GoesOnAsRun, IsReadAs, kept_in_run, traffic_is, AreGiven, IsEmulation, IsPartText, Plan, Refusal, le-ltb, ◌≢◌, [], ◌∷◌, length, ◌≤◌, Some, get, Resume, all_weaker, get_same, captures_same, untouched, longest_file, ap, length-map, TagFault, arrivals, limited_whole_fault, stable_limited_too, begin, same_limited_stop, IsWholeFault, AreTables, classes_of, ports_of, machine_of, machines_of, openings_of, slots_fit, departures_limited}
 use Rattle.cq_run.proofs.Crossed.{keeps_up}
 use Rattle.cq_run.specs.Plan.{crossed, resumed}
+use Rattle.cq_parts.specs.Parts.{IsAimOfRun, PartsAreTheRun, IsLeftByPart, IsWrittenByPart, PartLeavesTheRest}
+use Rattle.cq_simulate.specs.IdealRuns.{ideal_departures, ran_ideal}
+use Rattle.cq_resume.specs.declared.refusal.StateRefusal.TheVariants as of_state
 use Rattle.cq_run.specs.declared.refusal.Refusal.TheVariants as refused
 use Rattle.cq_run.specs.declared.refusal.StateFault.TheVariants as stopped
-use Rattle.cq_parts.proofs.Faulty.{whole_fault}
-use Rattle.cq_parts.proofs.Left.{aimed}
-use Rattle.cq_parts.specs.Parts.{IsAimOfRun, PartsAreTheRun}
+
+-- ## A tag fault of the whole run
+
+whole_fault : (t : Tables) (captures : List (List Captured)) (fault : TagFault) → AreTables t →
+    length captures ≡ ports_of t.setup →
+    IsWholeFault (switch_of t (schedule_of t captures)) (openings_of t.setup) fault →
+    ideal_departures t (arrivals t captures) ≡ Err fault
+unfolding ideal_departures ran_ideal
+whole_fault t captures fault are each is =
+    let ms = machines_of t.setup in
+    let p = ports_of t.setup in
+    let c = classes_of t.setup in
+    let ports = length-map t.setup.kinds (λ kind. machine_of kind t.setup.classes) in
+    let stops = (stable_limited_too ms t.limits).stop 0 _ _ is.records fault (rw ports at is.stops) in
+    let fit = slots_fit p c _ 0 is.count (traffic_is t captures are each) in
+    ap departures_limited (limited_whole_fault t.limits ms p _ _ is.count fault (same_limited_stop t.limits ms c 0 _ _ _
+    is.records fault (begin t.limits ms c p (openings_of t.setup) _ fit) stops))
+
+-- ## What is read of what was left
+
+module _ (r : Reader) (config state : List ℕ) where
+  aimed : (left : Contents) (t : Tables) (captures : List (List Captured)) (text : List ℕ) →
+      tables_in config left ≡ Ok t → captures_in r t left ≡ Ok captures → get left state ≡ Some text →
+      length text ≤ longest_file → judged r (Resume config state) left ≡ Ok (Resuming t captures text)
+  aimed left t captures text configured captured told short = grind (arith, common_steps, le-ltb)
+
+  module _ (slots : ℕ) (m left : Contents) (is : IsWrittenByPart r config state slots m left) where
+    is_left : IsLeftByPart r config state slots m left
+    is_left =
+        let written = rw is.stops.written at is.written in
+        -- every other name has what it had
+        let same = λ (name : List ℕ) (other : state ≢ name).
+        untouched ((state, is.stops.text) ∷ []) m left name written (other, tt) in
+        record {
+          early = is.early;
+          plan = is.plan;
+          stops = is.stops;
+          same = search (arith, rules, same, captures_same, all_weaker);
+          told = search (arith, rules, get_same);
+        }
+
+pub part_leaves_the_rest : (r : Reader) → PartLeavesTheRest r
+part_leaves_the_rest = is_left
+
+-- ## What goes on
 
 -- what is written of a run is what is written of what it keeps
 same_plan : (t : Tables) (captures : List (List Captured)) (rs : List LimitedRecord) →

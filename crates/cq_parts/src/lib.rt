@@ -20,7 +20,7 @@ pub fn parts_are_the_run()
 /// Where nothing but what `part` writes was written, and STATE is neither the name of the configuration nor one under
 /// which a capture is read, the same configuration and captures are read, and STATE has the text that `part` left. It
 /// does nothing: its contract is the claim.
-#[tactic(auto, using(crate::proofs::Left::part_leaves_the_rest))]
+#[tactic(auto, using(crate::proofs::Whole::part_leaves_the_rest))]
 pub fn part_leaves_the_rest()
     ensures { (r : Reader) → PartLeavesTheRest r }
 {}
