@@ -6,7 +6,7 @@
 -- the transfers of a stable matching there, as its lines say. For the same reason no fault stands within a whole run
 -- that moves what the lines say, and none behind it, for the run is over there. And two such runs are one.
 -- A log has one verdict: it cannot be read, or what was read is that of a stable run or has one fault first.
-use Rattle.cq_audit.proofs.Terms.{common_steps, rules, ◌≡◌, ◌≢◌, ℕ, ◌⊎◌, List, length, Option, sym, ap, ◌∙◌, inl, inr, arith, Arrival, Setup, IsAuditExact, IsNo, IsReadNo, IsYes, IsLogExact, IsLogFault, AuditRefusal, Line, NoMemory, ◌<◌, ◌≤◌, [], ◌∷◌, ◌++◌, take, drop, refl, map-append, transfers_both, ◌-◌, AllByRecursion, cases_lt, take-append-drop, take-take, end_of, Transfer, Marked, arriving_from, first_slots, arriving_length, Machine, IsStable, Fabric, IsEmptyFabric, LimitedFabricRun, LimitedFabricSlot, LimitedRecord, slots_in, transfers_of_run, AfterBy, reach, run_of_whole, Reaches, StableRun, before_slot, all_weaker, suc, ⊎_elim, cases_order, Partners, one_arrival, one_departure, IsNoOf, IsStableTold, in_phase, Begins, BeginsFirst, IsFaultAt, IsOfStableRun, PhaseFault, filter_all, lt-ltb}
+use Rattle.cq_audit.proofs.Terms.{common_steps, rules, ◌≡◌, ◌≢◌, ℕ, ◌⊎◌, List, length, Option, sym, ap, ◌∙◌, inl, inr, arith, Arrival, Setup, IsAuditExact, IsNo, IsReadNo, IsYes, IsLogExact, IsLogFault, AuditRefusal, Line, NoMemory, ◌<◌, ◌≤◌, [], ◌∷◌, ◌++◌, take, drop, refl, map-append, transfers_both, ◌-◌, AllByRecursion, cases_lt, take-append-drop, take-take, end_of, Transfer, Marked, arriving_from, first_slots, arriving_length, Machine, IsStable, Fabric, IsEmptyFabric, LimitedFabricRun, LimitedFabricSlot, LimitedRecord, slots_in, transfers_of_run, AfterBy, reach, run_of_whole, Reaches, StableRun, before_slot, all_weaker, suc, ⊎_elim, cases_order, Partners, one_arrival, one_departure, IsStableTold, in_phase, Begins, BeginsFirst, IsFaultAt, PhaseFault, filter_all, lt-ltb}
 use Rattle.cq_audit.proofs.LogLines.{log_is_exact}
 use Rattle.cq_audit.proofs.Following.{before_is, before_later, phase_before, phase_later, phase_now, each_moved, one_move, one_stable_run, run_later, run_within}
 use Rattle.cq_audit.proofs.PhaseExact.{phase_is_exact}
@@ -166,15 +166,6 @@ module _ (limits : List (Option ℕ)) (ms : List Machine) (came : List Arrival) 
           let h = halfway n slot at.1.records at.0 in
           search (arith, rules, none_passed slot phase fault, passed, whole_going, h, one_stable_run, cases_lt slot n)
 
-      -- ## Refusals
-
-      pub one_no_of : (r s : AuditRefusal) → IsNoOf limits ms came start note r →
-          IsNoOf limits ms came start note s → r ≡ s
-      one_no_of r s x y = search (arith, rules, one_fault_at, none_followed, not_longer, cases_lt)
-
-      pub no_no : (r : AuditRefusal) → IsOfStableRun limits ms came start note → IsNoOf limits ms came start note r → ⊥
-      no_no r is x = search (arith, rules, none_followed, followed, not_longer, cases_lt)
-
     pub one_whole_run : (rs ss : List LimitedRecord) (g h : Marked Fabric) → StableRun limits ms came start rs g →
         StableRun limits ms came start ss h → moved rs ≡ moved ss → (rs ≡ ss) × (g ≡ h)
     one_whole_run rs ss g h w v same = grind (arith, common_steps, not_longer, cases_lt, followed, one_stable_run)
@@ -195,11 +186,13 @@ module _ (setup : Setup) (limits : List (Option ℕ)) (came : List Arrival) (log
   one_no r s (inl a) (inl b) = a.1 ∙ ap (λ (n : ℕ). Line n) (exact.one_fault log a.0 b.0 a.2 b.2) ∙ sym b.1
   one_no r s (inl a) (inr b) = absurd (exact.never_both b.note log a.0 b.read a.2)
   one_no r s (inr a) (inl b) = absurd (exact.never_both a.note log b.0 a.read b.2)
-  one_no r s (inr a) (inr b) = search (rules, exact.one_reading a.note b.note log, one_no_of)
+  one_no r s (inr a) (inr b) =
+      search (rules, exact.one_reading a.note b.note log, one_fault_at, none_followed, not_longer, cases_lt)
 
   never_both : (r : AuditRefusal) → IsYes setup limits came log → IsWrong r → ⊥
   never_both r y (inl a) = exact.never_both y.note log a.0 y.read a.2
-  never_both r y (inr a) = search (rules, exact.one_reading y.note a.note log, no_no)
+  never_both r y (inr a) =
+      search (rules, exact.one_reading y.note a.note log, none_followed, followed, not_longer, cases_lt)
 
 pub audit_is_exact : (setup : Setup) (limits : List (Option ℕ)) (came : List Arrival) → IsAuditExact setup limits came
 audit_is_exact setup limits came =

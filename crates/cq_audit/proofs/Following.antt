@@ -6,18 +6,14 @@
 -- the slot's transfers are the same, so are those of each phase, and they tell the matchings
 -- (`transfers_tell_the_matching`). All else follows from the state and what arrives. In a run the transfers of a
 -- slot stand before those of later ones.
--- Slots that a replay skips. No cell arrives up to the next arrival, and no line is of a slot before the first one's.
+-- Of slots that a replay skips: no cell arrives up to the next arrival, and no line is of a slot before the first one's.
 -- And a stretch of no slots leaves everything as it is.
-use Rattle.cq_audit.proofs.Terms.{common_steps, rules, ◌≡◌, ℕ, ◌+◌, ◌<◌, ◌≤◌, List, [], ◌∷◌, length, Option, arith, AllByRecursion, Cell, Queued, Machine, Marked, orders_of, transfers_of, Orders, IsStable, Partners, Fabric, FabricSlot, SlotRecord, LimitedFabricRun, LimitedRecord, slots_in, Transfers, transfers_in, transfers_of_run, one_arrival, one_departure, one_transfer, same_record, transfers_tell, all_weaker, in_phase, all_both, all_from_has, looked_up, Bool, true, false, ◌++◌, refl, ◌⊎◌, take, drop, ap, ⊎_elim, filter, position_or_len, and_left, and_parts, cases_lt, cond_both, eq-eqb, eqb-true, lt-ltb, ltb-true, ne_eqb, cases_Bool, append-nil, append_cancel_left, filter-append, Transfer, AreInOrder, IsTransferBefore, AllBehind, NoneBefore, is_at, AreParted, FirstIsLeast, before_slot, not, first_here, first_later, all_front, all_give, filter_all, filter_none, recursion_from_All, min, None, Some, slice_get, Arrival, quiet_of, HasRested, IsInStep, ReplayView, IsStill, IsStillUntil, IsQuietUntil}
+use Rattle.cq_audit.proofs.Terms.{common_steps, rules, ◌≡◌, ℕ, ◌+◌, ◌<◌, ◌≤◌, List, [], ◌∷◌, length, Option, arith, AllByRecursion, Cell, Queued, Machine, Marked, orders_of, transfers_of, Orders, IsStable, Partners, Fabric, FabricSlot, SlotRecord, LimitedFabricRun, LimitedRecord, slots_in, Transfers, transfers_in, transfers_of_run, one_arrival, one_departure, one_transfer, same_record, transfers_tell, all_weaker, in_phase, all_both, all_from_has, looked_up, Bool, true, ◌++◌, refl, ◌⊎◌, take, drop, ap, ⊎_elim, filter, position_or_len, and_left, and_parts, cases_lt, cond_both, eq-eqb, eqb-true, lt-ltb, ltb-true, ne_eqb, cases_Bool, append-nil, append_cancel_left, filter-append, Transfer, AreInOrder, IsTransferBefore, AllBehind, NoneBefore, is_at, AreParted, FirstIsLeast, before_slot, not, first_here, first_later, all_front, all_give, filter_all, filter_none, recursion_from_All, min, None, Some, slice_get, Arrival, quiet_of, HasRested, IsInStep, ReplayView, IsStill, IsStillUntil, IsQuietUntil}
 use Rattle.std.proofs.lemmas.Bool.Decides.{nat_tests}
 
 -- ## What is kept of lines by a test
 
 module _ (keep : Transfer → Bool) where
-  keeps_later : (xs ys : List Transfer) → AllByRecursion (λ t. keep t ≡ false) xs →
-      filter keep (xs ++ ys) ≡ filter keep ys
-  keeps_later xs ys none = grind (arith, common_steps, filter-append, filter_none)
-
   -- no test that all these pass takes a line from them
   keeps_of_kept : (wider : Transfer → Bool) → ((t : Transfer) → keep t ≡ true → wider t ≡ true) →
       (xs : List Transfer) → filter keep (filter wider xs) ≡ filter keep xs
@@ -48,7 +44,7 @@ module _ (slot : ℕ) where
     -- earlier lines are none of this phase
     pub phase_later : (xs ys : List Transfer) → AllByRecursion (λ t. t.slot < slot) xs →
         in_phase slot phase (xs ++ ys) ≡ in_phase slot phase ys
-    phase_later xs ys all = grind (arith, common_steps, keeps_later, all_weaker, and_left, ne_eqb)
+    phase_later xs ys all = grind (arith, common_steps, filter-append, filter_none, all_weaker, and_left, ne_eqb)
 
     -- and so are later ones
     pub phase_now : (xs ys : List Transfer) → AllByRecursion (λ t. slot + 1 ≤ t.slot) ys →
@@ -63,13 +59,7 @@ module _ (slot : ℕ) where
   -- so the lines of the second phase are those behind the lines of the first
   pub second_behind : (xs ys : List Transfer) → AllByRecursion (λ t. (t.slot ≡ slot) × (t.phase ≡ 1)) xs →
       in_phase slot 2 (xs ++ ys) ≡ in_phase slot 2 ys
-  second_behind xs ys first = search (arith, rules, keeps_later, all_weaker, nat_tests)
-
-  -- of the lines of the first phase and then those of the second
-  pub of_two : (xs ys : List Transfer) → AllByRecursion (λ t. (t.slot ≡ slot) × (t.phase ≡ 1)) xs →
-      AllByRecursion (λ t. (t.slot ≡ slot) × (t.phase ≡ 2)) ys →
-      (in_phase slot 1 (xs ++ ys) ≡ xs) × (in_phase slot 2 (xs ++ ys) ≡ ys)
-  of_two xs ys first second = search (arith, rules, filter-append, filter_all, filter_none, all_weaker, nat_tests)
+  second_behind xs ys first = search (arith, rules, filter-append, filter_none, all_weaker, nat_tests)
 
 -- ## Lines in order
 
@@ -125,7 +115,7 @@ pub each_moved : (r : SlotRecord) →
     (in_phase r.slot 1 (transfers_in r) ≡ transfers_of r.first r.arrived.inputs r.slot 1)
     × (in_phase r.slot 2 (transfers_in r) ≡ transfers_of r.second r.sent.inputs r.slot 2)
 unfolding transfers_in
-each_moved r = search (rules, of_two, transfers_at)
+each_moved r = search (rules, filter-append, filter_all, filter_none, all_weaker, nat_tests, transfers_at)
 
 -- ## One state after each step
 

@@ -199,10 +199,6 @@ module _ (lists : List (List Queued)) (lines : List Transfer) where
 
 -- ## The lines of all inputs
 
-pub line_later : (i : ℕ) (t : Transfer) (lines : List Transfer) → t.input ≢ i → line_of_input i (t ∷ lines) ≡
-    line_of_input i lines
-line_later i t lines other = grind (arith, common_steps, cond_both, eqb-true)
-
 -- all lines are of the n inputs from a on
 abbrev Between : ℕ → ℕ → List Transfer → Type 0
 Between a n lines = AllByRecursion (λ u. (a ≤ u.input) × (u.input < a + n)) lines
@@ -215,7 +211,7 @@ lines_by_input f [] a (suc n) same rise all = grind (arith, common_steps, lines_
 lines_by_input f (t ∷ lines) a (suc n) same rise all =
     let own = lines_by_input f lines (a + 1) n in
     let rest = lines_by_input f (t ∷ lines) (a + 1) n in
-    grind (arith, common_steps, line_later, all_weaker, all_give, no_line, own, rest, cases_eq t.input a)
+    grind (arith, common_steps, cond_both, eqb-true, all_weaker, all_give, no_line, own, rest, cases_eq t.input a)
 lines_by_input f lines a n same rise all = grind (arith, common_steps)
 
 -- ## What is noted of an input
@@ -244,7 +240,7 @@ module _ (h : ℕ → Option Transfer) (own : (i : ℕ) (t : Transfer) → h i �
   line_is_here : (i a n : ℕ) → ((i < a) ⊎ (a + n ≤ i) → h i ≡ None) →
       line_of_input i (filter_map h (range_with_len a n)) ≡ h i
   line_is_here i a zero out = search (arith, rules, cases_lt i a)
-  line_is_here i a (suc n) out = search (arith, rules, line_later, cases_eq, line_is_here i (a + 1) n)
+  line_is_here i a (suc n) out = search (arith, rules, cond_both, eqb-true, cases_eq, line_is_here i (a + 1) n)
 
 -- ## The transfers of a stable matching
 
@@ -271,12 +267,9 @@ module _ (lists : List (List Queued)) (slot phase : ℕ) (lines : List Transfer)
   unfolding note
   partner_told i = grind (arith, common_steps, line_is_note, offer_of lists m is.stable i)
 
-  told_partner : (i j : ℕ) → output_told lines i ≡ Some j → partner_of m i ≡ Some j
-  told_partner i j e = cc (partner_told i)
-
   pub none_wrong : (i : ℕ) → IsWrongLine lists lines i → ⊥
   unfolding note
-  none_wrong i wrong = search (arith, rules, line_is_note, told_partner)
+  none_wrong i wrong = search (arith, rules, line_is_note, partner_told)
 
   pub told_is : told (length lists) lines ≡ m
   told_is = search (arith, rules, ext_get_or None (told (length lists) lines) m, told_size, size, told_at, partner_told)

@@ -19,11 +19,11 @@ unfoldable pub use Rattle.cq_ideal.specs.Ending.{arriving_from}
 pub use Rattle.cq_ideal.specs.Ranking.{ranking}
 pub use Rattle.cq_lines.proofs.Going.{SoFar, one_line_more}
 pub use Rattle.cq_lines.specs.Texts.{Leads}
-pub use Rattle.cq_audit.specs.Audit.{IsAuditExact, IsNo, IsNoOf, IsReadNo, IsYes, opening_fabric}
+pub use Rattle.cq_audit.specs.Audit.{IsAuditExact, IsNo, IsReadNo, IsYes, opening_fabric}
 pub use Rattle.cq_audit.specs.Phase.{AllBehind, AreOfPhase, AreParted, AreRight, IsBlocking, IsFirstWrong, IsPhaseExact, IsPhaseFault, IsStableTold, IsWrongLine, NoneBefore, RiseByInput, first_id, in_phase, is_at, line_of_input, output_told}
 unfoldable pub use Rattle.cq_audit.specs.Phase.{told}
 pub use Rattle.cq_audit.specs.Replay.{CanCome, CanReplay, HasRested, IsInStep, IsMadeAs, IsSlotFault, ReplayView, SlotReplayed, ports_in, refusal_of, shown}
-pub use Rattle.cq_audit.specs.StableRun.{Begins, BeginsFirst, IsFaultAt, IsOfStableRun, Reaches, StableRun, before_slot}
+pub use Rattle.cq_audit.specs.StableRun.{Begins, BeginsFirst, IsFaultAt, Reaches, StableRun, before_slot}
 pub use Rattle.cq_audit.specs.{declared.phase.PhaseFault.PhaseFault, declared.refusal.AuditRefusal.AuditRefusal, declared.replay.SlotFault.SlotFault}
 pub use Rattle.cq_audit.specs.declared.refusal.AuditRefusal.TheVariants.{Left, Line, NoMemory}
 pub use Rattle.cq_list.specs.InputList.{Waiting, cells_of}
