@@ -72,10 +72,6 @@ module _ (limits : List (Option ℕ)) (next : ℕ) (came : List Arrival) (names 
       tallied_more m marks' refused' mark counts more =
           search (arith, rules, all_counted_both, map-range_with_len_more mark_at, map-append, left_more input)
 
-    pub tallied_counts : (marks : List Bool) (refused : List Refused) → Tallied ports marks refused →
-        refused ≡ refused_counts limits (cells_in (left_out next came names))
-    tallied_counts marks refused known = grind (arith, common_steps, counts_more limits [], all_left_out)
-
 -- ## All inputs
 
 module _ (limits : List (Option ℕ)) (next : ℕ) (came : List Arrival) (names : List Name) (ports : ℕ)
@@ -109,4 +105,4 @@ module _ (limits : List (Option ℕ)) (next : ℕ) (came : List Arrival) (names 
         TalliesUp limits next came names x
     tallies_up x as_many own_marks own_counts =
         let low = fill_by_all told marks ports false many (λ k low. search (rules, mark_is, stands, mark_there)) in
-        grind (arith, common_steps, low, tallied_counts limits next came names ports are marks refused known)
+        grind (arith, common_steps, low, counts_more limits [], all_left_out)

@@ -216,9 +216,7 @@ module _ (w : Switch) (s : State) (f : Found) (found : IsFound w.came s f) where
 
     pub slack_alike : HaveSlack w s ↔ SlackStands f.listed.items f.buffered.items
     slack_alike = (
-      (λ have i. record {
-        each = λ ahead c is. grind (arith, common_steps, input_is i, cushion_is i ahead c, have i ahead c);
-      }),
+      (λ have i. record { each = λ ahead c is. search (arith, rules, input_is i, cushion_is i ahead c, have i) }),
       (λ stands i ahead c is. grind (arith, common_steps, input_is i, cushion_is i ahead c, (stands i).each ahead c)),
     )
 

@@ -3,9 +3,9 @@
 -- place is kept. Where the relation goes on from one to the next, that decides it for each and each later one of one
 -- lane: of the earlier items of the lane each is the last one, or stands before it. The orders in which the lines of a
 -- state stand go on from one to the next: those of lists, of buffers, of departures, of transfers and of names, and the
--- one in which the cells of a flow leave. Cells and names that stand by input: those of one list or of one flow stand
--- in order exactly where those of one lane do, by input first. One name more of those that stand by input and then by
--- slot. And the cells of lists have slack where those of the list of each port have.
+-- one in which the cells of a flow leave. Of cells or names that stand by input, those of one list or of one flow stand
+-- in order exactly where those of one lane do, by input first. And the cells of lists have slack where those of the
+-- list of each port have.
 use Rattle.cq_resume.proofs.Terms.{common_steps, rules, ap, ◌==◌, ◌≡◌, ℕ, ◌+◌, ◌<◌, ◌≤◌, ◌⊎◌, ◌↔◌, Bool, true, false, List, length, get_or, set, replicate, Option, None, Some, refl, inl, inr, arith, ◌*◌, IfSome, AllPairs, AllByRecursion, cases_eq, cases_lt, get_or-replicate, get_or-set_other, get_or-set_same, get_or_default, get_or_past, length-replicate, get_or_read, FlowsStand, IsNameBefore, IsBefore, Queued, Name, ne_eqb, SlackStands, slice_get-get_or, key_laws, most_classes, All-from_recursion, zero, suc, AllAdjacentBelow, all_weaker, filter, HasRoom, IsAheadInFlow, IsAheadInList, flow_of, IsNoLaterInput, IsListedBefore, filter_none}
 use Rattle.cq_resume.specs.Neighbours.{IsOfNeighbours}
 use Rattle.cq_base.proofs.Each.{one_there}
@@ -65,13 +65,10 @@ module _ {X : Type 0} (lane : X → ℕ) (R : X → X → Type 0) where
 
     module _ (read : Option X) (read_is : read ≡ get_or last its read) (may : Bool)
         (test : (may ≡ true) ↔ IfSome read (λ y. R y here)) where
-      test_there : (may ≡ true) ↔ IfSome (get_or last (lane here) None) (λ y. R y here)
-      test_there = search (arith, rules, get_or_read last its read, within)
-
       -- one that may come behind the last one of its lane stands behind all of the lane, and is the last one then
       module _ (goes_on : (a b c : X) → R a b → R b c → R a c) (comes : may ≡ true) where
         last_is : (i : ℕ) (d : X) → i < n → InLane (get_or xs i d) here
-        last_is i d lt same = grind (arith, common_steps, known.each i d, goes_on, test_there)
+        last_is i d lt same = grind (arith, common_steps, known.each i d, goes_on, get_or_read last its read, within)
 
         pairs_then : (i j : ℕ) (d : X) → i < j → j < n + 1 → InLane (get_or xs i d) (get_or xs j d)
         pairs_then i j d lt le = grind (arith, common_steps, last_is i d, known.pairs i j d, get_or_default, cases_eq j n)
@@ -94,7 +91,7 @@ module _ {X : Type 0} (lane : X → ℕ) (R : X → X → Type 0) where
 
       -- one that stands behind all of its lane may come
       pub lanes_stop : may ≡ false → (false ≡ true) ↔ AllPairs InLane xs
-      lanes_stop not_so = search (arith, rules, test_there, follows)
+      lanes_stop not_so = search (arith, rules, get_or_read last its read, within, follows)
         where
           follows : AllPairs InLane xs → (o : Option X) → get_or last (lane here) None ≡ o → IfSome o (λ y. R y here)
           follows pairs None shown = tt

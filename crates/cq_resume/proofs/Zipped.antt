@@ -6,9 +6,8 @@
 -- are the same; and where no two are the same they do. The name of an arrival, if there is one, is found by halving.
 -- So no cell is named twice exactly where the names that were found stand strictly in order: order changes nothing of
 -- which names are the same.
-use Rattle.cq_resume.proofs.Terms.{rules, arith, ◌≡◌, ℕ, ◌+◌, ◌<◌, ◌≤◌, ◌↔◌, List, [], ◌∷◌, ◌++◌, length, get_or, map, take, refl, None, Some, Bool, common_steps, filter_map, Option, IsSome, AllByRecursion, AllPairs, AllZip, take_more, All-from_recursion, All, recursion_from_All, Arrival, Queued, AreGone, AreFound, IsTold, names_of, told_of, waiting_name, sent_name, IsGone, Sent, arriving_cell, key_of, named_in, queued_of, Gone, Name, Named, State, IsOfSwitch, IsTraffic, ◌≢◌, eqb, true, false, Bor, ◌&&◌, IsPermutation, Called, ComputesKey, Mut, AllAdjacentBelow, IsDistinct, list_any, IsSortedByKey, Ordering, nat_cmp, ordering_then, cases_lt, eq-eqb, eqb-true, false_from_ne_true, always_returns_same, list_any_at, list_any_none, IsDistinct-IsPermutation, IsDistinct-from_apart, apart_from_distinct, IsNameBefore, IsNameNotAfter, IsPermutation-sym, AreArrivals, all_has, all_of_has, all_from_has, Has, each_pair, all_pairs, EachPair, StateRefusal, filter}
+use Rattle.cq_resume.proofs.Terms.{rules, arith, ◌≡◌, ℕ, ◌+◌, ◌<◌, ◌≤◌, ◌↔◌, List, [], ◌∷◌, ◌++◌, length, get_or, map, take, refl, None, Some, Bool, common_steps, filter_map, Option, IsSome, AllByRecursion, AllPairs, AllZip, take_more, All-from_recursion, All, recursion_from_All, Arrival, Queued, AreGone, AreFound, IsTold, names_of, told_of, waiting_name, sent_name, IsGone, Sent, arriving_cell, key_of, named_in, queued_of, Gone, Name, Named, State, IsOfSwitch, IsTraffic, ◌≢◌, eqb, false, Bor, ◌&&◌, IsPermutation, Called, ComputesKey, Mut, AllAdjacentBelow, IsDistinct, list_any, IsSortedByKey, Ordering, nat_cmp, ordering_then, cases_lt, eq-eqb, eqb-true, false_from_ne_true, always_returns_same, list_any_at, list_any_none, IsDistinct-IsPermutation, IsDistinct-from_apart, apart_from_distinct, IsNameBefore, IsNameNotAfter, IsPermutation-sym, AreArrivals, all_has, all_of_has, all_from_has, Has, each_pair, all_pairs, EachPair, StateRefusal, filter}
 use Rattle.std.proofs.lemmas.Bool.Decides.{nat_tests}
-use Rattle.std.specs.declared.cmp.Ordering.TheVariants.{Equal}
 use Rattle.std.specs.Ordering.{ordering_index}
 use Rattle.std.specs.List.Sorted.{IsBinarySearchResult, IsSearchInRange}
 use Rattle.std.proofs.Common.{Result, Ok, Err, is_ok}
@@ -155,9 +154,6 @@ is_its input slot n = eqb n.queued.key.slot slot && eqb n.queued.key.input input
 abbrev standing : ℕ → ℕ → Name → Ordering
 standing input slot n = pair_cmp (arrival_key n) (input, slot)
 
-same_place : (input slot : ℕ) (n : Name) → (standing input slot n ≡ Equal) ↔ (is_its input slot n ≡ true)
-same_place input slot n = search (arith, rules, eq-eqb, eqb-true)
-
 -- a name before another stands no later to it
 no_later : (input slot : ℕ) (a b : Name) → IsNameBefore a b →
     ordering_index (standing input slot a) ≤ ordering_index (standing input slot b)
@@ -170,7 +166,7 @@ named_where input slot names order (Ok at) inside equal =
     let one = (one_there names at inside).0 in search (rules, list_any_at (is_its input slot) names at one, equal one)
 named_where input slot names order (Err at) inside parted =
     let rising = not_falling IsNameBefore _ (no_later input slot) names order in
-    search (arith, rules, list_any_none, parted rising, cases_lt, same_place, false_from_ne_true)
+    search (arith, rules, list_any_none, parted rising, cases_lt, eq-eqb, eqb-true, false_from_ne_true)
 
 -- two names are of different arrivals
 abbrev pub Differ : Named → Named → Type 0
