@@ -145,10 +145,9 @@ module _ (w : Switch) where
       IsEmptyFabric over.state →
       (records : List LimitedRecord) × (end : Marked Fabric) × RunsOn w next start records end
   unfolding arriving_from
-  ends zero next start over [] run late empty = grind (arith, common_steps)
   ends (suc n) next start over (r ∷ rs) run late empty =
       search (arith, rules, slot_ahead, over_or_not next start.state, ends n (next + 1) run.0 over)
-  ends n next start over rs run late empty = absurd run
+  ends n next start over rs run late empty = grind (arith, common_steps)
 
   -- ## A run that was stopped
 

@@ -4,8 +4,7 @@ use Rattle.cq_resume.proofs.slack.have_slack.Goals as goal
 
 pub returns-then-not-list_has_room : goal.returns-then-not-list_has_room
 returns-then-not-list_has_room c =
-    let here = λ (stands : SlackStands c.args.listed.now c.args.buffered.now). stands c.inputs.input in
-    search (arith, rules, here)
+    search (arith, rules, λ (stands : SlackStands c.args.listed.now c.args.buffered.now). stands c.inputs.input)
 
 pub inputs-preserved : goal.inputs-preserved
 inputs-preserved c =
@@ -13,8 +12,5 @@ inputs-preserved c =
     c.inputs.invariant (rw c.list_at.ensures at (c.list_has_room.ensures.0 c.if-not-list_has_room.false))
 
 pub returns : goal.returns
-returns c = (
-  (λ yes. slack_by_input c.args.listed.now c.args.buffered.now c.args.ports c.requires.inputs
-      (λ i lt. c.inputs.invariant i (omega arith))),
-  (λ stands. refl),
-)
+returns c =
+    ((λ yes. slack_by_input _ _ _ c.requires.inputs (λ i lt. c.inputs.invariant i (omega arith))), (λ stands. refl))
