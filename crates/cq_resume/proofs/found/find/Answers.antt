@@ -21,22 +21,21 @@ found_all-requires-3 c = search (arith, rules, images_held, all_back, all_weaker
 
 pub returns-in_err-listed-clause-refused : goal.returns-in_err-listed-clause-refused
 returns-in_err-listed-clause-refused c =
-    let p = err_from_is_err_and c.from_residual.result c.from_residual.ensures.1 in
-    rw (p.1, p.2) (missed _ _ (λ (n : Named). n) _ (search (arith, rules)) _ (search (rules, has_left)) _
-    (rw c.as_slice.ensures at c.in_err-listed.ensures.refused))
+    let lost = missed c.args.schedule.now.came c.args.state.now (λ (n : Named). n) _ (search (arith, rules)) _
+    (search (rules, has_left)) _ (rw c.as_slice.ensures at c.in_err-listed.ensures.refused) in
+    search (arith, rules, err_from_is_err_and, lost)
 
 pub returns-in_err-buffered-clause-refused : goal.returns-in_err-buffered-clause-refused
 returns-in_err-buffered-clause-refused c =
-    let p = err_from_is_err_and c.from_residual-in_err-buffered.result c.from_residual-in_err-buffered.ensures.1 in
-    rw (p.1, p.2) (missed _ _ (λ (n : Named). n) _ (search (arith, rules)) _ (search (rules, has_left, has_right)) _
-    (rw c.as_slice-2.ensures at c.in_err-buffered.ensures.refused))
+    let lost = missed c.args.schedule.now.came c.args.state.now (λ (n : Named). n) _ (search (arith, rules)) _
+    (search (rules, has_left, has_right)) _ (rw c.as_slice-2.ensures at c.in_err-buffered.ensures.refused) in
+    search (arith, rules, err_from_is_err_and, lost)
 
 pub returns-in_err-sent-clause-refused : goal.returns-in_err-sent-clause-refused
 returns-in_err-sent-clause-refused c =
-    let p = err_from_is_err_and c.from_residual-in_err-sent.result c.from_residual-in_err-sent.ensures.1 in
-    rw (p.1, p.2) (missed _ _ (λ (d : Sent). d.cell) _ (search (arith, rules)) _
+    let lost = missed c.args.schedule.now.came c.args.state.now (λ (d : Sent). d.cell) _ (search (arith, rules)) _
     (λ d has. has_right _ _ d.cell (has_image (λ (e : Sent). e.cell) _ d has)) _
-    (rw c.as_slice-3.ensures at c.in_err-sent.ensures.refused))
+    (rw c.as_slice-3.ensures at c.in_err-sent.ensures.refused) in search (arith, rules, err_from_is_err_and, lost)
 
 pub returns-clause-found : goal.returns-clause-found
 returns-clause-found c = search (arith, rules, zip_same)
