@@ -77,7 +77,7 @@ pub use Rattle.cq_ideal.proofs.{FlowCount.come_count-first, FlowLaw.all_in_range
 pub use Rattle.cq_ideal.specs.{Limiter.where_up, declared.refused.Refused.Refused}
 pub use Rattle.cq_state.specs.declared.state.Seen.{Seen}
 pub use Rattle.cq_laws.proofs.{AfterPhases.rest_of, IdealLists.among_put_all, IdealLists.list_after, IdealLists.put_all_keeps, IdealLists.put_all_new, IdealLists.rising_put_all, InputBest.stable_slot, InputBest.stable_limited_too, LimitedSlots.admission_for_ports, WholeRuns.empty_list}
-pub use Rattle.cq_resume.proofs.{Coming.is_between, Coming.one_comes, Judging.packets_alike, Judging.tally_is, Scheduling.schedule_known, Tallied.whole, Upheld.all_stand, Upheld.tallies_up, Walking.cells_in}
+pub use Rattle.cq_resume.proofs.{Coming.is_between, Coming.one_comes, Judging.packets_alike, Judging.tally_is, Scheduling.schedule_known, Tallied.whole, Adding.all_stand, Adding.tallies_up, Coming.cells_in}
 pub use Rattle.cq_resume.specs.declared.found.Name.{Name}
 pub use Rattle.cq_traffic.proofs.{Arriving.arrivals_for, Arriving.place_of}
 pub use Rattle.cq_simulate.proofs.{Steps.all_wait, FabricLaws.AreNumbered}
