@@ -1,4 +1,4 @@
-use Rattle.cq_engine.proofs.Terms.{rules, ◌≡◌, ◌+◌, ◌*◌, ◌≤◌, ◌++◌, ℕ, List, length, map, ap, ◌∙◌, arith, append_assoc, length-append, Option, length-map, admitted, transfers_of, HaveArrived, HaveJudged, HaveSent, admits_are, still_holds, came_newest, came_outputs, can_cross_first, can_cross_second, come_apart, few_cross, fits_lists, held_before, GoStraight, length-told, HasJudged, Cell, LimiterView}
+use Rattle.cq_engine.proofs.Terms.{rules, ◌≡◌, ◌+◌, ◌*◌, ◌≤◌, ◌++◌, ℕ, List, length, map, ap, ◌∙◌, arith, append_assoc, length-append, Option, length-map, admitted, transfers_of, EngineView, HaveArrived, HaveJudged, HaveSent, admits_are, still_holds, came_newest, came_outputs, can_cross_first, can_cross_second, come_apart, few_cross, fits_lists, held_before, GoStraight, length-told, HasJudged, Cell, LimiterView}
 use Rattle.cq_engine.proofs.Shown.{Begun, begun, buffers_room, can_take_in, lists_room, taken}
 use Rattle.cq_engine.proofs.Done.{slot_done}
 use Rattle.cq_engine.proofs.Slot.{moved_of, whole_slot}
@@ -187,7 +187,7 @@ returns-then-go_straight g c =
           did.sent.left (rw (← is.ports) did.note) (rw (← is.ports) did.note_room);
       went_on = search (arith, rules, few_proposed g at.After-pass-crossed (ports_seen g at.After-self) is);
       made = search (arith, rules);
-      stopped = search (arith, rules);
+      stopped = ap (λ (v : EngineView). v.stopped) c.self.view_is ∙ c.requires.running;
       stays = tt;
     }
 
@@ -214,7 +214,7 @@ returns g c =
           (omega (arith, length-append first second));
       went_on = search (arith, rules, twice_few, ports_seen g at.After-self);
       made = search (arith, rules);
-      stopped = search (arith, rules);
+      stopped = ap (λ (v : EngineView). v.stopped) c.self.view_is ∙ c.requires.running;
       stays = tt;
     }
 
