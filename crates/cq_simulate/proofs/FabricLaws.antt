@@ -169,13 +169,12 @@ module _ (t : Tables) (captures : List (List Captured)) (are : AreTables t)
     resumed_both : AreInputBest resumed.records × AlwaysHasSlack resumed.records
     resumed_both =
         let on = goes_of t (schedule_of t captures) from up (traffic_is t captures are many) in
-        let rs = resumed.records in
         let beside : Marked IdealState =
         record { state = ideal_of (fabric_in from.frozen); marks = from.frozen.marks } in
-        each_chosen IsInputBest (λ o m h. h.stable) _ _ (classes_of t.setup) from.frozen.next
-        (arriving_from w.came from.frozen.next (length rs)) (marked_in from.frozen) resumed.end beside rs
+        each_chosen IsInputBest (λ o m h. h.stable) _ _ (classes_of t.setup) from.frozen.next _ (marked_in from.frozen)
+        resumed.end beside resumed.records
         (search (arith, rules, agrees_of, slots_fit, traffic_there, on.ports.lists, on.sound))
-        (rw (take_all (length rs) rs (omega arith)) at resumed.runs.after)
+        (rw (take_all (length resumed.records) resumed.records (omega arith)) at resumed.runs.after)
 
     pub resumed_best : AreInputBest resumed.records
     resumed_best = resumed_both.0
