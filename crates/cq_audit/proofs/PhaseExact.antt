@@ -32,6 +32,8 @@ pub joined_mirrored : (m w : Partners) (i j : ℕ) → AreMirrored m w → i < l
 joined_mirrored m w i j mirror in_m in_w free_i free_j =
     search (arith, rules, length-set, free_back, get_or-set_same, get_or-set_other, cases_eq)
 
+pub ruleset join_steps = (joined_mirrored, free_there, free_back)
+
 -- the list of an input that is one
 pub cells_at : (lists : List Waiting) (i : ℕ) (w : Waiting) → i < length lists → get_or lists i w ≡ w →
     list_of (cells_of lists) i ≡ w.cells

@@ -46,7 +46,7 @@ impl Pairs {
     }
 
     /// Joins an input and an output, neither of which has a partner yet. The other pairs stay.
-    #[tactic(auto, using(crate::proofs::PhaseExact::joined_mirrored, crate::proofs::PhaseExact::free_there, crate::proofs::PhaseExact::free_back))]
+    #[tactic(auto, using(crate::proofs::PhaseExact::join_steps))]
     pub fn join(&mut self, input: Port, output: Port)
         requires { CanBeJoined self.old input output }
         ensures { self.new ≡ with_pair self.old input output }

@@ -1,7 +1,7 @@
 -- What is left out at all inputs, input after input, comes to what is left out of all that arrives. No more cells are
 -- left out than arrive, and so the counts have room for them.
--- Where the walks over all inputs ended with a mark, all packets stand, and the marks and the counts are those of what is
--- left out; where one stopped, a packet does not stand.
+-- Where the walks over all inputs ended with a mark, all packets stand, and the marks and the counts are those of what
+-- is left out; where one stopped, a packet does not stand.
 use Rattle.cq_resume.proofs.Terms.{rules, ◌≡◌, ℕ, zero, suc, ◌+◌, ◌-◌, ◌<◌, ◌≤◌, ◌^◌, ltb, leb, Bool, false, List, [], ◌∷◌, ◌++◌, length, map, Option, Some, refl, sym, length-append, arith, common_steps, ◌&&◌, filter, flat_map, nat_lt, not, range_with_len, le-leb, append-nil, length-map, map-append, flat_map-append, filter-append, map-range_with_len_more, Arrival, is_from, range_more, Refused, CanCount, refused_counts, with_refused, all_counted_both, counts_fit, none_counted, zero_fits, ArePackets, coming, has_limit, has_name, left_out, mark_on, unnamed, Name, few_kept, counts_more, get_or, None, get_or-map, get_or-map-range_with_len, length-map-range_with_len, latest, PacketsStand, TalliesUp, firsts_before, is_left_out, Tally, fill_by_all}
 use Rattle.cq_resume.proofs.Coming.{is_between, cells_in}
 use Rattle.cq_resume.proofs.Tallied.{line_ends, line_stands, LineStands, as_first, mark_is, packets_stand, whole}

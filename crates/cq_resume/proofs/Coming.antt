@@ -1,7 +1,7 @@
 -- The cells that arrive at one input, from a slot on. They rise by slot, so the next slot with an arrival is that of
 -- the first of them, and behind it are those from the slot after that on.
--- So a walk goes over the cells of one input, cell by cell: the mark so far with the cells that are left gives the mark in
--- the end, and so do the counts. Each step takes the first of the cells that are left.
+-- So a walk goes over the cells of one input, cell by cell: the mark so far with the cells that are left gives the mark
+-- in the end, and so do the counts. Each step takes the first of the cells that are left.
 use Rattle.cq_resume.proofs.Terms.{common_steps, rules, ◌≡◌, ℕ, ◌+◌, ◌<◌, ◌≤◌, leb, ltb, Bool, List, [], ◌∷◌, None, Some, refl, inl, inr, arith, ◌&&◌, filter, AllByRecursion, and_parts, eqb-true, and_from, and_left, eq-eqb, le-leb, lt-leb, lt-ltb, Arrival, arriving_at, Cell, is_from, ComeBehind, IsLine, coming, ArrivesIn, IsNextArrival, all_of_has, has_kept, Has, EachPair, filter_none, all_weaker, suc, eqb, true, false, cond, length, map, Option, ap, ◌==◌, not, list_any, Refused, CanCount, with_refused, all_counted_both, counts_left, fewer_left, none_counted, has_limit, has_name, mark_on, may_come, unnamed, Name, kept_has}
 use Rattle.std.proofs.lemmas.Map.Views.{any-filter_same}
 

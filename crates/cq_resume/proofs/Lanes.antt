@@ -71,7 +71,8 @@ module _ {X : Type 0} (lane : X → ℕ) (R : X → X → Type 0) where
         last_is i d lt same = grind (arith, common_steps, known.each i d, goes_on, get_or_read last its read, within)
 
         pairs_then : (i j : ℕ) (d : X) → i < j → j < n + 1 → InLane (get_or xs i d) (get_or xs j d)
-        pairs_then i j d lt le = grind (arith, common_steps, last_is i d, known.pairs i j d, get_or_default, cases_eq j n)
+        pairs_then i j d lt le =
+            grind (arith, common_steps, last_is i d, known.pairs i j d, get_or_default, cases_eq j n)
 
         some_then : (l : ℕ) (y : X) → get_or then l None ≡ Some y → IsThere xs (n + 1) l y
         some_then l y shown =

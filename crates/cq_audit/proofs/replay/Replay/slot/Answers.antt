@@ -26,5 +26,6 @@ returns-in_err-rest-clause-fault g c =
     search (arith, rules, err_from_is_err_and, fault)
 
 pub returns-clause-slot : goal.returns-clause-slot
-returns-clause-slot g c = replayed g.R.Rank.machine c.come.ensures c.self.view_is c.requires c.in_ok-behind.ensures.gone_by
-    c.send.ensures c.in_ok-rest.ensures.gone_by
+returns-clause-slot g c =
+    replayed g.R.Rank.machine c.come.ensures c.self.view_is c.requires c.in_ok-behind.ensures.gone_by c.send.ensures
+    c.in_ok-rest.ensures.gone_by
