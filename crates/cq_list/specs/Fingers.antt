@@ -1,3 +1,4 @@
+-- Only proofs use this.
 -- Fingers into a queue: what stands ahead of some of its cells.
 use Rattle.std.specs.Prelude.{◌≡◌, ℕ, ◌+◌, ◌-◌, ◌<◌, ◌≤◌, ◌⊎◌, List, Some, slice_get, slice_index_or}
 use Rattle.cq_list.specs.declared.fingers.Ahead.{Ahead}

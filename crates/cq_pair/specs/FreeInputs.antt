@@ -1,3 +1,4 @@
+-- Only proofs use this.
 -- Inputs in order of number.
 use Rattle.std.specs.Prelude.{ℕ, nat_lt, List}
 use Rattle.cq_prefs.specs.FirstCells.{put_by}

@@ -1,4 +1,3 @@
--- Only proofs use this.
 -- What is answered where a text is none of a state.
 use Rattle.cq_resume.specs.declared.refusal.StateRefusal.{StateRefusal}
 use Rattle.cq_resume.specs.declared.refusal.StateRefusal.TheVariants as refusal
