@@ -20,10 +20,6 @@ none_later : (c : Queued) (xs : List Queued) →
 none_later c [] all = refl
 none_later c (x ∷ xs) all = grind (arith, common_steps, first_later, eqb-true, key_laws.one_way, none_later c xs all.1)
 
-goes_last : (n : ℕ) (c : Queued) (xs : List Queued) → length xs ≡ n →
-    AllByRecursion (λ x. x.cell.output ≡ c.cell.output → IsBefore x c) xs → with_arrival n c xs ≡ xs ++ c ∷ []
-goes_last n c xs long all = grind (arith, common_steps, none_later, take_all, drop_all)
-
 -- the cell at a place of the cells that a list is to have, once those before it are there
 module _ (outputs most : ℕ) (cells : List Queued) (wait : CanWait outputs most cells) (at : ℕ)
     (inside : at < length cells) (d : Queued) (w : Waiting) (so_far : w.cells ≡ take at cells) where
@@ -42,7 +38,7 @@ module _ (outputs most : ℕ) (cells : List Queued) (wait : CanWait outputs most
   pub comes_last : with_arrival at (get_or cells at d) w.cells ≡ take (at + 1) cells
   comes_last =
       let order = before_place (λ a b. a.cell.output ≡ b.cell.output → IsBefore a b) cells at d inside wait.order in
-      search (arith, rules, long, goes_last, take_more cells at d inside)
+      search (arith, rules, long, none_later, take_all, drop_all, take_more cells at d inside)
 
 -- ## The end of a buffer
 

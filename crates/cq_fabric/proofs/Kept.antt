@@ -1,6 +1,6 @@
 -- How many cells for an output there are. An arrival brings one more, a transfer moves one from the inputs to the
 -- output's buffer, and a departure takes one away. So it is in each slot with stable matchings, whoever found them.
-use Rattle.cq_fabric.proofs.Terms.{rules, ◌≡◌, ℕ, zero, suc, ◌+◌, ◌≤◌, eqb, Bool, List, [], ◌∷◌, length, Option, Some, None, ap, ⊎_elim, arith, common_steps, if◌then◌else◌, is_some, filter, insert, cond_both, length-drop, length-insert, Cell, Queued, arrival_at, is_for, first_for, without_first, Machine, list_of, HasCellFor, orders_of, list_taken, Partners, partner_of, IsMatching, IsStable, partner_or_free, without_length, length_put, Fabric, input, list_arrived, Transfers, SlotRecord, FabricSlot, came_cell, rest_of, Marked, admission, count_for, each_once, LimitedFabricSlot, LimitedRecord, waiting_for, held_for, is_output_order, outputs_at, admitted_at, get_or_past, drop}
+use Rattle.cq_fabric.proofs.Terms.{rules, ◌≡◌, ℕ, zero, suc, ◌+◌, ◌≤◌, eqb, Bool, List, [], ◌∷◌, length, Option, Some, None, ap, ⊎_elim, arith, common_steps, if◌then◌else◌, is_some, filter, insert, cond_both, length-drop, length-insert, Cell, Queued, arrival_at, is_for, first_for, without_first, Machine, list_of, HasCellFor, orders_of, Partners, partner_of, IsMatching, IsStable, partner_or_free, without_length, length_put, Fabric, input, list_arrived, Transfers, SlotRecord, FabricSlot, came_cell, rest_of, Marked, admission, count_for, each_once, LimitedFabricSlot, LimitedRecord, waiting_for, held_for, is_output_order, outputs_at, admitted_at, get_or_past, drop}
 
 abbrev bit : Bool → ℕ
 bit b = if b then 1 else 0
@@ -30,9 +30,6 @@ count_without : (j : ℕ) (xs : List Queued) (c : Queued) → first_for j xs ≡
     count j (without_first j xs) + 1 ≡ count j xs
 count_without j [] c h = absurd (let P : ⊥ = cc in P)
 count_without j (x ∷ xs) c h = grind (arith, common_steps, count_cons, cond_both, count_without j xs c)
-
-count_taken : (j : ℕ) (p : Option ℕ) (xs : List Queued) → count j (list_taken p xs) ≤ count j xs
-count_taken j p xs = grind (arith, common_steps, count_left)
 
 -- ## Sums over the inputs
 
@@ -78,7 +75,7 @@ moved : (m : Partners) (old new : Fabric) → IsMatching (orders_of old.inputs) 
     held_for j new ≤ held_for j old
 moved m old new matching step j =
     let each : (i : ℕ) → count j (input new i) ≤ count j (input old i) =
-    search (arith, rules, step.moves.taken, count_taken) in
+    search (arith, rules, step.moves.taken, count_left) in
     ⊎_elim (λ r.
     let cell = offered m old matching r.0 j r.1 in
     search (arith, rules, length_put, step.moves.given r.0 j cell.0, cell, step.moves.taken, count_without, sum_less))

@@ -1,6 +1,6 @@
 -- The cell that arrived last in a list. All others arrived in slots before, so its slot finds it; and the cells for its
 -- output that stand ahead of it are more urgent, so its key finds it too.
-use Rattle.cq_fabric.proofs.Terms.{common_steps, rules, ◌≡◌, ℕ, zero, suc, ◌<◌, ◌≤◌, eqb, Bool, true, false, not, List, [], ◌∷◌, length, Some, arith, ◌&&◌, insert, slice_get, position_or_len, eq-eqb, ne_eqb, cases_eq, same_Some, Queued, is_before, KeepsOrder, ArrivedBefore, is_for, place_of_arrival, with_arrival, key_laws, all_at, first_here, first_later, IsNewest}
+use Rattle.cq_fabric.proofs.Terms.{common_steps, rules, ◌≡◌, ℕ, zero, suc, ◌<◌, ◌≤◌, eqb, Bool, true, not, List, [], ◌∷◌, length, Some, arith, ◌&&◌, insert, slice_get, position_or_len, eq-eqb, ne_eqb, cases_eq, same_Some, Queued, is_before, KeepsOrder, ArrivedBefore, is_for, place_of_arrival, with_arrival, key_laws, all_at, first_here, first_later, IsNewest}
 
 -- an older cell ahead
 newest_later : (y c : Queued) (xs : List Queued) → y.key.slot < c.key.slot → IsNewest c xs → IsNewest c (y ∷ xs)
@@ -30,20 +30,15 @@ finds_itself : (c : Queued) → no_sooner c c ≡ true
 unfolding no_sooner
 finds_itself c = grind (arith, common_steps, eq-eqb, key_laws.never_itself)
 
--- a cell ahead of it is for another output, or more urgent
-passes_by : (c x : Queued) → (x.cell.output ≡ c.cell.output → is_before x.key c.key ≡ true) → no_sooner c x ≡ false
-unfolding no_sooner
-passes_by c x ahead = grind (arith, common_steps, eq-eqb, ne_eqb, cases_eq)
-
 found : (c : Queued) (xs : List Queued) (place : ℕ) → slice_get xs place ≡ Some c →
     ((t : ℕ) (x : Queued) → slice_get xs t ≡ Some x → x.key.slot ≡ c.key.slot → t ≡ place) → KeepsOrder xs →
     position_or_len (no_sooner c) xs ≡ position_or_len (in_slot c) xs
-unfolding in_slot
+unfolding in_slot no_sooner
 found c [] place at alone order = absurd (let P : ⊥ = cc in P)
 found c (x ∷ xs) zero at alone order = search (rules, same_Some, first_here, no_sooner, finds_itself, in_slot, eq-eqb)
 found c (x ∷ xs) (suc place) at alone order =
     let rest = found c xs place at (λ t y here same. omega (arith, alone (suc t) y here same)) order.1 in
-    search (arith, rules, first_later, passes_by, ne_eqb, all_at, alone 0 x)
+    search (arith, rules, first_later, eq-eqb, cases_eq, ne_eqb, all_at, alone 0 x)
 
 pub found_by_key :
     (c : Queued) (xs : List Queued) → IsNewest c xs → KeepsOrder xs →

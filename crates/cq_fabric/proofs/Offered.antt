@@ -50,12 +50,8 @@ module _ {lists lists' : List Waiting} {o : Orders} {n cushion : ℕ} {c : Queue
   this_list : list_of (cells_of lists') n ≡ insert (list_of (cells_of lists) n) place c
   this_list = cells-at lists' n ∙ come.here ∙ ap (λ l. insert l place c) (sym (cells-at lists n))
 
-  come_among : (k : ℕ) (d : Queued) → IsAmong d (list_of (cells_of lists') k) →
-      ((k ≡ n) × (c ≡ d)) ⊎ IsAmong d (list_of (cells_of lists) k)
-  come_among k d h = grind (arith, common_steps, among_insert, this_list, other_list, cases_eq)
-
   come_apart : KeysApart (cells_of lists')
-  come_apart i k x y a b e = search (rules, come_among)
+  come_apart i k x y a b e = search (rules, among_insert, this_list, other_list, cases_eq)
 
   pub come_differ : FirstKeysDiffer (cells_of lists')
   come_differ = firsts_apart (cells_of lists') come_apart
