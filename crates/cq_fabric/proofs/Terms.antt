@@ -1,5 +1,5 @@
 -- The words of this crate's proofs that stand elsewhere, each passed on from its place.
-pub use Rattle.cq_base.proofs.Library.{All, All-from_recursion, All-push, AllByRecursion, Bool, FnReturnsAt, IfSome, List, None, Ok, Option, Some, [], ap, append-nil, arith, cases_eq, cases_lt, common_steps, cond, cond_both, drop, drop-drop, drop-set-lt, drop_all, enumerate_from, eq-eqb, eqb, eqb-true, ext_get_or, false, filter, get_or, get_or-enumerate_from, get_or-map, get_or-map-range_with_len, get_or-replicate, get_or-set_other, get_or-set_same, get_or_default, get_or_past, get_or_read, if◌then◌else◌, insert, is_some, length, length-drop, length-enumerate_from, length-insert, length-map, length-map-range_with_len, length-replicate, length-set, length-take-le, map, ne_eqb, not, position_or_len, refl, replicate, rules, same_Some, set, set-get_or, slice_get, slice_get-get_or, subst, suc, sym, take, take_all, take_more, take_more_set, true, zero, ℕ, ⊎_elim, ◌&&◌, ◌++◌, ◌+◌, ◌-◌, ◌<◌, ◌^◌, ◌∙◌, ◌∷◌, ◌≡◌, ◌≢◌, ◌≤◌, ◌⊎◌, reduce, slice_get_within, min, slice_get_cases, get_or_from_slice_get}
+pub use Rattle.cq_base.proofs.Library.{All, All-from_recursion, All-push, AllByRecursion, Bool, FnReturnsAt, IfSome, List, None, Ok, Option, Some, [], ap, arith, cases_eq, cases_lt, common_steps, cond, cond_both, drop, drop-drop, drop-set-lt, drop_all, enumerate_from, eq-eqb, eqb, eqb-true, ext_get_or, filter, get_or, get_or-enumerate_from, get_or-map, get_or-map-range_with_len, get_or-replicate, get_or-set_other, get_or-set_same, get_or_default, get_or_past, get_or_read, if◌then◌else◌, insert, is_some, length, length-drop, length-enumerate_from, length-insert, length-map, length-map-range_with_len, length-replicate, length-set, length-take-le, map, ne_eqb, not, position_or_len, refl, replicate, rules, same_Some, set, set-get_or, slice_get, slice_get-get_or, subst, suc, sym, take, take_all, take_more, take_more_set, true, zero, ℕ, ⊎_elim, ◌&&◌, ◌++◌, ◌+◌, ◌-◌, ◌<◌, ◌^◌, ◌∙◌, ◌∷◌, ◌≡◌, ◌≢◌, ◌≤◌, ◌⊎◌, reduce, slice_get_within, min, slice_get_cases, get_or_from_slice_get}
 unfoldable pub use Rattle.cq_base.proofs.Library.{IsDistinct}
 pub use Rattle.cq_base.proofs.Keys.{key_laws}
 pub use Rattle.cq_base.proofs.Lists.{ahead_of_end, all_at, first_here, first_later}
@@ -18,6 +18,7 @@ pub use Rattle.cq_ideal.specs.IdealSlot.{IdealState, all_told, filled, fronts, r
 unfoldable pub use Rattle.cq_ideal.specs.IdealSlot.{ideal_slot}
 pub use Rattle.cq_ideal.specs.Limiter.{HoldsLists, JudgesAsBefore, LimiterView, held_without}
 pub use Rattle.cq_ideal.specs.Ranking.{AreForPorts, Ranking, ranking}
+pub use Rattle.cq_list.proofs.Runs.{whole}
 pub use Rattle.cq_list.specs.InputList.{Waiting, cells_of}
 pub use Rattle.cq_urgency.specs.OutputBuffer.{Buffered, cells_in}
 pub use Rattle.cq_prefs.proofs.InputOrder.{are_orders, outputs_at}

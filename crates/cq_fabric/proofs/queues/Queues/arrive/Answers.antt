@@ -1,5 +1,5 @@
-use Rattle.cq_fabric.proofs.Terms.{rules, sym, subst, arith, ports, FitLists}
-use Rattle.cq_fabric.proofs.Queued.{HaveCome, shown, whole, fit_each, arrived_cells, arrived_rooms, arrived_square}
+use Rattle.cq_fabric.proofs.Terms.{rules, sym, subst, arith, ports, FitLists, whole}
+use Rattle.cq_fabric.proofs.Queued.{HaveCome, shown, fit_each, arrived_cells, arrived_rooms, arrived_square}
 use Rattle.cq_fabric.proofs.Offered.{as_offered}
 use Rattle.cq_fabric.proofs.queues.Queues.arrive.Goals as goal
 use Rattle.cq_fabric.proofs.queues.Queues.arrive.Goals.{After-self}

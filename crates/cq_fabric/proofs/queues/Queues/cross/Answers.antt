@@ -1,6 +1,6 @@
-use Rattle.cq_fabric.proofs.Terms.{refl, rules, sym, subst, arith, length-map, cells_of, cells_in, orders_of, IsMatching, HaveCells, Held, CanCross}
+use Rattle.cq_fabric.proofs.Terms.{refl, rules, sym, subst, arith, length-map, cells_of, cells_in, orders_of, IsMatching, HaveCells, Held, CanCross, whole}
 use Rattle.cq_fabric.proofs.Offered.{as_offered}
-use Rattle.cq_fabric.proofs.Queued.{HaveCrossed, whole, has_cell, have_room, crossed_list_rooms, crossed_buffer_rooms, crossed_square, matched_long}
+use Rattle.cq_fabric.proofs.Queued.{HaveCrossed, has_cell, have_room, crossed_list_rooms, crossed_buffer_rooms, crossed_square, matched_long}
 use Rattle.cq_fabric.proofs.queues.Queues.cross.Goals as goal
 use Rattle.cq_fabric.proofs.queues.Queues.cross.Goals.{After-self}
 
