@@ -32,10 +32,6 @@ module _ (blocks : List (List ℕ)) (i : ℕ) {block : List ℕ} (inside : i < l
       IsAhead blocks j (i + 1) (places + length block) (own + count_of j block)
   ahead_on {j} ahead = search (arith, rules, ahead_next length length_added, ahead_next (count_of j) (count_added j))
 
-  pub block_fits : {j places own : ℕ} → IsAhead blocks j i places own →
-      (places + length block ≤ length (concat blocks)) × (own + count_of j block ≤ length (concat blocks))
-  block_fits ahead = ahead_fits (ahead_on ahead)
-
   -- how many of the places ahead of one of the block are an output's
   pub count_within : (j left place : ℕ) → left ≤ length block → length (concat (take i blocks)) + left ≡ place →
       count_of j (concat (take i blocks)) + count_of j (take left block) ≡ count_of j (take place (concat blocks))

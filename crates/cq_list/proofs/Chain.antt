@@ -16,10 +16,6 @@ pub chain-at : (nodes : Nodes) (n place : ℕ) (node : Node) → nodes place ≡
     chain nodes (suc n) place ≡ (place, node.queued) ∷ chain nodes n node.next
 chain-at nodes n place node e = ap (λ o. followed place o (chain nodes n)) e
 
-rest_whole : (nodes : Nodes) (n place : ℕ) (node : Node) → nodes place ≡ Some node →
-    length (chain nodes (suc n) place) ≡ suc n → length (chain nodes n node.next) ≡ n
-rest_whole nodes n place node e whole = grind (arith, common_steps, chain-at)
-
 -- ## A chain whose nodes stay
 
 pub chain_stays : (old new : Nodes) (P : Queued → Type 0) →
@@ -27,7 +23,7 @@ pub chain_stays : (old new : Nodes) (P : Queued → Type 0) →
     (chain old n place) ≡ n → AllByRecursion P (cells (chain old n place)) → chain new n place ≡ chain old n place
 chain_stays old new P stay zero place whole all = refl
 chain_stays old new P stay (suc n) place whole all =
-    grind (arith, common_steps, begins, chain-at, rest_whole, chain_stays old new P stay n)
+    grind (arith, common_steps, begins, chain-at, chain_stays old new P stay n)
 
 -- ## A node more
 
@@ -53,8 +49,8 @@ module _ {old new : Nodes} {a k : ℕ} {ahead : Node} {c : Queued} (b : IsBehind
   chain_behind zero first p whole rising at = cc
   chain_behind (suc n) first zero whole rising at =
       let stays = chain_stays old new (λ x. x ≢ ahead.queued) other_cell n ahead.next in
-      search (arith, rules, chain-at, same_Some, stays, rest_whole, all_weaker, differs)
+      search (arith, rules, chain-at, same_Some, stays, all_weaker, differs)
   chain_behind (suc n) first (suc p) whole rising at =
       let node : Node = (begins old n first whole).0 in
       let later = all_at (IsBefore node.queued) (cells (chain old n node.next)) p ahead.queued in
-      search (arith, rules, other_cell, differs, rest_whole, slice_get-map, later, chain-at, chain_behind n node.next p)
+      search (arith, rules, other_cell, differs, slice_get-map, later, chain-at, chain_behind n node.next p)

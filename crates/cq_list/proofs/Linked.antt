@@ -7,11 +7,6 @@ use Rattle.cq_list.proofs.Finger.{insert_end_kept}
 use Rattle.cq_list.proofs.Walk.{node_ahead, cell_ahead}
 use Rattle.cq_list.proofs.Put.{put_is, is_later}
 
--- the queue of another output stays
-pub linked_stays : (old new : Nodes) (j i : ℕ) (queue : Queue) → OthersStay j old new → i ≢ j → IsLinked old i queue →
-    linked new queue ≡ linked old queue
-linked_stays old new j i queue stay ne had = search (arith, rules, chain_stays old new (λ c. c.cell.output ≡ i))
-
 pub is_linked_along : (old new : Nodes) (i : ℕ) (queue : Queue) → linked new queue ≡ linked old queue →
     IsLinked old i queue → IsLinked new i queue
 is_linked_along old new i queue same had = grind (arith, common_steps)
@@ -107,10 +102,6 @@ module _ {old new : Slab Node} {j : ℕ} {queue : Queue} {node : Node} (had : Is
   pub links_less : linked (get old) queue
       ≡ (queue.first, node.queued) ∷ linked (get new) (behind_first queue node.next)
   links_less = begins_with had some here ∙ ap (λ l. (queue.first, node.queued) ∷ l) (sym rest_stays)
-
-  pub cells_less : cells (linked (get old) queue)
-      ≡ node.queued ∷ cells (linked (get new) (behind_first queue node.next))
-  cells_less = ap cells links_less
 
   pub linked_less : IsLinked (get new) j (behind_first queue node.next)
   linked_less = search (rules, is_linked_along, rest_stays, linked_behind)

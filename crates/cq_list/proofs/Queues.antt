@@ -1,6 +1,7 @@
 -- A pool in which one queue changes: each queue is linked as before, and the cells of the others are the same.
 use Rattle.cq_list.proofs.Terms.{common_steps, rules, ◌≡◌, ◌≢◌, ℕ, zero, suc, ◌+◌, ◌<◌, ◌≤◌, List, [], ◌∷◌, replicate, length, get_or, set, drop, Some, refl, ap, ◌∙◌, arith, length-set, get_or-set_same, get_or-set_other, Bool, position_or_len, cases_lt, cases_eq, length-map, get_or-map, get_or_past, get_or_read, ext_get_or, length-replicate, sum_by-replicate, sum_by-set, slice_get, Slab, get, slab_len, Node, Queued, Queue, PoolView, Nodes, linked, places, cells, IsLinked, OthersStay, AreLinked, IsPool, Ahead, AreFingers, HaveFingers, behind_first, no_queue, queue_at, cells_in_queues, queue_of}
-use Rattle.cq_list.proofs.Linked.{linked_stays, is_linked_along, cells_behind, linked_behind}
+use Rattle.cq_list.proofs.Linked.{is_linked_along, cells_behind, linked_behind}
+use Rattle.cq_list.proofs.Chain.{chain_stays}
 use Rattle.cq_list.proofs.Walk.{head_there, head_shown}
 
 -- what is seen of a queue, also beyond the last
@@ -26,7 +27,7 @@ empty_pool n room none few is are = rw (is, are) (search (arith, rules, same_at,
 module _ (old new : Nodes) (j : ℕ) (queues : List Queue) (queue : Queue) (had : AreLinked old queues)
     (inside : j < length queues) (stay : OthersStay j old new) where
   other_stays : (i : ℕ) → i ≢ j → linked new (queue_at queues i) ≡ linked old (queue_at queues i)
-  other_stays i ne = linked_stays old new j i (queue_at queues i) stay ne (had i)
+  other_stays i ne = search (arith, rules, chain_stays old new (λ c. c.cell.output ≡ i), had i)
 
   pub are_linked_changed : IsLinked new j queue → AreLinked new (set queues j queue)
   are_linked_changed changed i =

@@ -13,7 +13,7 @@
 --
 -- Last what is looked up: a cell at a place, and the place of the first cell for an output that passes a test, which is
 -- the place of the number k of its output where the number k of the queue is the first that passes.
-use Rattle.cq_list.proofs.Terms.{common_steps, rules, ◌≡◌, ℕ, zero, suc, eqb, Bool, true, false, cond, List, [], ◌∷◌, ◌++◌, length, take, drop, map, Some, refl, sym, ap, ◌∙◌, arith, take-append-drop, take-map, ◌&&◌, slice_get, remove, insert, filter, AllByRecursion, position_or_len, cond_both, eqb-true, eq-eqb, filter-append, Queued, IsBefore, IsRising, KeepsOrder, HasOtherKey, MoreUrgentAhead, is_for, first_for, without_first, put, place_of_arrival, with_arrival, key_laws, keeps_order_arrival, first_here, first_later, Queues, without_head, merged, IsSplit, place_of_nth, is_output, count_of, all_back, map-insert}
+use Rattle.cq_list.proofs.Terms.{common_steps, rules, ◌≡◌, ℕ, zero, suc, eqb, Bool, false, cond, List, [], ◌∷◌, ◌++◌, length, take, drop, map, Some, refl, sym, ap, ◌∙◌, arith, take-append-drop, take-map, ◌&&◌, slice_get, remove, insert, filter, AllByRecursion, position_or_len, cond_both, eqb-true, eq-eqb, filter-append, Queued, IsBefore, IsRising, KeepsOrder, HasOtherKey, MoreUrgentAhead, is_for, first_for, without_first, put, place_of_arrival, with_arrival, key_laws, keeps_order_arrival, first_here, first_later, Queues, without_head, merged, IsSplit, place_of_nth, is_output, count_of, all_back, map-insert}
 use Rattle.cq_list.proofs.Nth.{passes, fails, first_of_both, place_of_nth-map}
 
 -- ## One filter
@@ -22,10 +22,6 @@ pub filter-insert-other : {X : Type 0} (p : X → Bool) (xs : List X) (i : ℕ) 
     filter p (insert xs i y) ≡ filter p xs
 filter-insert-other p xs i y e =
     grind (arith, common_steps, filter-append, fails, filter-append p (take i xs) (drop i xs), take-append-drop i xs)
-
-pub filter-insert : {X : Type 0} (p : X → Bool) (xs : List X) (i : ℕ) (y : X) → p y ≡ true →
-    filter p (insert xs i y) ≡ filter p (take i xs) ++ y ∷ filter p (drop i xs)
-filter-insert p xs i y e = grind (arith, common_steps, filter-append, passes)
 
 pub filter-parts : {X : Type 0} (p : X → Bool) (xs : List X) (i : ℕ) →
     filter p xs ≡ filter p (take i xs) ++ filter p (drop i xs)
@@ -71,7 +67,7 @@ own_arrived : (cushion : ℕ) (c : Queued) (xs : List Queued) (j : ℕ) → c.ce
     (filter (is_for j) xs)
 own_arrived cushion c xs j own order other ahead =
     let rising = queue_rising j (with_arrival cushion c xs) (keeps_order_arrival cushion c xs order other ahead) in
-    search (arith, rules, filter-insert, eq-eqb, put_between, filter-parts)
+    search (arith, rules, filter-append, passes, eq-eqb, put_between, filter-parts)
 
 -- the queues with one cell more
 abbrev pub with_queued : Queued → Queues → Queues

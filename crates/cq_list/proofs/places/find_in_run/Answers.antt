@@ -1,11 +1,11 @@
 use Rattle.cq_list.proofs.Terms.{arith}
-use Rattle.cq_list.proofs.BlockWalk.{ahead_on, block_fits, nth_found}
+use Rattle.cq_list.proofs.BlockWalk.{ahead_fits, ahead_on, nth_found}
 use Rattle.cq_list.proofs.places.find_in_run.Goals as goal
 
 pub with_block-next-requires : goal.with_block-next-requires
 with_block-next-requires c =
     let ahead = c.each.invariant.ahead in
-    let fits = block_fits c.args.blocks.now.blocks c.each.block (omega arith) c.at-places.ensures ahead in
+    let fits = ahead_fits (ahead_on c.args.blocks.now.blocks c.each.block (omega arith) c.at-places.ensures ahead) in
     let bound = c.requires.fits in record { fits = omega arith; few = omega arith }
 
 pub returns-then-number-next : goal.returns-then-number-next

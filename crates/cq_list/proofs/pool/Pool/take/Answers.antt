@@ -1,5 +1,5 @@
-use Rattle.cq_list.proofs.Terms.{rules, ap, sym, drop, arith, ◌<◌, ℕ, List, subst, Queued, AreFingers, PoolView, places}
-use Rattle.cq_list.proofs.Linked.{rest_stay, links_less, linked_less, cells_less}
+use Rattle.cq_list.proofs.Terms.{rules, ap, sym, drop, arith, ◌<◌, ℕ, List, subst, Queued, AreFingers, PoolView, places, cells}
+use Rattle.cq_list.proofs.Linked.{rest_stay, links_less, linked_less}
 use Rattle.cq_list.proofs.Queues.{read_of, fingers_read, as_many, inside_some, is_pool_changed, view_changed}
 use Rattle.cq_list.proofs.Walk.{head_there, head_shown}
 use Rattle.cq_list.proofs.pool.Pool.take.Goals as goal
@@ -35,5 +35,5 @@ returns c =
     let now = view_changed c.remove-node.new.self c.self.invariant read
     (rest_stay read.is_linked some removed.value removed.updates)
     (linked_less read.is_linked some removed.value removed.updates) (drop 1)
-    (sym (ap (drop 1) (cells_less read.is_linked some removed.value removed.updates))) in
+    (sym (ap (λ l. drop 1 (cells l)) (links_less read.is_linked some removed.value removed.updates))) in
     search (arith, rules, head_shown, spare, now)
