@@ -1,5 +1,5 @@
 -- Places in blocks: what is done to one block is done to the places where it stands, behind those of the blocks ahead.
-use Rattle.cq_list.proofs.Terms.{common_steps, rules, ◌≡◌, ℕ, zero, suc, ◌+◌, ◌-◌, ◌<◌, ◌≤◌, List, [], ◌∷◌, ◌++◌, length, get_or, set, take, Some, arith, length-append, length-set, length-take, get_or-set_same, take-append-drop, append_assoc, insert, remove, slice_get, concat, take_all, take-set, take-set-le, take-take, take-append-le, concat-append, length-remove, insert_end, insert-append_left, insert-append_right, remove-append_left, remove-append_right, IsSpot, joined, pulled, slice_get_cases}
+use Rattle.cq_list.proofs.Terms.{common_steps, rules, ◌≡◌, ℕ, zero, suc, ◌+◌, ◌-◌, ◌<◌, ◌≤◌, List, [], ◌∷◌, ◌++◌, length, get_or, set, take, Some, arith, length-append, length-set, length-take, get_or-set_same, take-append-drop, append_assoc, insert, remove, slice_get, concat, take_all, take-set, take-set-le, take-take, take-append-le, concat-append, length-remove, insert_end, insert-append_left, insert-append_right, remove-append_left, remove-append_right, IsSpot, joined, pulled, slice_get_cases, drop}
 use Rattle.cq_list.proofs.Sums.{ahead_next, length_added}
 
 -- ## One block
@@ -36,9 +36,8 @@ remove_in (b ∷ bs) (suc i) o n inside lt place =
 
 pub split_in : (blocks : List (List ℕ)) (i : ℕ) (front back : List ℕ) → i < length blocks →
     front ++ back ≡ get_or blocks i [] → concat (insert (set blocks i front) (i + 1) back) ≡ concat blocks
-split_in [] i front back inside parts = absurd (omega arith)
-split_in (b ∷ bs) zero front back inside parts = grind (arith, common_steps, append_assoc)
-split_in (b ∷ bs) (suc i) front back inside parts = grind (arith, common_steps, split_in bs i)
+split_in blocks zero front back inside parts = grind (arith, common_steps, append_assoc)
+split_in blocks (suc i) front back inside parts = grind (arith, common_steps, split_in (drop 1 blocks) i)
 
 -- a place at the end of the last block, or in a block of its own
 pub append_in : (blocks : List (List ℕ)) (i y : ℕ) (block : List ℕ) → i + 1 ≡ length blocks →
@@ -53,14 +52,12 @@ push_in blocks y block is = grind (arith, common_steps, concat-append, insert_en
 -- ## A short block filled up
 
 pub joined_in : (blocks : List (List ℕ)) (i : ℕ) → i + 1 < length blocks → concat (joined blocks i) ≡ concat blocks
-joined_in [] i inside = absurd (omega arith)
-joined_in (b ∷ bs) zero inside = grind (arith, common_steps, append_assoc)
-joined_in (b ∷ bs) (suc i) inside = search (arith, rules, joined_in bs i)
+joined_in blocks zero inside = grind (arith, common_steps, append_assoc)
+joined_in blocks (suc i) inside = search (arith, rules, joined_in (drop 1 blocks) i)
 
 pub pulled_in : (blocks : List (List ℕ)) (i : ℕ) → i + 1 < length blocks → concat (pulled blocks i) ≡ concat blocks
-pulled_in [] i inside = absurd (omega arith)
-pulled_in (b ∷ bs) zero inside = grind (arith, common_steps, append_assoc, take-append-drop)
-pulled_in (b ∷ bs) (suc i) inside = search (arith, rules, pulled_in bs i)
+pulled_in blocks zero inside = grind (arith, common_steps, append_assoc, take-append-drop)
+pulled_in blocks (suc i) inside = search (arith, rules, pulled_in (drop 1 blocks) i)
 
 -- a place keeps its spot where the blocks ahead are the same and its own is no shorter
 module _ (blocks : List (List ℕ)) (i : ℕ) (inside : i + 1 < length blocks) where

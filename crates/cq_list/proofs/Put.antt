@@ -1,7 +1,7 @@
 -- A cell put into a queue whose cells rise in their keys: it goes in at the place of the first less urgent cell, and
 -- the queue still rises, since a cell that has another key and is not before it is after it.
 use Rattle.std.proofs.lemmas.List.Sums.{passes_at_first}
-use Rattle.cq_list.proofs.Terms.{first_inside, length-map, first_le, cases_lt, slice_get_within, get_or_from_slice_get, ◌-◌, ◌<◌, rules, ◌≡◌, ℕ, zero, suc, ◌≤◌, Bool, true, false, not, List, [], ◌∷◌, Some, refl, arith, common_steps, insert, slice_get, position_or_len, cases_Bool, not-true, Queued, Key, is_before, IsBefore, IsRising, HasOtherKey, put, key_laws, all_at, first_here, first_later, after_other}
+use Rattle.cq_list.proofs.Terms.{first_inside, length-map, first_le, cases_lt, slice_get_within, get_or_from_slice_get, ◌-◌, ◌<◌, rules, ◌≡◌, ℕ, zero, suc, ◌≤◌, Bool, true, false, not, List, [], ◌∷◌, Some, refl, arith, common_steps, insert, slice_get, position_or_len, cases_Bool, not-true, Queued, Key, is_before, IsBefore, IsRising, HasOtherKey, put, key_laws, all_at, first_here, first_later, after_other, drop}
 
 -- the test that finds its place
 abbrev pub is_later : Key → Queued → Bool
@@ -40,9 +40,8 @@ pub sooner_to : (key : Key) (x : Queued) (xs : List Queued) (m : ℕ) →
     ((y : Queued) → IsBefore y x → is_before y.key key ≡ true) → IsRising xs → slice_get xs m ≡ Some x →
     m ≤ position_or_len (is_no_sooner key) xs
 sooner_to key x xs zero sooner rising at = omega arith
-sooner_to key x [] (suc m) sooner rising at = cc
-sooner_to key x (y ∷ xs) (suc m) sooner rising at =
-    grind (arith, common_steps, all_at, first_later, sooner_to key x xs m sooner rising.1 at)
+sooner_to key x xs (suc m) sooner rising at =
+    search (arith, rules, all_at, first_later, sooner_to key x (drop 1 xs) m sooner)
 
 -- a place that is no later than the first one that passes, and does not, is earlier
 pub past_this : {X : Type 0} (p : X → Bool) (xs : List X) (i : ℕ) (x : X) → slice_get xs i ≡ Some x → p x ≡ false →

@@ -56,10 +56,9 @@ module _ (m : List ℕ → ℕ) (added : IsAdded m) where
       let whole = ap m (take-append-drop i xs) in omega (arith, added.both (take i xs), added.both (x ∷ []) (drop i xs))
 
   pub taken_from : (xs : List ℕ) (i x : ℕ) → slice_get xs i ≡ Some x → m (remove xs i) + m (x ∷ []) ≡ m xs
-  taken_from [] i x at = absurd (search (arith, rules))
-  taken_from (y ∷ xs) zero x at = search (arith, rules, added.both (y ∷ []) xs)
-  taken_from (y ∷ xs) (suc i) x at =
-      omega (arith, added.both (y ∷ []) xs, added.both (y ∷ []) (remove xs i), taken_from xs i x at)
+  taken_from xs zero x at = grind (arith, common_steps, added.both (x ∷ []) (drop 1 xs))
+  taken_from xs (suc i) x at =
+      grind (arith, common_steps, added.both (take 1 xs), taken_from (drop 1 xs) i x)
 
 -- these places are some and more: so what is added up along them
 pub record HasBoth (whole some more : List ℕ) : Type 0 where

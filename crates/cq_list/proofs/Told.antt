@@ -26,13 +26,11 @@ module _ (j : ℕ) {x : Queued} (queues : List (List Queued)) {new : List (List 
   head_left i = ap (λ q. queue_of q i) less ∙ queue_of-set queues j (drop 1) i (queue_inside queues j x head)
 
   pub can_next : (places : List ℕ) → CanTell (j ∷ places) (queue_of queues) → CanTell places (queue_of new)
-  can_next places can i =
-      let enough = can i in grind (arith, common_steps, head_left, cond_both, passes, fails, length-drop)
+  can_next places can i = grind (arith, common_steps, can i, head_left, cond_both, passes, fails, length-drop)
 
   pub told_next : (places : List ℕ) {told cells all : List Queued} → HaveTold (j ∷ places) (queue_of queues) told all →
       cells ≡ told ++ x ∷ [] → HaveTold places (queue_of new) cells all
-  told_next places t more =
-      search (arith, rules, merged_same, head_left, append_assoc, can_next)
+  told_next places t more = search (arith, rules, merged_same, head_left, append_assoc, can_next)
 
 -- ## Block by block
 
