@@ -5,7 +5,7 @@
 -- transfer empties the lists and puts each cell alone into the buffer of its output, which sends it. After that nothing
 -- waits and nothing is offered, and the second matching is empty. The lists and buffers in between are made here for
 -- the proof alone.
-use Rattle.cq_engine.proofs.Terms.{common_steps, rules, ◌≡◌, ℕ, ◌+◌, ◌-◌, ◌*◌, ◌<◌, ◌≤◌, List, [], ◌∷◌, ◌++◌, length, map, drop, get_or, replicate, Option, Some, None, refl, sym, ap, ◌∙◌, arith, All, IfSome, min, enumerate_from, filter_map, range_with_len, reduce, sum_by, option_map, cases_lt, cond_both, eq-eqb, row_fits, same_Some, append-nil, ext_get_or, get_or_past, length-map, get_or-map-range_with_len, length-map-range_with_len, sum-map, sum_by-cons, Cell, Queued, Transfer, Figures, InputFigures, first_for, Machine, all_told, fronts, rests, LimiterView, list_of, orders_of, output_order, Moves, list_taken, transfers_of, ports, IsListed, Partners, partner_of, partner_place, proposals, IsFreeOutput, IsInputBest, IsStable, cushion_of, slacks, came_to, HoldsFabric, Queues, fabric_of, AreRanked, BuffersHaveRoom, HaveArrived, HaveJudged, HaveSent, ListsHaveRoom, fits_lists, held_before, keyed, IsInStep, IsSeen, arriving_slack, input_counted, slack_seen, GoStraight, crossing, crossings, input_passed, Look, among, place_head, none_unless, outputs_at, kept_more, kept_few, append_assoc, length-append}
+use Rattle.cq_engine.proofs.Terms.{common_steps, rules, ◌≡◌, ℕ, ◌+◌, ◌*◌, ◌<◌, ◌≤◌, List, [], ◌∷◌, ◌++◌, length, map, drop, get_or, replicate, Option, Some, None, refl, sym, ap, ◌∙◌, arith, All, IfSome, enumerate_from, filter_map, range_with_len, sum_by, option_map, cases_lt, cond_both, eq-eqb, row_fits, same_Some, append-nil, ext_get_or, get_or_past, length-map, get_or-map-range_with_len, length-map-range_with_len, sum-map, sum_by-cons, Cell, Queued, Transfer, Figures, InputFigures, Machine, all_told, fronts, rests, LimiterView, list_of, orders_of, output_order, Moves, list_taken, transfers_of, ports, IsListed, Partners, partner_of, partner_place, proposals, IsFreeOutput, IsInputBest, IsStable, slacks, came_to, HoldsFabric, Queues, fabric_of, AreRanked, BuffersHaveRoom, HaveArrived, HaveJudged, HaveSent, ListsHaveRoom, fits_lists, held_before, keyed, IsInStep, IsSeen, arriving_slack, input_counted, slack_seen, GoStraight, crossing, crossings, input_passed, Look, among, place_head, none_unless, outputs_at, kept_more, kept_few, append_assoc, length-append}
 use Rattle.std.proofs.Math.ListN.{get_or-map}
 use Rattle.cq_engine.specs.Crossing.{HaveCrossed}
 use Rattle.cq_engine.proofs.NoOffers.{none_best, none_proposed, nothing_moves, nothing_noted}
@@ -22,15 +22,8 @@ alone (Some c) = c ∷ []
 abbrev wanted : Option Queued → Option ℕ
 wanted q = option_map (λ c. c.cell.output) q
 
-first_alone : (c : Queued) → first_for c.cell.output (c ∷ []) ≡ Some c
-first_alone c = grind (arith, common_steps, cond_both, eq-eqb)
-
 left_alone : (q : Option Queued) → [] ≡ list_taken (wanted q) (alone q)
 left_alone q = grind (arith, common_steps, cond_both, eq-eqb)
-
--- an input offers what it has, and to no other
-offers_wanted : (q : Option Queued) (j : ℕ) → wanted q ≡ Some j → IsListed (output_order (alone q)) j
-offers_wanted q j h = grind (arith, common_steps, place_head, same_Some)
 
 wants_offered : (q : Option Queued) (j : ℕ) → IsListed (output_order (alone q)) j → wanted q ≡ Some j
 wants_offered q j h = grind (arith, common_steps, among (output_order (alone q)) j h)
@@ -159,7 +152,7 @@ module _ {ms : List Machine} {slot : ℕ} {q : Queues} {ranks0 : List (List ℕ)
   once i k j h g = search (arith, rules, keyed known, pair_cell, pair_gone)
 
   pairs_stable : IsStable (orders_of lists) pairs
-  pairs_stable = search (rules, listed_facts, offers_wanted, wants_offered, once)
+  pairs_stable = search (rules, listed_facts, place_head, same_Some, wants_offered, once)
 
   pairs_best : IsInputBest (orders_of lists) pairs
   pairs_best = record { stable = pairs_stable; best = λ m stable i. let first = at_best i in omega arith }
@@ -170,7 +163,7 @@ module _ {ms : List Machine} {slot : ℕ} {q : Queues} {ranks0 : List (List ℕ)
 
   all_noted : transfers_of pairs lists slot 1 ≡ crossings slot n came
   unfolding crossings transfers_of
-  all_noted = grind (arith, common_steps, length-map-range_with_len, same_kept, list_is, partner_is, first_alone)
+  all_noted = grind (arith, common_steps, length-map-range_with_len, same_kept, list_is, partner_is, cond_both, eq-eqb)
 
   -- ## The phases
 
@@ -189,7 +182,7 @@ module _ {ms : List Machine} {slot : ℕ} {q : Queues} {ranks0 : List (List ℕ)
   ruleset pair_facts = (listed_facts, pair_cell, buffer_is, pair_gone, none_sent)
 
   moves : Moves pairs lists q.buffers q.inputs (map alone gone)
-  moves = search (arith, rules, pair_facts, no_list, left_alone, first_alone, no_buffer)
+  moves = search (arith, rules, pair_facts, no_list, left_alone, cond_both, eq-eqb, no_buffer)
 
   crossed : HaveCrossed pairs (length (crossings slot n came)) listed filled
   crossed = record { best = pairs_best; counted = all_proposed; moves = moves }
@@ -213,13 +206,9 @@ module _ {ms : List Machine} {slot : ℕ} {q : Queues} {ranks0 : List (List ℕ)
   arriving_least : (i : ℕ) (o : Option Queued) → arriving_slack listed i o ≡ least o
   arriving_least i o = grind (arith, common_steps, no_buffer)
 
-  all_least : (o : Option Queued) →
-      reduce min (map (λ at. cushion_of (fabric_of listed []) at.1 - at.0) (enumerate_from 0 (alone o))) ≡ least o
-  all_least o = grind (arith, common_steps, no_buffer)
-
   seen_least : (looks : Look) (i : ℕ) → slack_seen looks listed i (came_to came i) ≡ least (came_to came i)
   unfolding slacks
-  seen_least looks i = grind (arith, common_steps, arriving_least, list_is, all_least)
+  seen_least looks i = grind (arith, common_steps, arriving_least, list_is, no_buffer)
 
   one_passed : (looks : Look) (i : ℕ) (o : Option Queued) (x : InputFigures) → list_of lists i ≡ alone o →
       slack_seen looks listed i o ≡ least o → input_passed o x ≡ input_counted looks listed i o x
