@@ -3,11 +3,10 @@
 -- sum's. The first block stands apart: the places of a list are its own, and then those of the others, of which is
 -- asked from the first block's end on.
 use Rattle.cq_list.specs.Sums.{AreSums, SumView, begin_of, own_in}
-use Rattle.cq_list.proofs.Terms.{take-append-add, rules, ◌≡◌, ℕ, ◌+◌, ◌-◌, ◌<◌, ◌≤◌, Bool, List, [], ◌++◌, length, get_or, take, drop, arith, length-append, take-append-drop, common_steps, filter, concat, take-append-le, drop_more, append-nil, filter-append, concat-append, place_of_nth, is_output, count_of, most_ports, IsSpot, IsAhead, few_kept, length-take, take_all, sym, insert, remove, Some, slice_get, insert-append_right, remove-append_right}
+use Rattle.cq_list.proofs.Terms.{take-append-add, rules, ◌≡◌, ℕ, ◌+◌, ◌-◌, ◌<◌, ◌≤◌, Bool, List, [], ◌++◌, length, get_or, take, drop, arith, length-append, take-append-drop, common_steps, filter, concat, take-append-le, drop_more, append-nil, filter-append, concat-append, place_of_nth, is_output, count_of, most_ports, IsSpot, IsAhead, few_kept, length-take, take_all, sym, insert, remove, insert-append_right, remove-append_right}
 use Rattle.cq_list.proofs.Nth.{nth_inside, nth_in_front, nth_behind}
 use Rattle.cq_list.proofs.Sums.{ahead_next, all_ahead, count_added, length_added}
 use Rattle.cq_list.proofs.Runs.{read_sum}
-use Rattle.cq_list.proofs.Blocks.{shown_behind}
 
 pub nth_end : {X : Type 0} (p : X → Bool) (k : ℕ) (xs : List X) → k ≡ length (filter p xs) →
     place_of_nth p k xs ≡ length xs
@@ -58,10 +57,6 @@ module _ {blocks : List (List ℕ)} (offset : ℕ) {sums : List SumView} (had : 
 -- ## The first block, and the others behind it
 
 module _ (b : List ℕ) (bs : List (List ℕ)) (n : ℕ) (long : n ≡ length b) where
-  pub shown_later : (place x : ℕ) → n ≤ place → slice_get (concat bs) (place - n) ≡ Some x →
-      slice_get (b ++ concat bs) place ≡ Some x
-  shown_later place x past at = grind (arith, common_steps, shown_behind)
-
   -- what stands ahead of the end, of the others alone
   pub ahead_behind : (j places own k : ℕ) → k ≡ count_of j b → places ≡ length (b ++ concat bs) →
       own ≡ count_of j (b ++ concat bs) → IsAhead bs j (length bs) (places - n) (own - k)

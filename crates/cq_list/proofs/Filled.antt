@@ -2,7 +2,7 @@
 -- it stays where a block gets no shorter, where one of 16 places or more comes in, and where any block goes. There
 -- are never many more blocks than a sixteenth of the places. Where a full block is split in two, a place of it stands
 -- in the half to which it belongs, and each half has room for one more.
-use Rattle.cq_list.proofs.Terms.{insert_end, common_steps, rules, ◌≡◌, ℕ, zero, suc, ◌+◌, ◌*◌, ◌<◌, ◌≤◌, List, [], ◌∷◌, ◌++◌, length, get_or, set, arith, length-append, length-set, length-take, length-drop, insert, remove, concat, length-remove, AreFilled, HaveMemory, joined, pulled, least_places, length-insert, get_or_read, insert-append_right, insert-append_left, ◌-◌, take, drop, take-append-drop, take-append-le, take-take, take-set, length-take-le, get_or-set_same, get_or-insert_at, get_or-insert_below, refl, most_places, IsSpot}
+use Rattle.cq_list.proofs.Terms.{insert_end, common_steps, rules, ◌≡◌, ℕ, zero, suc, ◌+◌, ◌*◌, ◌<◌, ◌≤◌, List, [], ◌∷◌, ◌++◌, length, get_or, set, arith, length-append, length-set, length-take, length-drop, insert, remove, concat, length-remove, AreFilled, HaveMemory, joined, pulled, least_places, length-insert, get_or_read, insert-append_right, insert-append_left, ◌-◌, take, drop, take-append-drop, take-append-le, take-take, take-set, length-take-le, get_or-set_same, get_or-insert_at, get_or-insert_below, most_places, IsSpot}
 use Rattle.cq_list.proofs.Blocks.{remove_in, push_in, joined_at, pulled_at, append_in, insert_in, split_in}
 use Rattle.cq_list.proofs.Sums.{ahead_next, length_added}
 
@@ -137,10 +137,9 @@ module _ (blocks new : List (List ℕ)) (i : ℕ) (inside : i < length blocks) (
         (omega (arith, length-drop {A = ℕ})));
     front = omega (arith, front_long);
     back = omega (arith, back_long);
-    in_front = λ place o spot early. search (arith, rules, one_more, front_long, same_ahead);
-    in_back = λ place o spot late.
-        let on = ahead_next length length_added new i (get_or new i []) (omega (arith, one_more)) refl in
-        search (arith, rules, one_more, front_long, back_long, same_ahead, on);
+    in_front = search (arith, rules, one_more, front_long, same_ahead);
+    in_back =
+        search (arith, rules, one_more, front_long, back_long, same_ahead, ahead_next length length_added new i);
   }
 
 -- a place in one of the two halves

@@ -40,8 +40,7 @@ module _ (places : List ℕ) (fingers : List Ahead) where
   module _ (n x : ℕ) where
     -- behind all nodes
     pub fingers_kept : AreFingers places fingers → n ≡ length places → AreFingers (insert places n x) fingers
-    fingers_kept had all k =
-        let inside = ends_inside places (had k) in ends_kept places (had k) n x (omega arith) (omega arith)
+    fingers_kept had all k = search (arith, rules, ends_inside places (had k), ends_kept places (had k))
 
     pub fingers_more : (new : List Ahead) → AreFingers places fingers → n ≤ length places →
         AreShifted n 0 1 fingers new → AreFingers (insert places n x) new
@@ -50,8 +49,7 @@ module _ (places : List ℕ) (fingers : List Ahead) where
 
   pub fingers_less : (x : ℕ) (new : List Ahead) → AreFingers (x ∷ places) fingers → AreShifted 0 1 0 fingers new →
       AreFingers places new
-  fingers_less x new had moved k =
-      let later = λ (m : ℕ). had k (suc m) in search (arith, rules, moved k, later, cases_lt 0)
+  fingers_less x new had moved k = search (arith, rules, moved k, λ (m : ℕ). had k (suc m), cases_lt 0)
 
 -- ## Written back
 

@@ -1,7 +1,7 @@
 -- The places and the pool of a list, before and after its calls. The cells for which they stand are known by the split
 -- alone, so each call has to show no more than the split of the cells that it promises; that these are the cells that
 -- the new places and the new pool stand for follows.
-use Rattle.cq_list.proofs.Terms.{◌+◌, all_insert, all_left, each_pair_left, keys_differ_insert, keeps_order_arrival, common_steps, rules, ◌≡◌, ℕ, ◌<◌, eqb, Bool, cond, List, [], ◌++◌, length, set, take, drop, min, None, Some, sym, ap, ◌∙◌, subst, arith, length-set, get_or-set_same, get_or-set_other, ⊎_elim, length-map, get_or_past, ◌&&◌, slice_get, remove, insert, position, position_or_len, cond_both, eqb-true, eqb-false, ltb-true, lt-ltb, cases_lt, slice_get-map, slice_get_within, slice_get_cases, find_at, Queued, is_before, HasOtherKey, MoreUrgentAhead, is_for, first_for, without_first, put, place_of_arrival, with_arrival, HaveTold, IsSplit, is_output, place_of_nth, count_of, PlacesView, PoolView, queue_of, Waiting, AreWaiting, StandFor, cells_in, all_filter, position_or_len-map}
+use Rattle.cq_list.proofs.Terms.{◌+◌, all_insert, all_left, each_pair_left, keys_differ_insert, keeps_order_arrival, common_steps, rules, ◌≡◌, ℕ, ◌<◌, eqb, Bool, cond, List, [], ◌++◌, length, set, take, drop, min, None, Some, sym, ap, ◌∙◌, subst, arith, length-set, get_or-set_same, get_or-set_other, length-map, get_or_past, ◌&&◌, slice_get, remove, insert, position, position_or_len, cond_both, eqb-true, eqb-false, ltb-true, lt-ltb, cases_lt, slice_get-map, slice_get_within, slice_get_cases, find_at, Queued, is_before, HasOtherKey, MoreUrgentAhead, is_for, first_for, without_first, put, place_of_arrival, with_arrival, HaveTold, IsSplit, is_output, place_of_nth, count_of, PlacesView, PoolView, queue_of, Waiting, AreWaiting, StandFor, cells_in, position_or_len-map}
 use Rattle.cq_list.proofs.Split.{merged_queues, split_arrived, split_left, both_is_nth, first-is-head, length-filter-map, cell_at}
 use Rattle.cq_list.proofs.Nth.{nth_is_first}
 
@@ -32,10 +32,6 @@ module _ {outputs : ℕ} {places : PlacesView} {pool : PoolView} {w : Waiting}
   had = subst (StandFor outputs places pool) (ap (λ (v : Waiting). v.cells) is) stand
 
   -- ## An arrival
-
-  -- no cell of the queue has its key
-  pub queue_has_other_key : (c : Queued) (j : ℕ) → HasOtherKey c w.cells → HasOtherKey c (queue_of pool.queues j)
-  queue_has_other_key c j other = grind (arith, common_steps, all_filter)
 
   pub as_many : length places.outputs ≡ length w.cells
   as_many = ap length had.split.outputs ∙ length-map w.cells (λ (x : Queued). x.cell.output)
@@ -117,12 +113,8 @@ module _ {outputs : ℕ} {places : PlacesView} {pool : PoolView} {w : Waiting}
       (x : Queued) × (slice_get (queue_of pool.queues j)
       (count_of j (take i places.outputs)) ≡ Some x) × (slice_get w.cells i ≡ Some x)
   shown i j at =
-      let outputs = slice_get-map (λ (c : Queued). c.cell.output) w.cells i in
-      ⊎_elim (λ seen.
-      let own : j ≡ seen.0.cell.output = let e = seen.2 in cc in
-      (seen.0, rw own (cell_at places.outputs (queue_of pool.queues) w.cells i seen.0 had.split seen.2), seen.2))
-      (λ past. absurd (omega (arith, slice_get_within places.outputs i j at, as_many)))
-      (slice_get_cases w.cells i).1
+      let cell = cell_at places.outputs (queue_of pool.queues) w.cells i in
+      search (arith, rules, had, slice_get_cases w.cells i, cell, slice_get-map, slice_get_within, as_many)
 
 -- the first cell for an output, and its place
 pub ruleset first_steps = (position-none, position-some, counted, queue_inside, some_places, nth_is_first)

@@ -37,8 +37,7 @@ module _ {old : Nodes} {j : ℕ} {queue : Queue} (had : IsLinked old j queue) (c
     (ends : EndsAt (places (linked old queue)) count a) (some : 0 < count) where
   module _ {new : Nodes} {k : ℕ} {ahead : Node} {c : Queued} (b : IsBehind old new a k ahead c) where
     pub chain_more : chain new (queue.len + 1) queue.first ≡ insert (linked old queue) count (k, c)
-    chain_more =
-        search (arith, rules, node_ahead had.chained ends, chain_behind b)
+    chain_more = search (arith, rules, node_ahead had.chained ends, chain_behind b)
 
     pub others_stay : OthersStay j old new
     others_stay i node there ne =

@@ -1,8 +1,8 @@
 -- A pool in which one queue changes: each queue is linked as before, and the cells of the others are the same.
-use Rattle.cq_list.proofs.Terms.{common_steps, rules, ◌≡◌, ◌≢◌, ℕ, zero, suc, ◌+◌, ◌<◌, ◌≤◌, List, [], ◌∷◌, replicate, length, get_or, set, drop, Some, refl, ap, ◌∙◌, arith, length-set, get_or-set_same, get_or-set_other, Bool, position_or_len, cases_lt, cases_eq, length-map, get_or-map, get_or_past, get_or_read, ext_get_or, length-replicate, sum_by-replicate, sum_by-set, slice_get, Slab, get, slab_len, Node, Queued, Queue, PoolView, Nodes, linked, places, cells, IsLinked, OthersStay, AreLinked, IsPool, Ahead, AreFingers, HaveFingers, behind_first, no_queue, queue_at, cells_in_queues, queue_of}
+use Rattle.cq_list.proofs.Terms.{common_steps, rules, ◌≡◌, ◌≢◌, ℕ, zero, suc, ◌+◌, ◌<◌, ◌≤◌, List, [], ◌∷◌, replicate, length, get_or, set, drop, Some, refl, ap, arith, length-set, get_or-set_same, get_or-set_other, Bool, position_or_len, cases_lt, cases_eq, length-map, get_or-map, get_or_past, get_or_read, ext_get_or, length-replicate, sum_by-replicate, sum_by-set, slice_get, Slab, get, slab_len, Node, Queued, Queue, PoolView, Nodes, linked, places, cells, IsLinked, OthersStay, AreLinked, IsPool, Ahead, AreFingers, HaveFingers, behind_first, no_queue, queue_at, cells_in_queues, queue_of}
 use Rattle.cq_list.proofs.Linked.{is_linked_along, cells_behind, linked_behind}
 use Rattle.cq_list.proofs.Chain.{chain_stays}
-use Rattle.cq_list.proofs.Walk.{head_there, head_shown}
+use Rattle.cq_list.proofs.Walk.{node_there, cell_shown, reached_first}
 
 -- what is seen of a queue, also beyond the last
 pub queue_seen : (nodes : Nodes) (queues : List Queue) (j : ℕ) →
@@ -125,12 +125,12 @@ module _ (nodes : Nodes) (queues : List Queue) {seen : List (List Queued)} (j : 
   has_head = let many = as_many head_read in omega arith
 
   pub head_at : (node : Node) × (nodes queue.first ≡ Some node)
-  head_at = head_there head_read.is_linked.chained has_head
+  head_at = node_there head_read.is_linked.chained (reached_first nodes queue) has_head
 
   module _ {node : Node} {rest : Queue} (here : nodes queue.first ≡ Some node)
       (less : rest ≡ behind_first queue node.next) where
     pub head_is : slice_get (queue_of seen j) 0 ≡ Some node.queued
-    head_is = ap (λ l. slice_get l 0) head_read.are_cells ∙ head_shown head_read.is_linked.chained has_head here
+    head_is = search (rules, head_read, cell_shown, reached_first, has_head)
 
     pub are_linked_behind : AreLinked nodes (set queues j rest)
     are_linked_behind = rw less (are_linked_changed nodes nodes j queues (behind_first queue node.next) had

@@ -5,7 +5,7 @@
 -- this border moves by one block, and the others stay.
 use Rattle.cq_list.specs.Sums.{AreRuns, ArePassing, AreOpen, AreSums, AreSummed, AreTaking, BlocksView, HasLess, HasMore, HasRoom, HasThese, IsBetween, IsExchanged, SumView, begin_of}
 use Rattle.cq_list.proofs.Sums.{length_went, length_came, HasBoth, IsAdded, IsChanged, ahead, ahead_next, all_ahead, block_came, block_set, block_went, count_added, length_added, one_between}
-use Rattle.cq_list.proofs.Terms.{drop_all, append-nil, get_or_read, get_or-set_other, get_or-set_same, length-set, take_all, cases_eq, cases_lt, common_steps, rules, ◌≡◌, ◌≢◌, ℕ, ◌+◌, ◌-◌, ◌/◌, ◌^◌, ◌⊎◌, ◌<◌, ◌≤◌, List, [], ◌++◌, length, get_or, set, take, drop, insert, remove, concat, ap, ◌∙◌, arith, count_of}
+use Rattle.cq_list.proofs.Terms.{drop_all, ◌/◌, append-nil, get_or_read, get_or-set_other, get_or-set_same, length-set, take_all, cases_eq, cases_lt, common_steps, rules, ◌≡◌, ◌≢◌, ℕ, ◌+◌, ◌-◌, ◌^◌, ◌⊎◌, ◌<◌, ◌≤◌, List, [], ◌++◌, length, get_or, set, take, drop, insert, remove, concat, ap, ◌∙◌, arith, count_of}
 
 -- what a slice of a vector leaves of the vector
 pub whole : {X : Type 0} (n : ℕ) (xs old : List X) → n ≡ length xs → length old ≡ length xs →
@@ -24,16 +24,14 @@ module _ {old : List (List ℕ)} {from to : ℕ} {s : SumView} (had : IsBetween 
   room : {more : List ℕ} {all : ℕ} → all < 2 ^ 64 →
       ((m : List ℕ → ℕ) → IsAdded m → ahead m old to + m more ≤ ahead m old from + all) → HasRoom s more
   room fits apart =
-      let own = λ (j : ℕ). apart (count_of j) (count_added j) in
-      search (arith, rules, apart length length_added, own, had.counts)
+      search (arith, rules, apart length length_added, λ (j : ℕ). apart (count_of j) (count_added j), had.counts)
 
 -- ## A sum that is exchanged
 
 exchanged : {s t : SumView} {gone new old now : List ℕ} → IsExchanged gone new s t →
     ((m : List ℕ → ℕ) → IsAdded m → m now + m gone ≡ m old + m new) → IsExchanged old now s t
 exchanged had is =
-    let own = λ (j : ℕ). is (count_of j) (count_added j) in
-    search (arith, rules, is length length_added, own, had.counts)
+    search (arith, rules, is length length_added, λ (j : ℕ). is (count_of j) (count_added j), had.counts)
 
 -- ## A run
 
@@ -236,8 +234,7 @@ module _ {blocks : List (List ℕ)} {offset capacity : ℕ} {sums : List SumView
       pub split_in_two : {new : List (List ℕ)} → length front ≡ 32 → new ≡ insert (set blocks i front) (i + 1) back →
           new ≡
           insert (set view.blocks i (take 32 (get_or view.blocks i []))) (i + 1) (drop 32 (get_or view.blocks i []))
-      split_in_two half new_is =
-          let parts = parted block front back 32 whole half in rw (← seen, ← block_is, parts.0, parts.1) new_is
+      split_in_two half new_is = grind (arith, common_steps, seen, block_is, parted block front back 32)
 
 -- a block that goes
 pub ruleset remove_steps = (length_went, whole, went_first, went_taking)

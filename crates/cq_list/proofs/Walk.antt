@@ -25,8 +25,7 @@ module _ {nodes : Nodes} {queue : Queue} {count place : ℕ} (had : IsChained no
   module _ {node : Node} (here : nodes place ≡ Some node) where
     rest_is : drop count (linked nodes queue) ≡ (place, node.queued) ∷ chain nodes (queue.len - (count + 1)) node.next
     rest_is =
-        let left : queue.len - count ≡ suc (queue.len - (count + 1)) = omega arith in
-        search (arith, rules, left, chain-at)
+        search (arith, rules, chain-at, λ (l : queue.len - count ≡ suc (queue.len - (count + 1))). l)
 
     pub reached_next : HasReached nodes queue (count + 1) node.next
     reached_next = sym (drop-drop 1 count (linked nodes queue)) ∙ ap (drop 1) rest_is
@@ -36,15 +35,6 @@ module _ {nodes : Nodes} {queue : Queue} {count place : ℕ} (had : IsChained no
 
     pub cell_shown : slice_get (cells (linked nodes queue)) count ≡ Some node.queued
     cell_shown = grind (arith, common_steps, slice_get-map, node_shown)
-
--- the head of a queue
-pub head_there : {nodes : Nodes} {queue : Queue} → IsChained nodes queue → 0 < queue.len →
-    (node : Node) × (nodes queue.first ≡ Some node)
-head_there {nodes} {queue} had some = node_there had (reached_first nodes queue) some
-
-pub head_shown : {nodes : Nodes} {queue : Queue} {node : Node} → IsChained nodes queue → 0 < queue.len →
-    nodes queue.first ≡ Some node → slice_get (cells (linked nodes queue)) 0 ≡ Some node.queued
-head_shown {nodes} {queue} had some here = cell_shown had (reached_first nodes queue) some here
 
 -- ## A search for the first cell that passes a test
 
@@ -65,10 +55,6 @@ module _ {nodes : Nodes} {queue : Queue} {p : Queued → Bool} {count place : �
 
   pub search_on : p node.queued ≡ false → HasPassed nodes queue p (count + 1) node.next
   search_on fails = search (arith, rules, reached_next, past_this, shown)
-
-  -- the place of its node is the last one behind which it goes on
-  pub ends_on : EndsAt (places (linked nodes queue)) (count + 1) place
-  ends_on m is = search (rules, slice_get-map, node_shown)
 
 pub searched_all : {nodes : Nodes} {queue : Queue} {count : ℕ} (p : Queued → Bool) → IsChained nodes queue →
     count ≤ position_or_len p (cells (linked nodes queue)) → queue.len ≤ count →

@@ -1,6 +1,5 @@
-use Rattle.cq_list.proofs.Terms.{rules, arith, ◌+◌, length, take_all}
+use Rattle.cq_list.proofs.Terms.{rules, arith, length, take_all}
 use Rattle.cq_list.proofs.Sums.{ahead_next, all_ahead, length_added}
-use Rattle.cq_list.specs.Sums.{begin_of}
 use Rattle.cq_list.proofs.places.spot_in.Goals as goal
 
 pub each-preserved : goal.each-preserved
@@ -9,5 +8,4 @@ each-preserved c = search (arith, rules, ahead_next length length_added)
 -- all blocks were passed, and with them the run
 pub unreachable-requires : goal.unreachable-requires
 unreachable-requires c =
-    let next = begin_of c.args.blocks.now.offset (c.requires.run + 1) in
-    search (arith, rules, all_ahead length length_added c.args.blocks.now.blocks next, take_all)
+    search (arith, rules, all_ahead length length_added c.args.blocks.now.blocks, take_all)

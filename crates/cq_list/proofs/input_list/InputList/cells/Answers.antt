@@ -1,4 +1,4 @@
-use Rattle.cq_list.proofs.Terms.{rules, length, ◌≡◌, concat}
+use Rattle.cq_list.proofs.Terms.{rules, ◌≡◌, concat}
 use Rattle.std.specs.VecDeque.Iter.{deque_iter_rest}
 use Rattle.cq_list.proofs.Kept.{none_told}
 use Rattle.cq_list.proofs.Told.{can_first, block_first, none_left}
@@ -27,6 +27,4 @@ each-preserved c = c.in_ok-tell-2.ensures _ _
 
 pub returns : goal.returns
 returns c =
-    let none : length (deque_iter_rest c.each.block-iterator) ≡ 0 = search (rules) in
-    let all = none_left (deque_iter_rest c.each.block-iterator) c.each.invariant none in
-    search (rules, all)
+    search (rules, none_left (deque_iter_rest c.each.block-iterator) c.each.invariant)

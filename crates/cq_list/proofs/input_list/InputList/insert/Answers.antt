@@ -1,9 +1,9 @@
-use Rattle.cq_list.proofs.Terms.{rules, ◌∙◌, ap, min, arith, with_arrival, StandFor}
-use Rattle.cq_list.proofs.Kept.{kept, cells_are, queue_has_other_key, arrived, counted}
+use Rattle.cq_list.proofs.Terms.{rules, ◌∙◌, ap, min, arith, with_arrival, StandFor, all_filter}
+use Rattle.cq_list.proofs.Kept.{kept, cells_are, had, arrived, counted}
 use Rattle.cq_list.proofs.input_list.InputList.insert.Goals as goal
 
 pub put-ahead-requires-clause-other_key : goal.put-ahead-requires-clause-other_key
-put-ahead-requires-clause-other_key c = search (arith, rules, queue_has_other_key)
+put-ahead-requires-clause-other_key c = search (arith, rules, had c.self.invariant c.self.view_is, all_filter)
 
 pub place_behind-later-requires-clause-all : goal.place_behind-later-requires-clause-all
 place_behind-later-requires-clause-all c = cc (counted c.self.invariant c.self.view_is c.args.queued.cell.output)

@@ -11,8 +11,7 @@ len_of-requires c = queue_inside _ c.args.output _ (sym c.first.ensures ∙ c.in
 
 pub remove_first-requires : goal.remove_first-requires
 remove_first-requires c =
-    let all = counted c.self.invariant c.self.view_is c.args.output in
-    search (arith, rules, some_places c.self.invariant c.self.view_is, all)
+    search (arith, rules, some_places c.self.invariant c.self.view_is, counted c.self.invariant c.self.view_is)
 
 -- what the new places and the new pool stand for
 now : (c : goal.After-take) → StandFor c.self.inside.outputs c.remove_first.new.self c.take.new.self

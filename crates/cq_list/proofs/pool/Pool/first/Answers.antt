@@ -1,6 +1,6 @@
-use Rattle.cq_list.proofs.Terms.{rules, ◌<◌, ap, is_some, arith, get}
+use Rattle.cq_list.proofs.Terms.{rules, ◌<◌, arith, get}
 use Rattle.cq_list.proofs.Queues.{IsRead, is_read}
-use Rattle.cq_list.proofs.Walk.{head_there, head_shown}
+use Rattle.cq_list.proofs.Walk.{node_there, cell_shown, reached_first}
 use Rattle.cq_list.proofs.pool.Pool.first.Goals as goal
 use Rattle.cq_list.proofs.pool.Pool.first.Goals.{Else-queue-eq0}
 
@@ -14,7 +14,7 @@ read_queue : (c : Else-queue-eq0) → Read c
 read_queue c = search (arith, rules, is_read)
 
 pub index-requires : goal.index-requires
-index-requires c = let q = read_queue c in ap is_some (head_there q.read.is_linked.chained q.some).1
+index-requires c = search (arith, rules, read_queue, node_there, reached_first)
 
 pub returns : goal.returns
-returns c = search (arith, rules, read_queue, head_shown)
+returns c = search (arith, rules, read_queue, cell_shown, reached_first)

@@ -1,14 +1,15 @@
 use Rattle.cq_list.proofs.Terms.{rules, ap, sym, drop, arith, ◌<◌, ℕ, List, subst, Queued, AreFingers, PoolView, places, cells}
 use Rattle.cq_list.proofs.Linked.{rest_stay, links_less, linked_less}
 use Rattle.cq_list.proofs.Queues.{read_of, fingers_read, as_many, inside_some, is_pool_changed, view_changed}
-use Rattle.cq_list.proofs.Walk.{head_there, head_shown}
+use Rattle.cq_list.proofs.Walk.{node_there, cell_shown, reached_first}
 use Rattle.cq_list.proofs.pool.Pool.take.Goals as goal
 
 pub remove-node-requires : goal.remove-node-requires
 remove-node-requires c =
     let read = read_of c.self.invariant c.self.view_is (inside_some _ c.args.output 0 c.requires)
     c.index-queue.ensures in
-    search (arith, rules, as_many read, head_there read.is_linked.chained)
+    let there = node_there {count = 0} {place = c.index-queue.result.now.first} read.is_linked.chained in
+    search (arith, rules, as_many read, there, reached_first)
 
 pub invariant_of-self : goal.invariant_of-self
 invariant_of-self c =
@@ -36,4 +37,4 @@ returns c =
     (rest_stay read.is_linked some removed.value removed.updates)
     (linked_less read.is_linked some removed.value removed.updates) (drop 1)
     (sym (ap (λ l. drop 1 (cells l)) (links_less read.is_linked some removed.value removed.updates))) in
-    search (arith, rules, head_shown, spare, now)
+    search (arith, rules, cell_shown, reached_first, spare, now)

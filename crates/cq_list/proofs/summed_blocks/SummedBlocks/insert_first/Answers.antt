@@ -4,8 +4,7 @@ use Rattle.cq_list.proofs.summed_blocks.SummedBlocks.insert_first.Goals as goal
 
 pub add-requires : goal.add-requires
 add-requires c =
-    let enough = c.open_first-short.ensures.sums.enough in
-    has_room c.open_first-short.ensures.sums 0 (omega arith) c.index_mut.ensures.value (search (arith, rules))
+    search (arith, rules, has_room c.open_first-short.ensures.sums 0, c.open_first-short.ensures.sums.enough)
 
 pub invariant_of-self : goal.invariant_of-self
 invariant_of-self c =
