@@ -19,9 +19,6 @@ one_more (b ∷ bs) (suc i) inside = search (rules, append_assoc, one_more bs i)
 
 -- ## One block
 
-in_front : (xs ys : List Queued) (k : ℕ) (x : Queued) → slice_get xs k ≡ Some x → slice_get (xs ++ ys) k ≡ Some x
-in_front xs ys k x e = grind (arith, common_steps, slice_get_cases)
-
 behind : (xs ys : List Queued) (k n : ℕ) → n ≡ length xs + k → slice_get (xs ++ ys) n ≡ slice_get ys k
 behind xs ys k n e = grind (arith, common_steps, slice_get_cases)
 
@@ -29,7 +26,7 @@ pub shown_in : (blocks : List (List Queued)) (i o n : ℕ) (x : Queued) → i < 
     slice_get (block_at blocks i) o ≡ Some x → n ≡ cells_in_all (take i blocks) + o →
     slice_get (flattened blocks) n ≡ Some x
 shown_in [] i o n x inside at place = absurd (omega arith)
-shown_in (b ∷ bs) zero o n x inside at place = grind (arith, common_steps, in_front)
+shown_in (b ∷ bs) zero o n x inside at place = grind (arith, common_steps, slice_get_cases)
 shown_in (b ∷ bs) (suc i) o n x inside at place =
     grind (arith, common_steps, sum_by-cons, behind, shown_in bs i o (cells_in_all (take i bs) + o) x)
 

@@ -2,14 +2,11 @@
 -- changed in the pool changes at its one place in the order and nowhere else; a block that comes in under a number that
 -- was free or is new stands nowhere in the order, so that the blocks there stay; and so do the others where the first
 -- one becomes free.
-use Rattle.cq_urgency.proofs.Terms.{common_steps, rules, ◌≡◌, ◌≢◌, ℕ, zero, suc, ◌+◌, ◌<◌, ◌≤◌, Bool, List, [], ◌∷◌, ◌++◌, length, get_or, set, take, drop, refl, sym, ap, ◌∙◌, arith, Some, length-set, length-take, length-drop, get_or-set_same, get_or-set_other, get_or-drop, drop-map, ◌==◌, insert, slice_get, sum_by, cases_Bool, cases_eq, cases_lt, ltb-true, lt-ltb, eq-eqb, ne_eqb, cond-false, take_more, drop_more, set-set, length_push, length-map, map-set, take-map, get_or-map, get_or_past, get_or_read, length-insert, insert_end, sum_by-cons, sum_by_push, sum_by-insert, get_or-le-sum_by, slice_get_within, get_or_from_slice_get, Queued, BlocksView, block_at, cells_in_all, counts_behind, get_or-insert_below, halved, without_first, in_order, bit, times, has, parted, ArePlaced, ComesIn, map-insert, most_cells, set-get_or}
+use Rattle.cq_urgency.proofs.Terms.{common_steps, rules, ◌≡◌, ◌≢◌, ℕ, zero, suc, ◌+◌, ◌<◌, ◌≤◌, List, [], ◌∷◌, ◌++◌, length, get_or, set, take, drop, refl, sym, ap, ◌∙◌, arith, Some, length-set, length-take, length-drop, get_or-set_same, get_or-set_other, get_or-drop, drop-map, ◌==◌, insert, slice_get, sum_by, cases_Bool, cases_eq, cases_lt, ltb-true, lt-ltb, eq-eqb, ne_eqb, cond-false, take_more, drop_more, set-set, length_push, length-map, map-set, take-map, get_or-map, get_or_past, get_or_read, length-insert, insert_end, sum_by-cons, sum_by_push, sum_by-insert, get_or-le-sum_by, slice_get_within, get_or_from_slice_get, Queued, BlocksView, block_at, cells_in_all, counts_behind, get_or-insert_below, halved, without_first, in_order, bit, times, has, parted, ArePlaced, ComesIn, map-insert, most_cells, set-get_or}
 use Rattle.std.proofs.lemmas.List.Sums.{sum-map}
 use Rattle.std.proofs.lemmas.List.{drop-set-add, drop-set-lt}
 
 -- ## How often a number stands in a list
-
-bit_le : (b : Bool) → bit b ≤ 1
-bit_le b = search (arith, rules, cases_Bool b)
 
 bit_same : (m n : ℕ) → m ≡ n → bit (m == n) ≡ 1
 bit_same m n e = ap bit (eq-eqb m n e)
@@ -20,10 +17,6 @@ times_read xs i number inside is = grind (arith, common_steps, get_or-le-sum_by,
 has_inside : (pool : List (List Queued)) (n : ℕ) → 1 ≤ has pool n → n < length pool
 has_inside pool n some = grind (arith, common_steps, ltb-true, cases_Bool)
 
--- a number that is not there is not the first one
-differs : (number x : ℕ) (xs : List ℕ) → times number (x ∷ xs) ≤ times number xs → x ≢ number
-differs number x xs none e = grind (arith, common_steps, bit_same, sum_by-cons)
-
 -- ## Blocks in their order
 
 -- the blocks stay where only one changes that is not in the order
@@ -32,7 +25,7 @@ same_order : (pool pool' : List (List Queued)) (number : ℕ) →
     in_order pool' order ≡ in_order pool order
 same_order pool pool' number others [] none = refl
 same_order pool pool' number others (x ∷ xs) none =
-    grind (arith, common_steps, sum_by-cons, differs, same_order pool pool' number others xs)
+    grind (arith, common_steps, sum_by-cons, bit_same, same_order pool pool' number others xs)
 
 -- a block changes at its place
 set_order : (pool : List (List Queued)) (block : List Queued) (order : List ℕ) (i number : ℕ) → i < length order →
@@ -42,7 +35,7 @@ set_order pool block [] i number inside is there once = absurd (omega arith)
 set_order pool block (x ∷ xs) zero number inside is there once =
     grind (arith, common_steps, sum_by-cons, bit_same, get_or-set_same, same_order, get_or-set_other)
 set_order pool block (x ∷ xs) (suc i) number inside is there once =
-    grind (arith, common_steps, sum_by-cons, times_read, get_or-set_other, differs, set_order pool block xs i number)
+    grind (arith, common_steps, sum_by-cons, times_read, get_or-set_other, bit_same, set_order pool block xs i number)
 
 -- ## Counts of blocks
 
@@ -122,7 +115,7 @@ module _ {pool : List (List Queued)} {first : ℕ} {order counts free : List ℕ
     in_pool = grind (arith, common_steps, in_order_there, times_read, has_inside)
 
     pub not_freed : times number free ≡ 0
-    not_freed = search (arith, rules, in_order_there, bit_le, times_read)
+    not_freed = search (arith, rules, in_order_there, cases_Bool, times_read)
 
     pub block_same : block_at pool number ≡ block_at blocks i
     block_same = grind (arith, common_steps, get_or-map, in_order_there)
@@ -133,13 +126,14 @@ module _ {pool : List (List Queued)} {first : ℕ} {order counts free : List ℕ
 
     pub changed : (block : List Queued) (counts' : List ℕ) → counts' ≡ counts_behind (set blocks i block) →
         Kept (set pool number block) first order counts' free (set blocks i block)
-    changed block counts' counted = grind (arith, common_steps, in_order_there, set_order, in_pool, bit_le, length-set)
+    changed block counts' counted =
+        grind (arith, common_steps, in_order_there, set_order, in_pool, cases_Bool, length-set)
 
   -- another block comes in
   module _ {pool' : List (List Queued)} {free' : List ℕ} {block : List Queued} {number : ℕ}
       (q : ComesIn pool free pool' free' block number) where
     fresh : times number order ≡ 0
-    fresh = grind (arith, common_steps, bit_same, bit_le)
+    fresh = grind (arith, common_steps, bit_same, cases_Bool)
 
     pub come : (first' i : ℕ) (counts' : List ℕ) → i ≤ length order → first' ≡ get_or (insert order i number) 0 first' →
         counts' ≡ counts_behind (insert blocks i block) →
@@ -195,7 +189,7 @@ module _ (pool pool' : List (List Queued)) (free free' : List ℕ) (block : List
   had = ap bit (lt-ltb number (length pool) inside)
 
   pub came_apart : other ≢ number
-  came_apart e = grind (arith, common_steps, had, bit_same, bit_le)
+  came_apart e = grind (arith, common_steps, had, bit_same, cases_Bool)
 
   pub came_others : block_at pool' number ≡ block_at pool number
   came_others = q.others number (λ e. came_apart (sym e))

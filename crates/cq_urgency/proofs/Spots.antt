@@ -40,13 +40,9 @@ AreSome blocks = AllByRecursion (λ block. 0 < length block) blocks
 filled_some : (blocks : List (List Queued)) → AreFilled blocks → AreSome blocks
 filled_some blocks f = search (arith, rules, all_weaker)
 
-none_lesser : (key : Key) (x : Queued) (xs : List Queued) → is_before x.key key ≡ false →
-    AllByRecursion (IsBefore x) xs → cushion key (x ∷ xs) ≡ 0
-none_lesser key x xs first after = search (rules, filter_none, all_weaker, cases_Bool, key_laws.on)
-
 none_behind : (key : Key) (blocks : List (List Queued)) → IsRising (flattened blocks) → AreSome blocks →
     (0 < length blocks → starts_before key (block_at blocks 0) ≡ false) → cushion key (flattened blocks) ≡ 0
-none_behind key blocks r some first = grind (arith, common_steps, none_lesser)
+none_behind key blocks r some first = grind (arith, common_steps, filter_none, all_weaker, cases_Bool, key_laws.on)
 
 cushion_in : (key : Key) (blocks : List (List Queued)) (i : ℕ) → IsRising (flattened blocks) → AreSome blocks →
     i < length blocks → starts_before key (block_at blocks i) ≡ true →
@@ -114,9 +110,6 @@ module _ (blocks : List (List Queued)) (ahead i o : ℕ) (spot : IsSpot blocks a
   back_length : length (block_at (halved blocks i) (i + 1)) ≡ 32
   back_length = grind (arith, common_steps, length-set, get_or-insert_at, length-drop 32 (block_at blocks i))
 
-  in_front_half : o ≤ 32 → IsSpot (halved blocks i) ahead i o
-  in_front_half early = grind (arith, common_steps, longer, front_length, ahead_same)
-
   in_back_half : (p : ℕ) → p + 32 ≡ o → IsSpot (halved blocks i) ahead (i + 1) p
   in_back_half p late = grind (arith, common_steps, longer, back_length, sum_by_more, front_length, ahead_same)
 
@@ -126,7 +119,7 @@ module _ (blocks : List (List Queued)) (ahead i o : ℕ) (spot : IsSpot blocks a
       × (length (block_at (halved blocks i) now.block) < most_cells)
   spot_halved was now block within front back =
       let behind = in_back_half now.within in
-      search (arith, rules, cases_lt 32 o, in_front_half, behind, front_length, back_length)
+      search (arith, rules, cases_lt 32 o, longer, ahead_same, behind, front_length, back_length)
 
 -- ## Blocks that are filled
 
