@@ -4,7 +4,7 @@
 -- The rule allows each kind of step, and what each tells its seat is so.
 -- A seat keeps the numbers of its view through each kind of step, and a call on a ledger finds there what it was
 -- promised of the seat.
-use Rattle.cq_ledger.proofs.Terms.{rules, ℕ, suc, ◌≡◌, ◌≢◌, ◌*◌, ◌<◌, ◌≤◌, ◌^◌, min, List, get_or, set, Some, None, arith, bit_or, common_steps, none, cases_eq, get_or-le-sum_by, set_here, set_else, set_again, Orders, ports, position_of, IsOffered, state_after, events_at_most, output_in_range, sound-after, next_output-offered, View, Seated, Ruled, proposal, IsClaim, claim, look, IsLedger, output_at, words_proposed, proposed, words_claimed, claim_taken, claim_refused, blank, joined, spent, Sits, bit, claim_word, ◌++◌, [], ◌∷◌, refl, sym, ◌∙◌, ap, set-get_or, AreOffers, State, next_place, start, core_state, first_words, IsClaimed, IsUnclaimed, most_ports, ◌+◌, Option, Outcome, IsProposal, hand_at, hand_after, answer_of}
+use Rattle.cq_ledger.proofs.Terms.{rules, ℕ, suc, ◌≡◌, ◌≢◌, ◌*◌, ◌<◌, ◌≤◌, ◌^◌, min, List, get_or, set, Some, None, arith, bit_or, common_steps, none, cases_eq, get_or-le-sum_by, set_here, set_else, set_again, Orders, ports, position_of, IsOffered, state_after, events_at_most, output_in_range, sound-after, next_output-offered, View, Seated, Ruled, proposal, IsClaim, claim, look, IsLedger, output_at, words_proposed, proposed, words_claimed, claim_taken, claim_refused, blank, joined, spent, Sits, bit, claim_word, ◌++◌, [], ◌∷◌, sym, ◌∙◌, ap, set-get_or, AreOffers, State, next_place, start, core_state, first_words, IsClaimed, IsUnclaimed, most_ports, ◌+◌, Option, Outcome, IsProposal, hand_at, hand_after, answer_of}
 use Rattle.atomic_table.specs.Table.{step, Allows}
 use Rattle.cq_ledger.proofs.Proposing.{propose-keeps, claim-keeps, refuse-keeps}
 use Rattle.cq_ledger.proofs.Seats.{split-keeps, join-keeps, start-keeps, longer-keeps}
@@ -29,11 +29,6 @@ module _ (o : Orders) (words : List ℕ) (views : List View) (k : IsLedger o wor
   is : core_state o words views ≡ s
   is = core_state-is o words views k
 
-  -- the state shown is the one after the same events
-  as_before : (words' : List ℕ) (views' : List View) (k' : IsLedger o words' views') → state_after o k'.events ≡ s →
-      core_state o words' views' ≡ core_state o words views
-  as_before words' views' k' same = core_state-is o words' views' k' ∙ same ∙ sym is
-
   pub proposal-event : (i p : ℕ) → v.hand ≡ Some (i, p) → v.offers ≡ o → IsEvent o words views id i p v
   unfolding propose-keeps
   proposal-event i p hand same_offers =
@@ -46,7 +41,7 @@ module _ (o : Orders) (words : List ℕ) (views : List View) (k : IsLedger o wor
         core_state o (words_claimed words i) (set views id (claim_taken v i)) ≡ core_state o words views
     unfolding claim-keeps
     taken-shows r clear empty same_offers =
-        as_before _ _ (claim-keeps o words views k id i v at same_offers r clear empty) refl
+        core_state-is o _ _ (claim-keeps o words views k id i v at same_offers r clear empty) ∙ sym is
 
     -- a claim that finds the input claimed leaves the words as they are
     words-same : IsClaimed words i → words_claimed words i ≡ words
@@ -60,19 +55,20 @@ module _ (o : Orders) (words : List ℕ) (views : List View) (k : IsLedger o wor
         core_state o (words_claimed words i) (set views id (claim_refused v i)) ≡ core_state o words views
     unfolding refuse-keeps dealt
     refused-shows claimed same_offers =
-        rw (words-same claimed) (as_before words _ (refuse-keeps o words views k id i v at same_offers claimed) refl)
+        rw (words-same claimed)
+        (core_state-is o words _ (refuse-keeps o words views k id i v at same_offers claimed) ∙ sym is)
 
   pub split-shows : core_state o words (set views id v ++ blank v.offers ∷ []) ≡ core_state o words views
   unfolding longer-keeps dealt
   split-shows = ap (λ l. core_state o words (l ++ blank v.offers ∷ [])) (set_again views id v at)
-      ∙ as_before words _ (longer-keeps o words views k v.offers (search (rules, k.same id v at))) refl
+      ∙ core_state-is o words _ (longer-keeps o words views k v.offers (search (rules, k.same id v at))) ∙ sym is
 
   pub join-shows : (other : ℕ) (u : View) → other ≢ id → Sits views other u → v.hand ≡ None → u.hand ≡ None →
       v.offers ≡ o → core_state o words (set (set views id (joined v u)) other spent) ≡ core_state o words views
   unfolding join-keeps dealt
   join-shows other u apart at_other empty empty_other same_offers =
-      as_before words (set (set views id (joined v u)) other spent)
-      (join-keeps o words views k id v at other u apart at_other empty empty_other same_offers) refl
+      core_state-is o words (set (set views id (joined v u)) other spent)
+      (join-keeps o words views k id v at other u apart at_other empty empty_other same_offers) ∙ sym is
 
 -- ## What the rule allows
 

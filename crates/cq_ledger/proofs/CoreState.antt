@@ -29,9 +29,8 @@ in_hands-some (v ∷ views) i p e = go (in_hands-some views i p) (place_in_hand 
     go later (Some q) f r = (zero, v, refl, in_hand-some v.hand i p (f ∙ r))
 
 pub in_hands-none : (views : List View) (i : ℕ) → place_in_hands views i ≡ None → IsInAHand views i → ⊥
-in_hands-none [] i e (a, u, p, at, h) = some-ne-none u (sym at)
-in_hands-none (v ∷ views) i e (zero, u, p, at, h) = grind (arith, common_steps, in_hand-has, some-injective v u at)
 in_hands-none (v ∷ views) i e (suc a, u, p, at, h) = grind (arith, common_steps, in_hands-none views i)
+in_hands-none views i e (a, u, p, at, h) = grind (arith, common_steps, in_hand-has, some-injective, some-ne-none)
 
 -- ## The state
 

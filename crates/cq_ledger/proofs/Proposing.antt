@@ -4,7 +4,7 @@
 -- A proposal keeps the rule, and is one event. The word of the output that is asked becomes the position that it
 -- holds after the event. The new hand has the input that was displaced or rejected, if that is free: no other seat
 -- has it, since it was held, or in this hand.
-use Rattle.cq_ledger.proofs.Terms.{rules, ℕ, suc, ◌≡◌, ◌≢◌, inl, ⊎_elim, ◌<◌, min, List, ◌∷◌, get_or, set, Some, sym, ◌∙◌, ap, arith, common_steps, cases_eq, get_or-set_same, get_or-set_other, length-set, at_set, Orders, ports, position_of, IsStep, step, sound-after, State, position_held, next_place, IsFree, next_output, propose, state_after, IsSound, IsLedger, proposed, Waits, Sits, bit, claim_word, output_in_range, View, ◌⊎◌, ◌^◌, length, None, bit_or, outputs_of, hand_at, claim_taken, IsClaimedByOne, refl, claim_refused}
+use Rattle.cq_ledger.proofs.Terms.{⊎_elim, rules, ℕ, suc, ◌≡◌, ◌≢◌, inl, ◌<◌, min, List, ◌∷◌, get_or, set, Some, sym, ◌∙◌, ap, arith, common_steps, cases_eq, get_or-set_same, get_or-set_other, length-set, at_set, Orders, ports, position_of, IsStep, step, sound-after, State, position_held, next_place, IsFree, next_output, propose, state_after, IsSound, IsLedger, proposed, Waits, Sits, bit, claim_word, output_in_range, View, ◌⊎◌, ◌^◌, length, None, bit_or, outputs_of, hand_at, claim_taken, IsClaimedByOne, refl, claim_refused}
 use Rattle.cq_ledger.proofs.Hands.{hand_found, still_free, hand-shows, free-before, hand_at-left, hand_at-shows}
 use Rattle.cq_ledger.proofs.Views.{bits, sits_now, in_hand_still, claims_stay as same_claims, made_with, hands_with, offers_with, MayHold, by_one_still, hands_from, dealt}
 
@@ -49,11 +49,8 @@ module _ (o : Orders) (words : List ℕ) (views : List View) (k : IsLedger o wor
     pub hand_now : taken.hand ≡ hand_at o i 0
     hand_now = ap (λ x. hand_at x i 0) same_offers
 
-    pub fresh_i : next_place s i ≡ 0
-    fresh_i = k.unclaimed i clear
-
     pub free_i : 0 < length (outputs_of o i) → IsFree o s i
-    free_i h = grind (arith, common_steps, fresh_i, w.last)
+    free_i h = grind (arith, common_steps, k.unclaimed i clear, w.last)
 
     -- who has claimed an input now is this view, or had claimed it
     pub claims_of : (b q : ℕ) (u : View) → Sits claimed_views b u → bit u.claims q ≡ 1 →
@@ -67,8 +64,9 @@ module _ (o : Orders) (words : List ℕ) (views : List View) (k : IsLedger o wor
 
     pub undropped_claimed : (q : ℕ) → IsFree o s q → Waits claimed_words claimed_views q
     undropped_claimed q g =
+        let fresh = k.unclaimed i clear in
         let still = in_hand_still views id v taken at_id in
-        search (arith, rules, k.hands.undropped q g, cases_eq q i, kept q, here, hand_now, hand_at-left, fresh_i, still)
+        search (arith, rules, k.hands.undropped q g, cases_eq q i, kept q, here, hand_now, hand_at-left, fresh, still)
 
     unfoldable pub claim-keeps : IsLedger o claimed_words claimed_views
     claim-keeps =
@@ -82,9 +80,9 @@ module _ (o : Orders) (words : List ℕ) (views : List View) (k : IsLedger o wor
           positions = λ j l. get_or-set_other words 0 (suc j) _ 0 (omega arith) ∙ k.positions j l;
           claims = search (rules, claims_of, now_set, stays_set, by_one_now, not_i, k.claims.in_range, kept, at_set);
           hands = hands_with views id v taken at_id o s s words claimed_words k.hands
-              (search (arith, rules, hand_at-shows, hand_now, free_i, fresh_i, now_set, not_i))
+              (search (arith, rules, hand_at-shows, hand_now, free_i, k.unclaimed, now_set, not_i))
               (search (arith, rules, stays_set)) undropped_claimed;
-          unclaimed = search (arith, rules, cases_eq, fresh_i, k.unclaimed, kept);
+          unclaimed = search (arith, rules, cases_eq, k.unclaimed, kept);
           made = let a = made_with views id v taken at_id in let b = k.made in omega arith;
           idle = λ b u a. grind (arith, common_steps, at_set views id b taken u a, bits.same, bits.of_zero i, k.idle b);
         }
@@ -125,9 +123,6 @@ module _ (o : Orders) (words : List ℕ) (views : List View) (k : IsLedger o wor
     pub j_in_range : j < ports o
     j_in_range = output_in_range o k.offers i j st.offered
 
-    pub found_is : get_or words (suc j) 0 ≡ position_held s j
-    found_is = k.positions j j_in_range
-
     abbrev view_now : View
     view_now = proposed v i (next_place s i) (get_or words (suc j) 0)
 
@@ -138,7 +133,7 @@ module _ (o : Orders) (words : List ℕ) (views : List View) (k : IsLedger o wor
     views_now = set views id view_now
 
     pub hand_is : view_now.hand ≡ hand_found o i (next_place s i) (position_held s j)
-    hand_is = grind (arith, common_steps, hand_found, found_is)
+    hand_is = grind (arith, common_steps, hand_found, k.positions j j_in_range)
 
     pub claims_stay : claim_word words_now ≡ claim_word words
     claims_stay = let n : 0 ≢ suc j = omega arith in get_or-set_other words (suc j) 0 _ 0 n
@@ -152,7 +147,7 @@ module _ (o : Orders) (words : List ℕ) (views : List View) (k : IsLedger o wor
     pub shown_now : (q : ℕ) → q < ports o → get_or words_now (suc q) 0 ≡ position_held t q
     shown_now q r =
         let same = get_or-set_same words (suc j) in let other = get_or-set_other words (suc j) (suc q) in
-        grind (arith, cases_eq q j, same, other, k.positions q, st.held_other q, found_is, st.held_asked, j_in_range)
+        grind (arith, cases_eq q j, same, other, k.positions, st.held_other q, st.held_asked, j_in_range)
 
     -- another view's hand has another input
     pub other_hand : (b q p : ℕ) (u : View) → b ≢ id → Sits views b u → u.hand ≡ Some (q, p) → q ≢ i

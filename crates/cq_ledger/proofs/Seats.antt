@@ -1,6 +1,6 @@
 -- Making the first seat, a split and a join keep the rule, and are no event: the words stay, and what the seats have
 -- claimed, seen, made and in their hands is only dealt out anew.
-use Rattle.cq_ledger.proofs.Terms.{ℕ, zero, suc, ◌≡◌, ◌≢◌, ◌⊎◌, inl, inr, ◌+◌, ◌≤◌, List, [], ◌∷◌, ◌++◌, set, replicate, None, refl, sym, ◌∙◌, ap, arith, bit_or, rules, cases_eq, length-replicate, get_or-replicate, sum_by_push, at_set, set_else, set_again, at_longer, at_snoc, Orders, AreOffers, ports, held-start, next_place-start, IsLedger, IsViewOf, blank, joined, spent, Sits, bit, View, common_steps, most_ports, AreClaims}
+use Rattle.cq_ledger.proofs.Terms.{some-injective, ℕ, suc, ◌≡◌, ◌≢◌, ◌⊎◌, inl, inr, ◌+◌, ◌≤◌, List, [], ◌∷◌, ◌++◌, set, replicate, None, refl, sym, ◌∙◌, ap, arith, bit_or, rules, cases_eq, length-replicate, get_or-replicate, sum_by_push, at_set, set_else, set_again, at_longer, at_snoc, Orders, AreOffers, ports, held-start, next_place-start, IsLedger, IsViewOf, blank, joined, spent, Sits, bit, View, common_steps, most_ports, AreClaims}
 use Rattle.cq_ledger.proofs.Views.{bits, same_at, sits_now, made_with, hands_from, offers_with, dealt}
 
 -- where no bit of either is set, no bit is
@@ -8,8 +8,7 @@ neither : (a b : ℕ) → bit_or a b ≡ 0 → (a ≡ 0) × (b ≡ 0)
 neither a b e = (search (arith, rules, bits.none a, bits.none b, bits.left a b, bits.of_zero, bits.right a b))
 
 pub only : (o : Orders) (x : View) (b : ℕ) (u : View) → Sits (x ∷ []) b u → x ≡ u
-only o x zero u e = mathlib.Core.Option.some-injective x u e
-only o x (suc b) u e = absurd (mathlib.Core.Option.some-ne-none u (sym e))
+only o x b u e = grind (arith, common_steps, some-injective)
 
 -- nobody has claimed an input, and none is in a hand
 unfoldable pub start-keeps : (o : Orders) → AreOffers o → ports o ≤ most_ports →

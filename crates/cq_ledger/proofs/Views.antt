@@ -1,14 +1,13 @@
 -- Lists of views, and the bits of numbers.
 -- A view in another one's place, and the rule where the words stay and the views alone change.
-use Rattle.cq_ledger.proofs.Terms.{ℕ, zero, suc, ◌≡◌, ◌≢◌, ◌⊎◌, ◌<◌, ◌≤◌, ◌^◌, List, [], ◌∷◌, length, get_or, sym, ◌∙◌, ap, arith, bit_or, some, some-injective, some-ne-none, get_elem?, cases_eq, bit_at_or, bit_at-pow_same, bit_at-pow_other, bit_at-zero, bit_at-lt, same_from_bits, bit, common_steps, rules, ⊎_elim, ◌+◌, set, Some, None, IsFree, next_place, sum_by, sum_by-set, at_set, set_here, set_else, Orders, State, state_after, View, AreClaims, AreHands, IsLedger, IsViewOf, Sits, HasClaimed, HasSeen, IsClaimed, IsClaimedByOne, IsInAHand, Waits, claim_word, shr_and_one, eqb-true, eq-eqb, ltb-true}
+use Rattle.cq_ledger.proofs.Terms.{ℕ, suc, ◌≡◌, ◌≢◌, ◌⊎◌, ◌<◌, ◌≤◌, ◌^◌, List, [], ◌∷◌, length, get_or, sym, ◌∙◌, ap, arith, bit_or, some, some-injective, some-ne-none, get_elem?, cases_eq, bit_at_or, bit_at-pow_same, bit_at-pow_other, bit_at-zero, bit_at-lt, same_from_bits, bit, common_steps, rules, ⊎_elim, ◌+◌, set, Some, None, IsFree, next_place, sum_by, sum_by-set, at_set, set_here, set_else, Orders, State, state_after, View, AreClaims, AreHands, IsLedger, IsViewOf, Sits, HasClaimed, HasSeen, IsClaimed, IsClaimedByOne, IsInAHand, Waits, claim_word, shr_and_one, eqb-true, eq-eqb, ltb-true}
 use Rattle.std.proofs.lemmas.Nat.Bits.{bit_at_above}
 
 -- a view that stands at a place of the list
 pub at_known : {A : Type 0} → (xs : List A) (i : ℕ) (a d : A) → get_elem? xs i ≡ some a →
     (i < length xs) × (get_or xs i d ≡ a)
-at_known [] i a d e = absurd (some-ne-none a (sym e))
-at_known (x ∷ xs) zero a d e = (omega arith, some-injective x a e)
 at_known (x ∷ xs) (suc i) a d e = let r = at_known xs i a d e in (omega arith, r.1)
+at_known xs i a d e = grind (arith, common_steps, some-injective, some-ne-none)
 
 pub same_at : {A : Type 0} → (xs : List A) (i : ℕ) (a b : A) → get_elem? xs i ≡ some a → get_elem? xs i ≡ some b → a ≡ b
 same_at xs i a b e f = some-injective a b (sym e ∙ f)
@@ -94,10 +93,10 @@ module _ (views : List View) (id : ℕ) (v now : View) (at_id : Sits views id v)
         free = λ b q p u a h. (each b q p u a h).0;
         place = λ b q p u a h. (each b q p u a h).1;
         claimed = λ b q p u a h. (each b q p u a h).2;
-        apart = λ b c q p r x y ax ay hx hy. ⊎_elim (λ m. ⊎_elim (λ n. m.0 ∙ sym n.0)
-            (λ n. absurd ((my q p x m.1 hx).1 c r y n.1 n.0 hy)) (at_set views id c now y ay))
-            (λ m. ⊎_elim (λ n. absurd ((my q r y n.1 hy).1 b p x m.1 m.0 hx))
-            (λ n. k.apart b c q p r x y m.1 n.1 hx hy) (at_set views id c now y ay)) (at_set views id b now x ax);
+        apart = λ b c q p r x y ax ay hx hy.
+            let one = at_set views id b now x ax in
+            let other = at_set views id c now y ay in
+            grind (arith, one, other, my q p x, my q r y, k.apart b c q p r x y);
         undropped = waits;
       }
 
