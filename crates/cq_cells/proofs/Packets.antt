@@ -17,10 +17,6 @@ number_pieces : (s : ℕ) (f : ℕ → Cell) (output j i n : ℕ) → ((m : ℕ)
 number_pieces s f output j i zero h = search (arith, rules)
 number_pieces s f output j i (suc n) h = search (arith, rules, piece, number_pieces s f output j (i + 1) n h)
 
-pub number-append : (j : ℕ) (xs ys : List Arrival) →
-    number_of (is_to j) (xs ++ ys) ≡ number_of (is_to j) xs + number_of (is_to j) ys
-number-append j xs ys = grind (arith, common_steps, filter-append, length-append)
-
 file_long : (ps : List Captured) → length ps ≤ file_length ps
 file_long [] = omega arith
 file_long (p ∷ ps) = omega (arith, sum_by-cons (λ (q : Captured). 16 + length q.body) p ps, file_long ps)
@@ -85,7 +81,7 @@ module _ (t : Tables) (captures : List (List Captured)) (input : ℕ) where
   unfolding cell_of
   added_more k old counts output v at new ports each j inside =
       let count = number_pieces (start t captures input k) (cell_of t captures input k) (row_of k).output j 0 in
-      search (arith, rules, came_more, number-append, count, cases_eq, ne_eqb, set_steps)
+      search (arith, rules, came_more, filter-append, length-append, count, cases_eq, ne_eqb, set_steps)
 
   -- one packet more
   pub so_far_more : (k : ℕ) (rows : List Row) (free all : ℕ) (old counts : List ℕ) (row : Row) (v : ℕ) →
@@ -160,13 +156,6 @@ pub map-packet_in : {Y : Type 0} (f : Captured → Y) (ps : List Captured) →
 map-packet_in f ps = sym (fill_by_all (λ (k : ℕ). f (packet_in ps k)) (map f ps) (length ps) (f no_packet)
     (length-map ps f) (λ k h. get_or-map f ps k no_packet (f no_packet) h))
 
--- the packets of an input were routed one by one
-module _ (t : Tables) (captures : List (List Captured)) (input : ℕ) (ways : List (ℕ × ℕ))
-    (sent : ways ≡ map (λ (p : Captured). route t input p.body) (packets_of captures input)) where
-  way_is : (k : ℕ) → k < length (packets_of captures input) →
-      slice_index_or ways k (0, 0) ≡ route t input (packet_at captures input k).body
-  way_is k inside = grind (arith, common_steps, slice_index_or, get_or-map)
-
 -- ## Rows
 
 abbrev no_place : PacketRow
@@ -203,7 +192,8 @@ next_row t captures input k ps places ways row origin free all rows old counts t
     starts cut routed long =
     let its = row_is_of 24 ps k no_place (record { stamp = 0; original = 0; body = [] }) in
     let to = route_output t input (packet_at captures input k).body tables in
-    let made : row ≡ row_of t captures input k = grind (arith, common_steps, start_by, row_is_of, way_is, its) in
+    let made : row ≡ row_of t captures input k =
+    grind (arith, common_steps, start_by, row_is_of, slice_index_or, get_or-map, its) in
     let few = few_by t captures input (k + 1) tables.cell_bytes.0 read.recorded in
     let early = early_by t captures input (k + 1) read.recorded in
     search (arith, rules, longer_by, ends_by, few, early, end_packet, length_packet, few_kept, came_by, s.each)

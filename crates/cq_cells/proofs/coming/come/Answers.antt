@@ -16,5 +16,4 @@ put-requires-clause-own c = search (rules, given, arrives_own)
 
 pub lines-preserved : goal.lines-preserved
 lines-preserved c =
-    let filled = c.lines.invariant in
-    search (arith, rules, length-set, get_or-set_same, get_or-set_other, cases_eq, given, filled.done, filled.left)
+    search (arith, rules, length-set, get_or-set_same, get_or-set_other, cases_eq, given, c.lines.invariant)

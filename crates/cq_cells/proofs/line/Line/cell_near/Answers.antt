@@ -4,8 +4,7 @@ use Rattle.cq_cells.proofs.line.Line.cell_near.Goals as goal
 use Rattle.cq_cells.proofs.line.Line.cell_near.Goals.{After-index}
 
 pub begun_near-requires : goal.begun_near-requires
-begun_near-requires c =
-    rw c.deref.ensures.value (starts_rise c.self.inside.cell_bytes c.self.inside.rows.items c.self.invariant.0)
+begun_near-requires c = search (rules, starts_rise c.self.inside.cell_bytes)
 
 pub returns-in_err-packet : goal.returns-in_err-packet
 returns-in_err-packet c =

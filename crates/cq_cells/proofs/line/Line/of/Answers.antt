@@ -1,4 +1,4 @@
-use Rattle.cq_cells.proofs.Terms.{rules, slice_index_or, arith, ◌+◌, ◌<◌, length, get_or_read, common_steps, length-map}
+use Rattle.cq_cells.proofs.Terms.{rules, arith, get_or_read, common_steps, length-map}
 use Rattle.cq_cells.proofs.Packets.{so_far_more, AreRead, IsMade, IsWhole, at_end, next_row}
 use Rattle.cq_cells.proofs.Stamps.{length-rows_from}
 use Rattle.cq_cells.proofs.line.Line.of.Goals as goal
@@ -19,10 +19,6 @@ made c =
     search (arith, rules, length-rows_from, get_or_read) in
     search (arith, rules, next_row, known)
 
--- its output is counted
-counted : (c : After-row_of-row) → c.row_of-row.result.output < length c.packets.to_output
-counted c = let to_port = (made c).to_port in omega arith
-
 -- in the end the line stands whole
 whole : (c : After-packets) → AreRead c.args.captures.now c.args.input c.index-captures-input.result
     c.rows-packets.result.now → IsWhole c.args.tables.now c.args.captures.now c.args.input c.packets.rows.items
@@ -41,10 +37,12 @@ bounds-routes-k c =
     let inside = c.packets-test.true in grind (arith, common_steps, length-map)
 
 pub bounds-to_output-row : goal.bounds-to_output-row
-bounds-to_output-row c = counted (goal.at.bounds-to_output-row c).After-row_of-row
+bounds-to_output-row c =
+    let to_port = (made (goal.at.bounds-to_output-row c).After-row_of-row).to_port in omega arith
 
 pub bounds-to_output-row-in-packets : goal.bounds-to_output-row-in-packets
-bounds-to_output-row-in-packets c = counted (goal.at.bounds-to_output-row-in-packets c).After-row_of-row
+bounds-to_output-row-in-packets c =
+    let to_port = (made (goal.at.bounds-to_output-row-in-packets c).After-row_of-row).to_port in omega arith
 
 pub overflow_add-free : goal.overflow_add-free
 overflow_add-free c =
@@ -56,18 +54,13 @@ overflow_add-cells c =
 
 pub overflow_add-to_output : goal.overflow_add-to_output
 overflow_add-to_output c =
-    let each = (made (goal.at.overflow_add-to_output c).After-row_of-row).each in
-    let inside = counted (goal.at.overflow_add-to_output c).After-row_of-row in
-    search (arith, rules, c.requires.room)
+    let m = made (goal.at.overflow_add-to_output c).After-row_of-row in search (arith, rules, c.requires.room)
 
 pub packets-preserved : goal.packets-preserved
 packets-preserved c =
-    let is = (made (goal.at.packets-preserved c).After-row_of-row).is in
-    let counts = c.packets.to_output in
-    let output = c.row_of-row.result.output in
+    let is = made (goal.at.packets-preserved c).After-row_of-row in
     let more = so_far_more c.args.tables.now c.args.captures.now c.args.input c.packets.k c.packets.rows.items
-    c.packets.free c.packets.cells c.args.to_output.now counts c.row_of-row.result
-    (slice_index_or counts output 0 + c.from-in-packets.result) c.packets.invariant.so_far is in
+    c.packets.free c.packets.cells c.args.to_output.now c.packets.to_output in
     search (arith, rules, more)
 
 -- ## What the line is
