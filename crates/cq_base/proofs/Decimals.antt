@@ -18,9 +18,7 @@ decimal_more n h = grind (arith, common_steps, decimal_above, digits_of_step, ma
 -- a number below a power of ten has no more digits than the power says
 pub length-decimal-le : (most n : ℕ) → 1 ≤ most → n < 10 ^ most → length (decimal n) ≤ most
 unfolding decimal
-length-decimal-le most zero some below = some
-length-decimal-le most (suc k) some below =
-    let a : 0 < suc k = omega arith in search (arith, rules, decimal_above, length-map, length-digits_of-le)
+length-decimal-le most n some below = search (arith, rules, decimal_above, length-map, length-digits_of-le)
 
 pub length-decimal : (n : ℕ) → n < 2 ^ 128 → length (decimal n) ≤ 39
 length-decimal n h = let below : n < 10 ^ 39 = omega arith in length-decimal-le 39 n (lit≤ tt) below

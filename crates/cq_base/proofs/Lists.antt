@@ -76,9 +76,8 @@ taken_none j xs h = search (arith, rules, find_at, slice_get_past, none_left, co
 
 pub all_insert : (P : Queued → Type 0) (xs : List Queued) (p : ℕ) (n : Queued) → P n → AllByRecursion P xs →
     AllByRecursion P (insert xs p n)
-all_insert P xs zero n q a = (q, a)
-all_insert P [] (suc p) n q a = (q, tt)
 all_insert P (x ∷ xs) (suc p) n q a = (a.0, all_insert P xs p n q a.1)
+all_insert P xs p n q a = grind (arith, common_steps)
 
 each_pair_insert : (R : Queued → Queued → Type 0) (xs : List Queued) (p : ℕ) (n : Queued) → EachPair R xs →
     ((s : ℕ) (x : Queued) → slice_get xs s ≡ Some x → s < p → R x n) →

@@ -5,7 +5,7 @@
 -- different numbers below a bound are no more than the bound.
 use Rattle.cq_base.proofs.Terms.{common_steps, arith, rules, Bool, List, Option, Some, [], ap, inl, inr, length, map, refl, suc, true, zero, ℕ, ◌++◌, ◌+◌, ◌<◌, ◌∷◌, ◌≡◌, ◌≢◌, ◌≤◌, ◌⊎◌, cases_eq, All-from_recursion, recursion_from_All, length-range_with_len, AllPairs-cons, AllByRecursion, AllPairs, filter_map, range_with_len, filter, slice_get}
 use Rattle.cq_base.proofs.Each.{all_both, all_front, all_weaker, images_held, of_images}
-use Rattle.cq_base.proofs.Having.{all_from_has, all_of_has, has_right, kept_has}
+use Rattle.cq_base.proofs.Having.{all_from_has, all_of_has, has_right, kept_has, none_had}
 use Rattle.cq_base.specs.Items.{EachPair, Has}
 
 -- ## A pool
@@ -94,11 +94,9 @@ module _ {X : Type 0} (R : X → X → Type 0) where
 -- where the relation never holds both ways, two lists of which it holds and that have the same items are one
 pub same_pairs : {X : Type 0} (R : X → X → Type 0) → ((x y : X) → R x y → R y x → ⊥) → (xs ys : List X) →
     EachPair R xs → EachPair R ys → ((x : X) → Has xs x → Has ys x) → ((y : X) → Has ys y → Has xs y) → xs ≡ ys
-same_pairs R never [] [] up rising to from = refl
-same_pairs R never [] (y ∷ ys) up rising to from = absurd (from y (inl refl))
-same_pairs R never (x ∷ xs) [] up rising to from = absurd (to x (inl refl))
 same_pairs R never (x ∷ xs) (y ∷ ys) up rising to from =
     search (arith, rules, all_of_has, never, to x (inl refl), from y (inl refl), same_pairs R never xs ys up.1 rising.1)
+same_pairs R never xs ys up rising to from = search (rules, none_had, to, from)
 
 -- of images, and the other way
 pub pairs_mapped : {X Y : Type 0} (f : X → Y) (R : Y → Y → Type 0) (xs : List X) → EachPair (λ a b. R (f a) (f b)) xs →
