@@ -1,14 +1,13 @@
 -- Who holds whom in a state that events reach. The test computes what is said, and an input is held by one output at
 -- most, the one that it asked last. So the matching of the state has exactly the pairs of an output and the input that
 -- it holds.
-use Rattle.cq_prefs.proofs.Terms.{rules, ℕ, ◌≡◌, ◌≢◌, ◌<◌, Bool, true, List, [], ◌∷◌, length, Option, Some, None, refl, sym, ◌∙◌, ap, arith, common_steps, find, is_none, range_with_len, cases_lt, cond_both, ltb-true, lt-ltb, eqb-true, eq-eqb, and_parts, and_from, true≢false, get_or_past, ext_get_or, length-map-range_with_len, get_or-map-range_with_len, Orders, AreOffers, ports, inputs_of, Partners, partner_of, IsMatching, State, Holds, IsFree, IsSound, holder, holds, position_held, keeper, is_free, matching_of, Has, has_number}
+use Rattle.cq_prefs.proofs.Terms.{rules, ℕ, ◌≡◌, ◌≢◌, ◌<◌, Bool, true, List, [], ◌∷◌, length, Option, Some, None, refl, sym, ◌∙◌, ap, arith, common_steps, find, is_none, range_with_len, cases_lt, cond_both, ltb-true, lt-ltb, eqb-true, eq-eqb, and_parts, and_from, true≢false, get_or_past, ext_get_or, length-map-range_with_len, get_or-map-range_with_len, Orders, AreOffers, ports, inputs_of, Partners, partner_of, IsMatching, State, Holds, IsFree, IsSound, holder, holds, position_held, keeper, is_free, matching_of, Has, has_number, find_at, passes_at_first, slice_get_within, slice_get-get_or}
 use Rattle.cq_prefs.proofs.Places.{same_at_place, input_in_range, output_in_range, position_of-at}
 
 -- ## The one that passes a test
 
 pub found_passes : (p : ℕ → Bool) (xs : List ℕ) (y : ℕ) → find p xs ≡ Some y → p y ≡ true
-found_passes p [] y e = absurd (let P : ⊥ = cc in P)
-found_passes p (x ∷ xs) y e = grind (arith, common_steps, cond_both, found_passes p xs y)
+found_passes p xs y e = search (arith, rules, find_at, passes_at_first p xs y, slice_get_within, slice_get-get_or)
 
 found_only : (p : ℕ → Bool) (xs : List ℕ) (y : ℕ) → Has xs y → p y ≡ true → ((z : ℕ) → p z ≡ true → z ≡ y) →
     find p xs ≡ Some y

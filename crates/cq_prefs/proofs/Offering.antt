@@ -10,8 +10,7 @@ module _ (o : Orders) (n : ℕ) where
   -- an order is empty or not
   module _ (order : List ℕ) (empty : Bool) (is : order ≡ outputs_of o n) (tells : empty ≡ eqb (length order) 0) where
     pub offers-more : empty ≡ false → inputs_with_offers o (n + 1) ≡ inputs_with_offers o n ++ n ∷ []
-    offers-more some =
-        grind (arith, common_steps, offers-next, cond-true, lt-ltb, true≢false, eq-eqb, cases_lt)
+    offers-more some = grind (arith, common_steps, offers-next, cond-true, lt-ltb, true≢false, eq-eqb, cases_lt)
 
     pub offers-same : empty ≡ true → inputs_with_offers o (n + 1) ≡ inputs_with_offers o n
     offers-same none = grind (arith, common_steps, offers-next, cond-false, append-nil, eqb-true, le-ltb)

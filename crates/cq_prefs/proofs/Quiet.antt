@@ -94,8 +94,7 @@ pub events_at_most : (o : Orders) → AreOffers o → (events : List ℕ) → Ar
     length events ≤ ports o * ports o
 events_at_most o v events es =
     let w = sound-after o v events es in
-    let s = state_after o events in
-    let b : sum s.places ≤ length s.places * ports o = sum_by-le (λ x. x) (ports o) s.places
+    let b = sum_by-le (λ (x : ℕ). x) (ports o) (state_after o events).places
     (search (arith, rules, get_or_default, w.within, outputs_at_most)) in
     grind (arith, common_steps, sum-places o v events es)
 

@@ -8,7 +8,7 @@
 -- is renewed.
 -- One order that is known but for one port, which left it. Where there is no cell, what is left is the whole order.
 -- Where there is one, the port goes back in at the place that its first cell tells.
-use Rattle.cq_prefs.proofs.Terms.{common_steps, rules, ◌≡◌, ◌≢◌, ℕ, ◌+◌, ◌<◌, ◌≤◌, eqb, Bool, true, List, [], ◌∷◌, length, get_or, set, Some, None, refl, arith, not, replicate, map, filter, All, IsDistinct, cond-true, cases_Bool, cases_eq, cases_lt, eq-eqb, ne_eqb, eqb-true, length-map-range_with_len, get_or-map-range_with_len, length-map, length-set, get_or_past, get_or_default, get_or-set_same, get_or-set_other, ext_get_or, length-replicate, Queued, Waiting, cells_of, AreWaiting, list_of, output_order, input_order, orders_of, HasCellFor, FirstKeysDiffer, Orders, AreOffers, ports, outputs_of, inputs_of, Partners, partner_of, ArePairs, with_pair, without, is_pair, AreSameWithout, first_key, kept_has, Has, has_kept, most_ports}
+use Rattle.cq_prefs.proofs.Terms.{common_steps, rules, ◌≡◌, ◌≢◌, ℕ, ◌+◌, ◌<◌, ◌≤◌, eqb, List, [], length, get_or, set, Some, None, arith, not, replicate, map, All, IsDistinct, cases_Bool, cases_eq, cases_lt, eq-eqb, ne_eqb, eqb-true, length-map-range_with_len, get_or-map-range_with_len, length-map, length-set, get_or_past, get_or_default, get_or-set_same, get_or-set_other, ext_get_or, length-replicate, Queued, Waiting, cells_of, AreWaiting, list_of, output_order, input_order, orders_of, HasCellFor, FirstKeysDiffer, Orders, AreOffers, ports, outputs_of, inputs_of, Partners, partner_of, ArePairs, with_pair, without, is_pair, AreSameWithout, first_key, kept_has, Has, has_kept, most_ports, filter_all, all_from_has}
 use Rattle.std.proofs.lemmas.List.{get_or-map}
 use Rattle.std.proofs.lemmas.Simd.{map-map}
 use Rattle.cq_prefs.proofs.InputOrder.{OutputsInRange, before, outputs_at, inputs_at, are_offers, is_input_order}
@@ -46,12 +46,6 @@ orders_made lists n outputs inputs e m end =
     let long = length-map-range_with_len (input_order (cells_of lists)) 0 (length (cells_of lists)) in
     search (arith, rules, ext_get_or [] inputs, length-map, map-map, same_orders, get_or-map-range_with_len)
 
--- ## Filters
-
-filter_all : (p : ℕ → Bool) (xs : List ℕ) → ((k : ℕ) → p k ≡ true) → filter p xs ≡ xs
-filter_all p [] all = refl
-filter_all p (x ∷ xs) all = grind (arith, common_steps, cond-true, filter_all p xs all)
-
 -- ## Partners
 
 -- of the inputs, only the one whose partner it is makes a pair with an output
@@ -73,7 +67,7 @@ pub record Renewing (m : Partners) (n : ℕ) (o t : Orders) : Type 0 where
       without i (inputs_of o j) ≡ without i (inputs_of t j)
 
 pub none_renewed : (m : Partners) (o t : Orders) → ArePairs m → AreOffers o → AreSameWithout m o t → Renewing m 0 o t
-none_renewed m o t pairs v same = search (arith, rules, filter_all, one_partner, ne_eqb)
+none_renewed m o t pairs v same = search (arith, rules, filter_all, all_from_has, one_partner, ne_eqb)
 
 -- the next input has one: its order and that of its partner are renewed
 pub one_more :

@@ -7,8 +7,7 @@ use Rattle.cq_prefs.proofs.ByKey.{found_place, output_parts}
 use Rattle.cq_prefs.proofs.renewal.renew_outputs.Goals as goal
 
 pub place_by_place-at-requires : goal.place_by_place-at-requires
-place_by_place-at-requires c = output_parts c.args.list.now.cells c.in-Some.place c.args.output _
-    (c.as_slice.ensures.ports ∙ c.leave.ensures ∙ c.requires.others)
+place_by_place-at-requires c = search (rules, output_parts c.args.list.now.cells c.in-Some.place c.args.output)
 
 pub insert-requires-clause-room : goal.insert-requires-clause-room
 insert-requires-clause-room c = search (arith, rules, room_back, output_put, output_there, found_place)

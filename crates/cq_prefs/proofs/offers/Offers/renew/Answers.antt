@@ -1,4 +1,4 @@
-use Rattle.cq_prefs.proofs.Terms.{rules, ◌≡◌, ℕ, Some, sym, subst, arith, cells_of, orders_of, Orders, AreSameWithout}
+use Rattle.cq_prefs.proofs.Terms.{rules, ◌≡◌, ℕ, Some, arith, cells_of, orders_of, Orders}
 use Rattle.cq_prefs.specs.declared.offers.Offers.TheInside.{Inside}
 use Rattle.cq_prefs.proofs.InputOrder.{are_orders}
 use Rattle.cq_prefs.proofs.Renewing.{Next, none_renewed, none_between, all_renewed, still_offers, row_asks, column_asks, next_renewed}
@@ -10,9 +10,8 @@ shown s = record { outputs = s.by_input.items; inputs = s.by_output.items }
 
 pub inputs-init : goal.inputs-init
 inputs-init c =
-    let t = orders_of (cells_of c.args.lists.now) in
-    none_renewed c.args.changed.now _ t c.ports-input-end.ensures.pairs c.self.invariant.0
-    (subst (λ o. AreSameWithout c.args.changed.now o t) (sym c.self.view_is) c.requires.others)
+    let first = none_renewed c.args.changed.now (shown c.self.inside) (orders_of (cells_of c.args.lists.now)) in
+    search (arith, rules, first)
 
 -- what is known where the next input has a partner
 next : (c : After-partner_of) (j : ℕ) → c.partner_of.result ≡ Some j →
