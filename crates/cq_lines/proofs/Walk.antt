@@ -113,10 +113,6 @@ pub within_fits : (ranges : List Range) (further : ℕ) (fs : List (Option ℕ))
 within_fits ranges further fs within = recursion_from_All Fits fs (λ i d inside.
     grind (arith, common_steps, get_or_default fs i d None inside, within.each i inside))
 
-pub few_within : (ranges : List Range) (further : ℕ) (to fs : List (Option ℕ)) →
-    length ranges + further ≤ length to → Within ranges further fs → length fs ≤ length to
-few_within ranges further to fs room within = let few = within.few in omega arith
-
 pub line_is_some : (word : List ℕ) (fs : List (Option ℕ)) (more : List ℕ) → line word fs ++ more ≢ []
 line_is_some [] [] more e = cc
 line_is_some _ _ more e = cc
