@@ -79,10 +79,9 @@ module _ (o : Orders) (v : AreOffers o) (s : State) (w : IsSound o s) where
           set (set (matching_of o s) (holder o s (next_output o s i)) None) i (Some (next_output o s i))
           ≡ matching_of o (propose o s i)
       matching-displaced n =
-          let j : ℕ = next_output o s i in
-          let r = output_in_range o v i j st.offered in
-          let held = holder-holds o v s w j r n in
-          let but = others j r n in
+          let r = output_in_range o v i (next_output o s i) st.offered in
+          let held = holder-holds o v s w (next_output o s i) r n in
+          let but = others (next_output o s i) r n in
           search (arith, rules, matching-taken, length-set, matching-of, but, held_once, get_or-set_other, partner-from)
 
 -- ## The steps put together
@@ -119,8 +118,7 @@ module _ {o : Orders} {c : Progress} {i j h : ℕ} {ahead : Option ℕ} (a : IsA
 
   -- there is one proposal more to make
   pub few_made : ports o ≤ most_ports → c.made < 4096
-  few_made few =
-      grind (arith, common_steps, events_at_most o a.offers (i ∷ a.reached.events), mul-le-mul few few)
+  few_made few = search (arith, rules, events_at_most o a.offers (i ∷ a.reached.events), mul-le-mul few few)
 
   -- ## The input went on
 

@@ -1,5 +1,5 @@
 -- The words of this crate's proofs that stand elsewhere, each passed on from its place.
-pub use Rattle.cq_base.proofs.Library.{All, AllPairs, Bool, IfSome, IsDistinct, IsDistinct-from_apart, IsNonDecreasingBy, IsPartitionPoint-from_clause, IsPartitionedBy-leb, IsSome, List, None, Option, Some, [], and-true, and_left, and_right, ap, arith, cases_eq, cases_lt, common_steps, cond_both, eq-eqb, eqb, eqb-true, false, filter, filter_agree, filter_passes, get_or, get_or-range_with_len, get_or-set_other, get_or-set_same, get_or-take, is_none, le-ltb, leb, length, length-range_with_len, length-replicate, length-set, length-take-le, lt-ltb, ltb, ltb-true, mul-le-mul, ne_eqb, nil_from_length, range_with_len, refl, replicate, rules, same_Some, set, set-get_or, slice_get, subst, suc, sym, take, take-replicate, take_all, take_more_set, tests, true, zero, ℕ, ◌*◌, ◌+◌, ◌-◌, ◌<◌, ◌↔◌, ◌∙◌, ◌∷◌, ◌≡◌, ◌≢◌, ◌≤◌}
+pub use Rattle.cq_base.proofs.Library.{All, AllPairs, Bool, IfSome, IsDistinct, IsDistinct-from_apart, IsNonDecreasingBy, IsPartitionPoint-from_clause, IsPartitionedBy-leb, IsSome, List, None, Option, Some, [], and-true, and_left, and_right, ap, arith, cases_eq, cases_lt, common_steps, cond_both, eq-eqb, eqb, eqb-true, false, filter, filter_agree, filter_passes, get_or, get_or-range_with_len, get_or-set_other, get_or-set_same, get_or-take, is_none, le-ltb, leb, length, length-range_with_len, length-replicate, length-set, length-take-le, lt-ltb, ltb, ltb-true, mul-le-mul, ne_eqb, nil_from_length, range_with_len, refl, replicate, rules, same_Some, set, set-get_or, slice_get, subst, suc, sym, take, take-replicate, take_all, take_more_set, tests, true, ℕ, ◌*◌, ◌+◌, ◌-◌, ◌<◌, ◌↔◌, ◌∙◌, ◌∷◌, ◌≡◌, ◌≢◌, ◌≤◌}
 pub use Rattle.cq_base.specs.Items.{Has}
 pub use Rattle.cq_base.specs.Limits.{most_ports}
 pub use Rattle.cq_prefs.proofs.ByKey.{length-put, put_is, first_at_point, le_not_lt}

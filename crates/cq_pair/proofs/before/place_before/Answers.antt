@@ -15,6 +15,4 @@ last_seen order end port None differ inside found none =
     search (arith, rules, away, none, length-take-le end order, get_or-take end order, get_or-place_in order port)
 
 pub returns : goal.returns
-returns c =
-    let both = last_seen c.args.order.now c.args.end c.args.port c.rposition.result in
-    search (arith, rules, both)
+returns c = search (arith, rules, last_seen c.args.order.now c.args.end c.args.port c.rposition.result)

@@ -12,5 +12,4 @@ loop-order-smaller g c =
 pub returns : goal.returns
 returns g c =
     let empty : c.loop-order.self.free ≡ [] = search (arith, rules, nil_from_length, eqb-true) in
-    let best = best-reached c.args.offers.now c.ports-ports.ensures.offers c.loop-order.self c.loop-order.invariant
-    empty in search (arith, rules)
+    search (arith, rules, best-reached c.args.offers.now c.ports-ports.ensures.offers c.loop-order.self)
