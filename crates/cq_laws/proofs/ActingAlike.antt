@@ -10,12 +10,9 @@ use Rattle.cq_laws.proofs.WholeRuns.{empty_agree, run_beside, same_run, same_sto
 module _ (limits : List (Option ℕ)) (ms : List Machine) where
   pub stable_act_alike : ActAlike IsStable limits ms
   stable_act_alike =
-      record {
-        slot = search (rules, same_limited_slot);
-        fault = search (rules, same_limited_fault);
-        run = search (arith, rules, same_limited_run);
-        stop = search (arith, rules, same_limited_stop);
-      }
+      let fault = same_limited_fault limits ms in
+      let stop = same_limited_stop limits ms in
+      search (rules, same_limited_slot limits ms, fault, same_limited_run limits ms, stop)
 
   pub best_act_alike : ActAlike IsInputBest limits ms
   best_act_alike =

@@ -13,19 +13,14 @@
 -- cell for an output is never left: it would have slack 1, so a cushion, so a more urgent cell for the same output.
 -- Each cell is where it was or has crossed to its output, and the first cell for an output that a list gave is in it
 -- no more: so no key is twice, and the cells for each output stay the same.
-use Rattle.cq_laws.proofs.Terms.{rules, ◌≡◌, ◌≢◌, ℕ, suc, ◌+◌, ◌<◌, ◌≤◌, ◌⊎◌, ◌↔◌, List, Option, Some, None, refl, sym, ap, ◌∙◌, inl, inr, ⊎_elim, arith, common_steps, slice_get, eq-eqb, same_Some, cushion_of, Queued, Fabric, input, buffer, IsAmong, IsFabric, ListsKeepOrder, Transfers, EachRises, HasSlack, put, KeepsOrder, is_for, first_for, place_for, without_first, key_laws, first_le, each_pair_left, IsListed, place_in, outputs_of, partner_of, depth, HasBetterInput, IsOutputOrder, AreOrdersOf, orders_of, list_taken, HasFor, IsMostUrgentFor, has_there, stands_at, Partners, IsStable, zero, [], ◌∷◌, cases_lt, cases_eq, eqb-true, IsBefore, each_pair_at, length, Key, Cell, Machine, came_to, list_arrived, Arrives, keeps_order_arrival, all_from_has, drop, Departs, rests, list_of, ArrivesWithSlack, Falls, EachFalls, EachArrivesOrFalls, length-map, IsRising, take-append-drop, has_right}
+use Rattle.cq_laws.proofs.Terms.{rules, ◌≡◌, ◌≢◌, ℕ, suc, ◌+◌, ◌<◌, ◌≤◌, ◌⊎◌, ◌↔◌, List, Option, Some, None, refl, sym, ap, ◌∙◌, inl, inr, ⊎_elim, arith, common_steps, slice_get, eq-eqb, same_Some, cushion_of, Queued, Fabric, input, buffer, IsAmong, IsFabric, ListsKeepOrder, Transfers, EachRises, HasSlack, put, KeepsOrder, is_for, first_for, place_for, without_first, key_laws, first_le, each_pair_left, IsListed, place_in, outputs_of, partner_of, depth, HasBetterInput, IsOutputOrder, AreOrdersOf, orders_of, list_taken, HasFor, IsMostUrgentFor, has_there, stands_at, Partners, IsStable, zero, [], ◌∷◌, cases_lt, cases_eq, eqb-true, IsBefore, each_pair_at, length, Key, Cell, Machine, came_to, list_arrived, Arrives, keeps_order_arrival, all_from_has, drop, Departs, rests, list_of, EachFalls, EachArrivesOrFalls, length-map, IsRising, take-append-drop, has_right}
 use Rattle.cq_laws.proofs.Sound.{from_first, first_at, first_of, left_at, left_or_first, among_put, rising_put, was_waiting, same_cell, Apart, Sound, one_in_order, orders_are, among_insert, insert_has, inserted_at}
 use Rattle.cq_laws.proofs.Cushions.{bit_true, cushion_cons, cushion_has, cushion_put, cushion_rises}
 
 module _ (ms : List Machine) (slot : ℕ) (cells : List (Option Cell)) (came : List (Option Queued)) (old new : Fabric)
     (arrive : Arrives ms slot cells came old new) where
-  fall : (i t : ℕ) (c : Queued) (q : Option Queued) → came_to came i ≡ q →
-      slice_get (list_arrived old q (input old i)) t ≡ Some c →
-      ArrivesWithSlack came new i t c ⊎ Falls 1 old new i t c
-  fall i t c q e at = search (arith, rules, arrive.buffers, inserted_at)
-
   pub arrivals_fall : EachArrivesOrFalls came old new
-  arrivals_fall i t c at = fall i t c (came_to came i) refl (ap (λ xs. slice_get xs t) (sym (arrive.lists i)) ∙ at)
+  arrivals_fall i t c at = search (arith, rules, arrive.buffers, arrive.lists i, inserted_at)
 
 pub rest_of : (lists : List (List Queued)) (j : ℕ) → list_of (rests lists) j ≡ drop 1 (list_of lists j)
 rest_of lists j = grind (arith, common_steps)
@@ -68,9 +63,6 @@ module _ (ms : List Machine) (slot : ℕ) (cells : List (Option Cell)) (came : L
     pub arrived_sound : Sound (slot + 1) new
     arrived_sound = search (arith, rules, same_Some, new_old, arrived_fabric, among_insert, ordered)
 
-    pub arrived_slack : HasSlack 0 new
-    arrived_slack i t c at = grind (arith, common_steps, arrivals_fall ms slot cells came old new arrive i t c at)
-
     pub arrived_has : (j : ℕ) (c : Queued) → HasFor new j c ↔ (HasFor old j c ⊎ CameFor came j c)
     arrived_has j c = search (arith, rules, among_insert, insert_has)
 
@@ -90,9 +82,6 @@ module _ (ms : List Machine) (gone : List (Option Queued)) (slot : ℕ) (old new
 
   pub sent_sound : Sound slot old → Sound slot new
   sent_sound sound = search (arith, rules, sent_fabric, was_crossed)
-
-  pub sent_slack : (n : ℕ) → HasSlack (1 + n) old → HasSlack n new
-  sent_slack n slack i t c at = grind (arith, common_steps, departures_fall ms gone old new depart i t c at)
 
 pub is_partner : (x : Option ℕ) (j : ℕ) → (x ≡ Some j) ⊎ (x ≢ Some j)
 is_partner o j = search (arith, rules, cases_eq, same_Some)

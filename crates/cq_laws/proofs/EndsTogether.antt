@@ -49,11 +49,10 @@ slots_add : (MayChoose : Orders → Partners → Type 0) (ms : List Machine) (sl
     FabricRun MayChoose ms slot traffic f rs g →
     fold max 0 (map (λ r. r.slot + 1) (filter sends rs)) ≡ slots_of (departures_of slot (gone_in rs))
 unfolding departures_of departures_in
-slots_add MayChoose ms slot [] f g [] run = refl
 slots_add MayChoose ms slot (cells ∷ traffic) f g (r ∷ rs) run =
     let rest = slots_add MayChoose ms (slot + 1) traffic run.0 g rs run.2 in
     grind (arith, cond_both, fold-max, cases_Bool (sends r), sent_slots slot 0 r.gone, slots_of-append)
-slots_add MayChoose ms slot traffic f g rs run = absurd run
+slots_add MayChoose ms slot traffic f g rs run = grind (arith, common_steps)
 
 -- so the figures tell the slot of the last departure
 pub slots_of_figures : (MayChoose : Orders → Partners → Type 0) (ms : List Machine) (ports : ℕ)

@@ -2,7 +2,7 @@
 -- slot, so a cell that comes has another key; and each has slack 1, so that the more urgent cells for an output stand
 -- below the cushion of one that comes. All keys differ in each state of a slot, so the cells that cross have keys
 -- that are new in their buffers.
-use Rattle.cq_laws.proofs.Terms.{rules, ◌≡◌, ℕ, ◌+◌, List, length, Option, Some, Ok, sym, arith, Cell, Queued, Machine, IdealState, IsStable, Partners, Agrees, FirstsCanCross, FitsList, Fabric, buffer, input, Arrives, Departs, Transfers, came_to, ranking, all_from_has, orders_of, AreForPorts}
+use Rattle.cq_laws.proofs.Terms.{rules, ◌≡◌, ℕ, ◌+◌, List, length, Option, Some, Ok, arith, Cell, Queued, Machine, IdealState, IsStable, Partners, Agrees, FirstsCanCross, FitsList, Fabric, buffer, input, Arrives, Departs, Transfers, came_to, ranking, all_from_has, orders_of, AreForPorts}
 use Rattle.cq_laws.proofs.AfterPhases.{arrived_sound, sent_sound, moved_sound}
 use Rattle.cq_laws.proofs.Came.{came_from, keyed_from}
 use Rattle.cq_laws.proofs.Cushions.{cushion_rises}
@@ -12,8 +12,7 @@ use Rattle.cq_laws.proofs.OneSlot.{sound_from}
 pub can_cross : (slot : ℕ) (f : Fabric) → Sound slot f → FirstsCanCross f
 can_cross slot f sound = record {
   differ = firsts_differ f sound.apart;
-  keys = λ i j c found. all_from_has _ (buffer f j)
-      (λ d h same. sound.apart.between i j c d (from_first j (input f i) c found).0 h (sym same));
+  keys = λ i j c found. search (rules, all_from_has, sound.apart.between i j c, from_first j (input f i) c found);
 }
 
 module _ (ms : List Machine) (slot class_count : ℕ) (cells : List (Option Cell)) (came : List (Option Queued))

@@ -1,6 +1,7 @@
 -- The lists of the ideal switch after arrivals. The list of an output has what it had and what came for it, and no
 -- key twice, so it stays in the order of keys.
-use Rattle.cq_laws.proofs.Terms.{common_steps, rules, ◌≡◌, ◌≢◌, ℕ, zero, suc, ◌<◌, ◌⊎◌, cond, List, [], ◌∷◌, length, Option, Some, None, refl, inl, inr, ⊎_elim, arith, cases_lt, cond_both, eqb-true, eq-eqb, ne_eqb, true≢false, same_Some, get_or_past, get_or-map-range_with_len, Queued, IsAmong, came_to, IsRising, put, is_for, put_all, filled, list_of, length-filled}
+use Rattle.cq_laws.proofs.Terms.{common_steps, rules, ◌≡◌, ◌≢◌, ℕ, zero, suc, ◌<◌, ◌⊎◌, cond, List, [], ◌∷◌, length, Option, Some, None, refl, inl, inr, ⊎_elim, arith, cases_lt, cond_both, eqb-true, eq-eqb, true≢false, same_Some, get_or_past, get_or-map-range_with_len, Queued, IsAmong, came_to, IsRising, put, is_for, put_all, filled, list_of, length-filled}
+use Rattle.cq_base.proofs.Having.{none_had}
 use Rattle.cq_laws.proofs.Sound.{among_put, rising_put}
 use Rattle.cq_laws.proofs.AfterPhases.{CameFor}
 
@@ -40,14 +41,10 @@ rising_put_all j (Some q ∷ came) xs r new once = rising_put_all j came (cond (
     (λ k s d a h e. grind (arith, common_steps, cond_both, among_put, new (suc k) s d a, once (suc k) zero s q a refl))
     (λ k l s t a b e. omega (arith, once (suc k) (suc l) s t a b e))
 
-put_all_none : (j : ℕ) (came : List (Option Queued)) (xs : List Queued) →
-    ((k : ℕ) (q : Queued) → came_to came k ≡ Some q → q.cell.output ≢ j) → put_all j came xs ≡ xs
-put_all_none j [] xs none = refl
-put_all_none j (q ∷ came) xs none = search (arith, rules, ne_eqb, none zero, put_all_none j came xs (λ k. none (suc k)))
-
 pub list_after : (came : List (Option Queued)) (lists : List (List Queued)) →
     ((k : ℕ) (q : Queued) → came_to came k ≡ Some q → q.cell.output < length lists) → (j : ℕ) →
     list_of (filled came lists) j ≡ put_all j came (list_of lists j)
 unfolding filled
 list_after came lists inside j =
-    search (rules, get_or-map-range_with_len, put_all_none, get_or_past, length-filled, cases_lt)
+    let none = none_had (put_all j came (list_of lists j)) in
+    search (arith, rules, get_or-map-range_with_len, none, among_put_all, get_or_past, length-filled, cases_lt, inside)

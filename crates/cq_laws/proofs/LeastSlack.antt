@@ -3,7 +3,7 @@
 -- arrivals. So it never falls, and each cell that waits has more slack than the least so far. After arrivals it has
 -- no less, so that of all slacks then only those of the cells that have arrived can be the least: slot by slot, and
 -- so over a whole run.
-use Rattle.cq_laws.proofs.Terms.{has_there, stands_at, common_steps, rules, ◌≡◌, ℕ, zero, suc, ◌+◌, ◌-◌, ◌<◌, ◌≤◌, ◌⊎◌, Bool, true, false, List, [], ◌∷◌, length, map, Option, Some, None, refl, inl, ⊎_elim, arith, ◌==◌, min, fold, insert, slice_get, AllByRecursion, enumerate_from, position_or_len, reduce, option_map, cases_lt, eq-eqb, ne_eqb, length-map, get_or_past, length-enumerate_from, same_Some, slice_get-get_or, Cell, Queued, Figures, place_of_arrival, Machine, AreForPorts, IdealState, IsStable, Fabric, input, cushion_of, came_to, Arrives, EachArrivesOr, EachRises, SlotRecord, FabricSlot, Agrees, InputFigures, first_here, first_later, slacks, either_by, input_after, figures_after, slack_on_arrival, all_from_has, Has, Falls, least_slack, HasMoreSlack, option_and_then, filter_map, replicate, cons_option, length-replicate, empty_fabric, FabricRun, empty_ideal, figures_of, no_figures}
+use Rattle.cq_laws.proofs.Terms.{has_there, stands_at, common_steps, rules, ◌≡◌, ℕ, suc, ◌+◌, ◌-◌, ◌<◌, ◌≤◌, ◌⊎◌, Bool, true, false, List, [], ◌∷◌, length, map, Option, Some, None, refl, inl, ⊎_elim, arith, ◌==◌, min, fold, insert, slice_get, AllByRecursion, enumerate_from, position_or_len, reduce, option_map, cases_lt, eq-eqb, ne_eqb, length-map, get_or_past, length-enumerate_from, same_Some, slice_get-get_or, Cell, Queued, Figures, place_of_arrival, Machine, AreForPorts, IdealState, IsStable, Fabric, input, cushion_of, came_to, Arrives, EachArrivesOr, EachRises, SlotRecord, FabricSlot, Agrees, InputFigures, first_here, first_later, slacks, either_by, input_after, figures_after, slack_on_arrival, all_from_has, Has, Falls, least_slack, HasMoreSlack, option_and_then, filter_map, replicate, cons_option, length-replicate, empty_fabric, FabricRun, empty_ideal, figures_of, no_figures}
 use Rattle.std.proofs.lemmas.List.Edits.{get_or-insert_at, length-insert}
 use Rattle.cq_laws.proofs.AfterPhases.{arrivals_fall, departures_fall}
 use Rattle.cq_laws.proofs.Sound.{one_in_order}
@@ -62,9 +62,8 @@ listed_slack f i v h =
 
 position-insert : (q : Queued → Bool) (xs : List Queued) (p : ℕ) (n : Queued) → p ≤ length xs → q n ≡ true →
     AllByRecursion (λ x. q x ≡ false) xs → position_or_len q (insert xs p n) ≡ p
-position-insert q xs zero n le here others = first_here q n xs here
-position-insert q [] (suc p) n le here others = absurd (omega arith)
 position-insert q (x ∷ xs) (suc p) n le here others = search (rules, first_later, position-insert q xs p n)
+position-insert q xs p n le here others = grind (arith, common_steps, first_here)
 
 at_insert : (xs : List Queued) (p : ℕ) (n : Queued) → p ≤ length xs → slice_get (insert xs p n) p ≡ Some n
 at_insert xs p n le =
@@ -159,12 +158,11 @@ module _ (ms : List Machine) (class_count : ℕ) where
       HasMoreSlack x f → i < length x.inputs →
       least_slack (fold figures_after x rs) i
       ≡ either_by min (least_slack x i) (reduce min (filter_map (slack_on_arrival i) rs))
-  least_run slot [] f g ideal [] x i agrees come run has inside = search (arith, rules)
   least_run slot (cells ∷ traffic) f g ideal (r ∷ rs) x i agrees come run has inside =
       let more = more_after ms slot class_count cells f run.0 ideal r agrees come.0 run.1 x has.ports in
       let one = same_slot ms slot class_count cells f run.0 ideal r agrees come.0 run.1 in
       search (arith, rules, least_after, by_arrivals, reduce-cons, least_run (slot + 1) traffic run.0)
-  least_run slot traffic f g ideal rs x i agrees come run has inside = absurd run
+  least_run slot traffic f g ideal rs x i agrees come run has inside = grind (arith, common_steps)
 
 -- before the first slot no input has a least slack, and no cell waits
 no_least : (n i : ℕ) →

@@ -18,11 +18,10 @@ module _ (limits : List (Option ℕ)) (ms : List Machine) (class_count : ℕ) wh
       (ideal : Marked IdealState) (rs : List LimitedRecord) → Stands slot traffic f ideal →
       LimitedFabricRun IsStable limits ms slot traffic f rs g → LimitedRunsAlike limits ms slot traffic ideal rs g
   unfolding limited_run
-  same_limited_run slot [] f g ideal [] s run = search (arith, rules)
   same_limited_run slot (cells ∷ traffic) f g ideal (r ∷ rs) s run =
       let one = same_limited_slot limits ms slot class_count cells f run.0 ideal r s.agrees s.come.0 run.1 in
       search (arith, rules, limited_ports_kept, same_limited_run (slot + 1) traffic run.0 g one.next rs)
-  same_limited_run slot traffic f g ideal rs s run = absurd run
+  same_limited_run slot traffic f g ideal rs s run = grind (arith, common_steps)
 
   pub same_limited_stop : (slot : ℕ) (traffic : List (List (Option Cell))) (f : Marked Fabric)
       (ideal : Marked IdealState) (rs : List LimitedRecord) (fault : TagFault) → Stands slot traffic f ideal →
@@ -40,11 +39,10 @@ module _ (limits : List (Option ℕ)) (ms : List Machine) (class_count : ℕ) wh
   pub limited_run_slack : (slot : ℕ) (traffic : List (List (Option Cell))) (f g : Marked Fabric)
       (ideal : Marked IdealState) (rs : List LimitedRecord) → Stands slot traffic f ideal →
       LimitedFabricRun IsStable limits ms slot traffic f rs g → AllByRecursion (λ r. HasSlack 0 r.of_slot.arrived) rs
-  limited_run_slack slot [] f g ideal [] s run = tt
   limited_run_slack slot (cells ∷ traffic) f g ideal (r ∷ rs) s run =
       let one = same_limited_slot limits ms slot class_count cells f run.0 ideal r s.agrees s.come.0 run.1 in
       search (arith, rules, limited_slack_arrived, limited_ports_kept, limited_run_slack (slot + 1) traffic run.0)
-  limited_run_slack slot traffic f g ideal rs s run = absurd run
+  limited_run_slack slot traffic f g ideal rs s run = grind (arith, common_steps)
 
   -- ## They are runs of what is admitted
 
@@ -73,10 +71,9 @@ module _ (limits : List (Option ℕ)) (ms : List Machine) (class_count : ℕ) wh
 pub fabric_judged : (MayChoose : Orders → Partners → Type 0) (limits : List (Option ℕ)) (ms : List Machine) (slot : ℕ)
     (traffic : List (List (Option Cell))) (f g : Marked Fabric) (rs : List LimitedRecord) →
     LimitedFabricRun MayChoose limits ms slot traffic f rs g → AreJudged limits f.marks traffic (admissions_in rs)
-fabric_judged MayChoose limits ms slot [] f g [] run = tt
 fabric_judged MayChoose limits ms slot (cells ∷ traffic) f g (r ∷ rs) run =
     grind (arith, common_steps, fabric_judged MayChoose limits ms (slot + 1) traffic run.0 g rs run.2)
-fabric_judged MayChoose limits ms slot traffic f g rs run = absurd run
+fabric_judged MayChoose limits ms slot traffic f g rs run = grind (arith, common_steps)
 
 pub limited_empty_agree : (ports : ℕ) (ranks : List (List ℕ)) →
     LimitedAgrees 0 (empty_limited_fabric ports ranks) (empty_limited ports ranks)

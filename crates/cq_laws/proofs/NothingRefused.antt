@@ -1,6 +1,6 @@
 -- Where nothing is refused a slot with limits is the slot without, and no mark moves; so it is with runs. Nothing is
 -- refused where no output has a limit and no mark is up, nor where nothing arrives.
-use Rattle.cq_laws.proofs.Terms.{common_steps, arith, rules, ◌≡◌, ℕ, ◌+◌, Bool, List, [], ◌∷◌, replicate, Option, refl, sym, ap, AllByRecursion, Cell, TagFault, no_arrivals, Machine, Partners, Fabric, FabricRun, FabricStops, SlotRecord, FabricSlot, LimitedRecord, LimitedFabricSlot, LimitedFabricRun, LimitedFabricStops, slots_in, passed, RefusesNone, marked, nothing_refused, none_in, Orders, fabric_held, Marked, none_refused_in}
+use Rattle.cq_laws.proofs.Terms.{common_steps, arith, rules, ◌≡◌, ℕ, ◌+◌, Bool, List, [], ◌∷◌, replicate, Option, refl, sym, AllByRecursion, Cell, TagFault, no_arrivals, Machine, Partners, Fabric, FabricRun, FabricStops, SlotRecord, FabricSlot, LimitedRecord, LimitedFabricSlot, LimitedFabricRun, LimitedFabricStops, slots_in, passed, RefusesNone, marked, nothing_refused, none_in, Orders, fabric_held, Marked, none_refused_in}
 
 module _ (MayChoose : Orders → Partners → Type 0) (limits : List (Option ℕ)) (ms : List Machine) (marks : List Bool)
   where
@@ -31,18 +31,17 @@ module _ (MayChoose : Orders → Partners → Type 0) (limits : List (Option ℕ
     pub run_with : (slot : ℕ) (traffic : List (List (Option Cell))) (f g : Fabric) (rs : List SlotRecord) →
         None_in traffic → FabricRun MayChoose ms slot traffic f rs g →
         LimitedFabricRun MayChoose limits ms slot traffic (marked marks f) (passed marks traffic rs) (marked marks g)
-    run_with slot [] f g [] none run = ap (marked marks) run
     run_with slot (cells ∷ traffic) f g (r ∷ rs) none run =
         grind (arith, common_steps, slot_with, run_with (slot + 1) traffic run.0 g rs none.1 run.2)
-    run_with slot traffic f g rs none run = absurd run
+    run_with slot traffic f g rs none run = grind (arith, common_steps)
 
     pub stop_without : (slot : ℕ) (traffic : List (List (Option Cell))) (f : Fabric) (rs : List LimitedRecord)
         (fault : TagFault) → None_in traffic →
         LimitedFabricStops MayChoose limits ms slot traffic (marked marks f) rs fault →
         FabricStops MayChoose ms slot traffic f (slots_in rs) fault
-    stop_without slot [] f rs fault none run = absurd run
     stop_without slot (cells ∷ traffic) f rs fault none run =
         grind (arith, common_steps, stop_without (slot + 1) traffic)
+    stop_without slot traffic f rs fault none run = grind (arith, common_steps)
 
     -- ## Slots without arrivals
 

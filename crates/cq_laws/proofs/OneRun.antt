@@ -77,13 +77,12 @@ pub one_slot : (ms : List Machine) (slot : ℕ) (cells : List (Option Cell)) (f 
     FabricSlot IsInputBest ms slot cells f r g → FabricSlot IsInputBest ms slot cells f r' g' → (r ≡ r') × (g ≡ g')
 one_slot ms slot cells f g g' r r' x y =
     let arrive = one_arrival ms slot cells r.came r'.came f r.arrived r'.arrived x.arrive y.arrive in
-    let first = one_input_best _ r.first r'.first x.first_chosen (rw (← arrive.1) at y.first_chosen) in
-    let fill : Transfers r.first r.arrived r'.filled = rw (← arrive.1, ← first) at y.fill in
-    let filled = one_transfer r.first r.arrived r.filled r'.filled x.first_chosen.stable x.fill fill in
-    let depart = one_departure ms r.gone r'.gone r.filled r'.filled r.sent r'.sent filled x.depart y.depart in
-    let second = one_input_best _ r.second r'.second x.second_chosen (rw (← depart.1) at y.second_chosen) in
-    let finish : Transfers r.second r.sent g' = rw (← depart.1, ← second) at y.finish in
-    grind (arith, same_record r r', one_transfer r.second r.sent g g' x.second_chosen.stable x.finish finish)
+    let first = one_input_best (orders_of r.arrived.inputs) r.first r'.first x.first_chosen in
+    let filled = one_transfer r.first r.arrived r.filled r'.filled x.first_chosen.stable x.fill in
+    let depart = one_departure ms r.gone r'.gone r.filled r'.filled r.sent r'.sent in
+    let second = one_input_best (orders_of r.sent.inputs) r.second r'.second x.second_chosen in
+    let finish = one_transfer r.second r.sent g g' x.second_chosen.stable x.finish in
+    grind (arith, common_steps, same_record r r', first, filled, depart, second, finish)
 
 -- ## One run
 

@@ -2,9 +2,9 @@
 -- after the arrivals, 1 after the first transfer, 0 after the departures, and 1 again after the second transfer.
 -- After the first transfer each cell that still waits at an input has slack 1, so it comes after a cell that its
 -- output has: the ideal list covers the buffer, both send the same cell, and the states agree again.
-use Rattle.cq_laws.proofs.Terms.{rules, ◌≡◌, ℕ, ◌+◌, ◌↔◌, List, length, Option, Err, sym, ap, ◌∙◌, inl, inr, arith, drop, zero, suc, ◌⊎◌, [], ◌∷◌, refl, common_steps, Cell, Queued, TagFault, Machine, AreForPorts, IsStable, Fabric, input, buffer, IsAmong, HasSlack, SlotRecord, FabricSlot, Partners, Agrees, IsWholeFabric, ListsKeepOrder, EachIsWhole, Arrives, Transfers, Departs, IsBefore, IsRising, put_all, filled, fronts, rests, all_told, ideal_slot, list_of, HasFor, SendsAlike, slice_get, length-map-range_with_len, length-filled, ranks_kept, all_of_has, stands_at, ranking, orders_of, IdealState, length-map}
+use Rattle.cq_laws.proofs.Terms.{rules, ◌≡◌, ℕ, ◌+◌, ◌↔◌, List, length, Option, Err, sym, ◌∙◌, inl, inr, arith, drop, zero, suc, ◌⊎◌, [], ◌∷◌, refl, common_steps, Cell, Queued, TagFault, Machine, AreForPorts, IsStable, Fabric, input, buffer, IsAmong, HasSlack, SlotRecord, FabricSlot, Partners, Agrees, IsWholeFabric, ListsKeepOrder, EachIsWhole, Arrives, Transfers, Departs, IsBefore, IsRising, put_all, filled, fronts, rests, all_told, ideal_slot, list_of, HasFor, SendsAlike, slice_get, length-map-range_with_len, length-filled, ranks_kept, all_of_has, stands_at, ranking, orders_of, IdealState, length-map}
 use Rattle.cq_laws.proofs.Cushions.{cushion_has}
-use Rattle.cq_laws.proofs.AfterPhases.{rest_of, Keyed, arrived_sound, arrived_slack, arrived_has, arrived_fabric, sent_sound, sent_slack, sent_buffer, rising_rest, sent_fabric, Moved, moved, moved_fabric}
+use Rattle.cq_laws.proofs.AfterPhases.{arrivals_fall, departures_fall, rest_of, Keyed, arrived_sound, arrived_has, arrived_fabric, sent_sound, sent_buffer, rising_rest, sent_fabric, Moved, moved, moved_fabric}
 use Rattle.cq_laws.proofs.Sound.{Sound, apart_from, early_from, differ_from, all_before, Apart, never_both, not_before_itself, same_first}
 use Rattle.cq_laws.proofs.Came.{keyed_from}
 use Rattle.cq_laws.proofs.IdealLists.{among_put_all, put_all_keeps, put_all_new, rising_put_all, list_after}
@@ -17,9 +17,8 @@ use Rattle.cq_laws.proofs.IdealLists.{among_put_all, put_all_keeps, put_all_new,
 
 pub same_fronts : (more bs : List (List Queued)) → length more ≡ length bs →
     ((j : ℕ) → slice_get (list_of more j) 0 ≡ slice_get (list_of bs j) 0) → fronts more ≡ fronts bs
-same_fronts [] [] n h = refl
 same_fronts (a ∷ more) (b ∷ bs) n h = grind (arith, h zero, same_fronts more bs (omega arith) (λ j. h (suc j)))
-same_fronts more bs n h = absurd (omega arith)
+same_fronts more bs n h = grind (arith, common_steps)
 
 -- Two rising lists, where the first has the cells of the second and others that wait, each behind a more urgent one
 -- of the second.
@@ -83,7 +82,8 @@ module _ (ms : List Machine) (slot class_count : ℕ) (cells : List (Option Cell
   arrived = arrived_sound ms slot cells r.came f r.arrived step.arrive keyed old_sound agrees.slack
 
   pub slack_arrived : HasSlack 0 r.arrived
-  slack_arrived = arrived_slack ms slot cells r.came f r.arrived step.arrive keyed old_sound agrees.slack
+  slack_arrived i t c at =
+      grind (arith, common_steps, agrees.slack, arrivals_fall ms slot cells r.came f r.arrived step.arrive i t c at)
 
   pub first : Moved (slot + 1) r.arrived r.filled
   first = moved (slot + 1) r.arrived r.filled r.first arrived step.first_chosen step.fill
@@ -125,32 +125,28 @@ module _ (ms : List Machine) (slot class_count : ℕ) (cells : List (Option Cell
   as_many : length lists ≡ length f.inputs
   as_many = length-filled r.came ideal.lists ∙ agrees.ports
 
-  still_as_many : length r.filled.inputs ≡ length f.inputs
-  still_as_many = step.fill.moves.ports.0 ∙ step.arrive.ports
-
   pub ports_kept : length f'.inputs ≡ length f.inputs
-  ports_kept = step.finish.moves.ports.0 ∙ ap length step.depart.inputs ∙ still_as_many
+  ports_kept = cc
 
   same_gone : fronts lists ≡ r.gone
-  same_gone = grind (arith, common_steps, as_many, still_as_many, same_fronts, follow)
+  same_gone = grind (arith, common_steps, length-filled r.came ideal.lists, same_fronts, follow)
 
   abbrev after : IdealState
   after = record { lists = rests lists; ranks = all_told ms (fronts lists) r.arrived.ranks }
 
-  left_is : (j : ℕ) → buffer r.sent j ≡ drop 1 (buffer r.filled j)
-  left_is j = sent_buffer ms r.gone (slot + 1) r.filled r.sent step.depart j
-
   after_same : (j : ℕ) (c : Queued) → IsAmong c (list_of after.lists j) ↔ HasFor f' j c
-  after_same j c = (
-    λ h. (second.has j c).1 (rw (step.depart.inputs, left_is j) ((follow j).to c (rw (rest_of lists j) at h))),
-    λ h. rw (rest_of lists j) ((follow j).back c (rw (step.depart.inputs, left_is j) at ((second.has j c).0 h))),
-  )
+  after_same j c =
+      let left = sent_buffer ms r.gone (slot + 1) r.filled r.sent step.depart j in (
+        λ h. (second.has j c).1 (rw (step.depart.inputs, left) ((follow j).to c (rw (rest_of lists j) at h))),
+        λ h. rw (rest_of lists j) ((follow j).back c (rw (step.depart.inputs, left) at ((second.has j c).0 h))),
+      )
 
   pub same_slot : SendsAlike ms slot cells ideal r.gone f'
   unfolding ideal_slot
   same_slot =
+      let fall = departures_fall ms r.gone r.filled r.sent step.depart in
       let sent = first.slack 0 slack_arrived in
-      let slack = second.slack 0 (sent_slack ms r.gone (slot + 1) r.filled r.sent step.depart 0 sent) in
+      let slack = second.slack 0 (λ i t c at. grind (arith, common_steps, sent, fall i t c at)) in
       let ports = length-map lists (λ (xs : List Queued). drop 1 xs) ∙ as_many ∙ sym ports_kept in
       let agree : Agrees (slot + 1) f' after =
       search (rules, same_gone, rest_of, rising_rest, full_rises, after_same, differ_from, all_before, second.sound) in

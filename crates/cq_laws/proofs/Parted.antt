@@ -2,25 +2,23 @@
 -- run, and where that ended the others go on. So a run over many slots passes through the end of each shorter one,
 -- and two whole runs of which each slot leaves no choice are one. The departures and the transfers of two runs on
 -- end are those of the first and then those of the second.
-use Rattle.cq_laws.proofs.Terms.{common_steps, rules, ◌≡◌, ℕ, suc, ◌+◌, ◌-◌, ◌<◌, ◌≤◌, List, [], ◌∷◌, ◌++◌, length, drop, Option, refl, ap, arith, AllByRecursion, cases_lt, take_all, Arrival, end_of, Cell, IsEnd, arriving_from, first_slots, arriving_length, arriving_parts, AfterBy, HasParts, RunBy, WholeBy, all_front, TagFault, StopBy, GoOn, append-nil, map-append, length-map, flat_map-append, departures_of, departures_in, departures_append, gone_in, transfers_in, transfers_of_run, SlotRecord}
+use Rattle.cq_laws.proofs.Terms.{common_steps, rules, ◌≡◌, ℕ, suc, ◌+◌, ◌-◌, ◌<◌, ◌≤◌, List, [], ◌∷◌, ◌++◌, length, drop, Option, ap, arith, AllByRecursion, cases_lt, take_all, Arrival, end_of, Cell, IsEnd, arriving_from, first_slots, arriving_length, arriving_parts, AfterBy, HasParts, RunBy, WholeBy, all_front, TagFault, StopBy, GoOn, append-nil, map-append, length-map, flat_map-append, departures_of, departures_in, departures_append, gone_in, transfers_in, transfers_of_run, SlotRecord}
 
 module _ {S R : Type 0} (Step : ℕ → List (Option Cell) → S → R → S → Type 0)
     (Fault : ℕ → List (Option Cell) → S → TagFault → Type 0) where
   joined : (slot : ℕ) (before after : List (List (Option Cell))) (f m g : S) (rs ss : List R) →
       RunBy Step slot before f rs m → RunBy Step (slot + length before) after m ss g →
       RunBy Step slot (before ++ after) f (rs ++ ss) g
-  joined slot [] after f m g [] ss x y = grind (arith, common_steps)
   joined slot (cells ∷ before) after f m g (r ∷ rs) ss x y =
       grind (arith, common_steps, joined (slot + 1) before after x.0 m g rs ss x.2)
-  joined slot before after f m g rs ss x y = absurd x
+  joined slot before after f m g rs ss x y = grind (arith, common_steps)
 
   stopped : (slot : ℕ) (before after : List (List (Option Cell))) (f m : S) (rs ss : List R) (fault : TagFault) →
       RunBy Step slot before f rs m → StopBy Step Fault (slot + length before) after m ss fault →
       StopBy Step Fault slot (before ++ after) f (rs ++ ss) fault
-  stopped slot [] after f m [] ss fault x y = grind (arith, common_steps)
   stopped slot (cells ∷ before) after f m (r ∷ rs) ss fault x y =
       grind (arith, common_steps, stopped (slot + 1) before after x.0 m rs ss fault x.2)
-  stopped slot before after f m rs ss fault x y = absurd x
+  stopped slot before after f m rs ss fault x y = grind (arith, common_steps)
 
   pub all_go_on : GoOn Step Fault
   all_go_on = grind (arith, common_steps, joined, stopped)
@@ -32,15 +30,13 @@ fewer_fit P came m n le all = search (arith, rules, all_front, arriving_parts ca
 module _ {S R : Type 0} (Step : ℕ → List (Option Cell) → S → R → S → Type 0) where
   pub run_length : (slot : ℕ) (traffic : List (List (Option Cell))) (f g : S) (rs : List R) →
       RunBy Step slot traffic f rs g → length rs ≡ length traffic
-  run_length slot [] f g [] x = refl
   run_length slot (cells ∷ traffic) f g (r ∷ rs) x = ap suc (run_length (slot + 1) traffic x.0 g rs x.2)
-  run_length slot traffic f g rs x = absurd x
+  run_length slot traffic f g rs x = grind (arith, common_steps)
 
   pub parts : (slot : ℕ) (before after : List (List (Option Cell))) (f h : S) (rs : List R) →
       RunBy Step slot (before ++ after) f rs h → HasParts Step slot before after f rs h
-  parts slot [] after f h rs x = grind (arith, common_steps)
-  parts slot (cells ∷ before) after f h [] x = absurd x
   parts slot (cells ∷ before) after f h (r ∷ rs) x = search (rules, parts (slot + 1) before after x.0 h rs x.2)
+  parts slot before after f h rs x = grind (arith, common_steps)
 
   module _ (came : List Arrival) (start : S) (rs : List R) where
     -- where the run is after fewer slots, and how it goes on

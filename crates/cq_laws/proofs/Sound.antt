@@ -35,25 +35,11 @@ first_of p (x ∷ xs) c h e = cond_both (p x) (Some x) (find p xs) (λ o. (f : Q
 -- ## A list without its first cell for an output
 
 -- where a cell that is left stood before: at this place, or at the next if that is behind the one that was taken
-pub record StoodAt (j : ℕ) (xs : List Queued) (t : ℕ) (c : Queued) : Type 0 where
-  pub place : ℕ
-  pub at : slice_get xs place ≡ Some c
-  pub side : ((place ≡ t) × (t < place_for j xs)) ⊎ ((place ≡ suc t) × (place_for j xs ≤ t))
-
 pub left_at : (j : ℕ) (xs : List Queued) (t : ℕ) (c : Queued) → slice_get (without_first j xs) t ≡ Some c →
-    StoodAt j xs t c
+    ((slice_get xs t ≡ Some c) × (t < place_for j xs)) ⊎ ((slice_get xs (suc t) ≡ Some c) × (place_for j xs ≤ t))
 left_at j [] t c h = cc
 left_at j (x ∷ xs) t c h =
-    cond_both (is_for j x) xs (x ∷ without_first j xs) (λ l. slice_get l t ≡ Some c → StoodAt j (x ∷ xs) t c) (λ e at.
-    let here = first_here (is_for j) x xs e in record { place = suc t; at = at; side = inr (refl, omega arith) })
-    (λ e. later t c (first_later (is_for j) x xs e) (left_at j xs)) h
-  where
-    later : (t : ℕ) (c : Queued) → place_for j (x ∷ xs) ≡ 1 + place_for j xs → ((s : ℕ) (c : Queued) →
-        slice_get (without_first j xs) s ≡ Some c → StoodAt j xs s c) → slice_get (x ∷ without_first j xs) t ≡ Some c →
-        StoodAt j (x ∷ xs) t c
-    later zero c e rest h = record { place = zero; at = h; side = inl (refl, omega arith) }
-    later (suc t) c e rest h =
-        let r = rest t c h in record { place = suc r.place; at = r.at; side = grind (arith, r.side) }
+    grind (arith, common_steps, cond_both, first_here (is_for j) x xs, first_later (is_for j) x xs, left_at j xs)
 
 -- a cell of the list is left, or it is the first
 pub left_or_first : (j : ℕ) (xs : List Queued) (c : Queued) → IsAmong c xs →

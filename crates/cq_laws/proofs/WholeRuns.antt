@@ -9,11 +9,10 @@ module _ (ms : List Machine) (class_count : ℕ) where
       AllByRecursion (AreForPorts (length f.inputs) class_count) traffic → FabricRun IsStable ms slot traffic f rs g →
       RunsAlike ms slot traffic ideal rs g
   unfolding ideal_run
-  same_run slot [] f g ideal [] agrees come run = search (arith, rules)
   same_run slot (cells ∷ traffic) f g ideal (r ∷ rs) agrees come run =
       let one = same_slot ms slot class_count cells f run.0 ideal r agrees come.0 run.1 in
       search (arith, rules, ports_kept, same_run (slot + 1) traffic run.0 g one.next rs one.agrees)
-  same_run slot traffic f g ideal rs agrees come run = absurd run
+  same_run slot traffic f g ideal rs agrees come run = grind (arith, common_steps)
 
   pub same_stop : (slot : ℕ) (traffic : List (List (Option Cell))) (f : Fabric) (ideal : IdealState)
       (rs : List SlotRecord) (fault : TagFault) → Agrees slot f ideal →
@@ -32,11 +31,10 @@ module _ (ms : List Machine) (class_count : ℕ) where
       (rs : List SlotRecord) → Agrees slot f ideal →
       AllByRecursion (AreForPorts (length f.inputs) class_count) traffic → FabricRun IsStable ms slot traffic f rs g →
       AllByRecursion (λ r. HasSlack 0 r.arrived) rs
-  run_slack slot [] f g ideal [] agrees come run = tt
   run_slack slot (cells ∷ traffic) f g ideal (r ∷ rs) agrees come run =
       let one = same_slot ms slot class_count cells f run.0 ideal r agrees come.0 run.1 in
       grind (arith, slack_arrived, ports_kept, run_slack (slot + 1) traffic run.0 g one.next rs one.agrees)
-  run_slack slot traffic f g ideal rs agrees come run = absurd run
+  run_slack slot traffic f g ideal rs agrees come run = grind (arith, common_steps)
 
 -- ## States that agree are empty together
 
