@@ -60,12 +60,11 @@ module _ (i : ℕ) where
   pub refused_are : (limits : List (Option ℕ)) (marks : List Bool) (traffic : List (List (Option Cell)))
       (admissions : List Admission) → AreJudged limits marks traffic admissions → AllByRecursion (StandAt 0) traffic →
       of_input (refused_in admissions) ≡ refused_here limits i traffic admissions
-  refused_are limits marks [] admissions judged at = grind (arith, common_steps)
-  refused_are limits marks (cells ∷ traffic) [] judged at = absurd judged
   refused_are limits marks (cells ∷ traffic) (a ∷ admissions) judged at =
       let is = its_marks limits marks cells a judged.0 in
       let rest = refused_are limits a.marks traffic admissions judged.1 at.1 in
       grind (arith, common_steps, filter-append, refused_at_place 0 a.marks cells, listed, rest)
+  refused_are limits marks traffic admissions judged at = grind (arith, common_steps)
 
 -- ## The arrivals at an input
 
@@ -84,13 +83,10 @@ abbrev pub cells_of : List Arrival → List Cell
 cells_of line = map (λ (a : Arrival). a.cell) line
 
 -- where all that is still to come at the input is later, nothing is found earlier
-no_earlier : (i : ℕ) (a : Arrival) (came : List Arrival) (t : ℕ) →
-    AllByRecursion (λ b. b.cell.id.input ≡ i → a.slot < b.slot) came → t < a.slot + 1 → found came t i ≡ []
-no_earlier i a came t later l = grind (arith, common_steps, found_none came t i, all_weaker)
-
-later_on : (i : ℕ) (a : Arrival) (came : List Arrival) → RiseByInput (a ∷ came) → a.cell.id.input ≡ i →
-    AllByRecursion (λ b. b.cell.id.input ≡ i → a.slot < b.slot) came
-later_on i a came rise same = let later = λ (t : ℕ). rise zero (suc t) a in search (arith, rules, all_by, later)
+no_earlier : (i t : ℕ) (a : Arrival) (came : List Arrival) → RiseByInput (a ∷ came) → a.cell.id.input ≡ i →
+    t < a.slot + 1 → found came t i ≡ []
+no_earlier i t a came rise same l =
+    let later = λ (s : ℕ). rise zero (suc s) a in search (arith, rules, found_none, all_by, later)
 
 -- of the line of an input, what is found in a slot stands in front of what is later
 found_first : (i t : ℕ) (came : List Arrival) → RiseByInput came →
@@ -99,7 +95,7 @@ unfolding found
 found_first i t [] rise = refl
 found_first i t (a ∷ came) rise =
     let rest = found_first i t came (λ s t x y at_s at_t l. rise (suc s) (suc t) x y at_s at_t (omega arith)) in
-    let none = λ (same : a.cell.id.input ≡ i). no_earlier i a came t (later_on i a came rise same) in
+    let none = no_earlier i t a came rise in
     grind (arith, common_steps, other_input, other_slot, found_here, cases_lt, cases_eq, eq-eqb, lt-ltb, le-ltb, none)
 
 all_past : (i t : ℕ) (came : List Arrival) → AllByRecursion (λ a. a.slot < t) came → rest_of t (line_at i came) ≡ []

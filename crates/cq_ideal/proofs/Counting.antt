@@ -3,9 +3,9 @@
 -- are judged one after another: the marks so far, and then those of judging what is left, are those of judging all; and
 -- what the outputs hold so far, with what is still to be admitted, is what they hold at the end.
 
-use Rattle.cq_ideal.proofs.Terms.{rules, ◌≡◌, ◌≢◌, ℕ, zero, suc, ◌+◌, ◌-◌, ◌<◌, ◌≤◌, ◌^◌, eqb, Bool, true, false, cond, List, [], ◌∷◌, ◌++◌, length, drop, get_or, set, Option, Some, None, refl, arith, common_steps, All-from_recursion, drop_all, drop_more, get_or-map, length-map, Cell, arrival_at, Refused, is_first, mark_at, refused, CanCount, HasPorts, LimiterView, where_up, cells_refused, packets_refused, refused_counts, with_cells, with_refused, take, get_or-set_same, get_or-set_other, cases_Bool, eqb-true, eq-eqb, ne_eqb, drop-set-lt, length-set, set-get_or, take_all, append-nil, admitted, mark_after, held_after, marks_after, count_for, ComeToPorts, all_weaker, most_ports, few_kept}
+use Rattle.cq_ideal.proofs.Terms.{filter-append, length-append, rules, ◌≡◌, ◌≢◌, ℕ, zero, suc, ◌+◌, ◌-◌, ◌<◌, ◌≤◌, ◌^◌, eqb, Bool, true, false, cond, List, [], ◌∷◌, ◌++◌, length, drop, get_or, set, Option, Some, None, refl, arith, common_steps, All-from_recursion, drop_all, drop_more, get_or-map, length-map, Cell, arrival_at, Refused, is_first, mark_at, refused, CanCount, HasPorts, LimiterView, where_up, cells_refused, packets_refused, refused_counts, with_cells, with_refused, take, get_or-set_same, get_or-set_other, cases_Bool, eqb-true, eq-eqb, ne_eqb, drop-set-lt, length-set, set-get_or, take_all, append-nil, admitted, mark_after, held_after, marks_after, count_for, ComeToPorts, all_weaker, most_ports, few_kept}
 use Rattle.cq_ideal.specs.Taking.{HasJudged}
-use Rattle.cq_ideal.proofs.Refusals.{count_both, zero_from}
+use Rattle.cq_ideal.proofs.Refusals.{zero_from}
 use Rattle.cq_ideal.proofs.Changed.{at_place, changed_to, next_place}
 use Rattle.cq_ideal.proofs.FlowCount.{cell_listed}
 use Rattle.cq_ideal.proofs.Came.{from_input, none_beyond}
@@ -56,8 +56,7 @@ module _ (cell : Cell) (first : List Refused) (place : ℕ) (now : List Refused)
   pub untouched_next : (d : Refused) → (get_or now place d).output ≢ cell.output →
       now ≡ changed_to (with_refused (cell ∷ []) first) first (place + 1)
   unfolding cells_refused packets_refused
-  untouched_next d other =
-      search (arith, rules, set-get_or now place d, tallied_next d (get_or now place d), ne_eqb)
+  untouched_next d other = search (arith, rules, set-get_or now place d, tallied_next d, ne_eqb)
 
 pub ruleset counted_one_by_one = (can_count_here, tallied_next, untouched_next)
 
@@ -67,7 +66,8 @@ pub all_counted_both : (before now : List Cell) (counts : List Refused) →
     with_refused (before ++ now) counts ≡ with_refused now (with_refused before counts)
 unfolding cells_refused packets_refused
 all_counted_both before now [] = refl
-all_counted_both before now (r ∷ counts) = search (arith, rules, count_both, all_counted_both before now counts)
+all_counted_both before now (r ∷ counts) =
+    search (arith, rules, filter-append, length-append, all_counted_both before now counts)
 
 pub none_counted : (counts : List Refused) → with_refused [] counts ≡ counts
 unfolding cells_refused packets_refused

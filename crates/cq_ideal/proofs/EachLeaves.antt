@@ -6,7 +6,8 @@ use Rattle.cq_ideal.proofs.Terms.{rules, ◌≡◌, ℕ, ◌+◌, Bool, not, tru
 use Rattle.cq_ideal.specs.EachOnce.{EachLeavesOrIsRefused, KeepTheirOutput, LeaveOrAreRefused, RefusesNoneElsewhere}
 use Rattle.cq_ideal.proofs.AtInput.{all_in_order, of_input}
 use Rattle.cq_ideal.proofs.FlowOn.{in_packets}
-use Rattle.cq_ideal.proofs.LimitedEnds.{limited_not_more, run_all, settled}
+use Rattle.cq_ideal.proofs.LimitedEnds.{limited_not_more, settled}
+use Rattle.cq_ideal.proofs.Parted.{all_slots}
 use Rattle.cq_ideal.proofs.LimitedRuns.{judged}
 
 -- ## Each packet
@@ -19,7 +20,7 @@ module _ (limits : List (Option ℕ)) (ms : List Machine) (ports : ℕ) (opening
   unfolding whole_limited_run
   leave_at i packets =
       let same = settled limits ms ports openings came _ (Ok ran) (limited_not_more limits ms ports openings came) is in
-      search (arith, rules, in_packets, run_all, of_input, all_in_order runs i)
+      search (arith, rules, in_packets, all_slots came, of_input, all_in_order runs i)
 
 pub each_leaves_or_is_refused : EachLeavesOrIsRefused
 each_leaves_or_is_refused limits ms ports openings came ran runs is i inside packets = search (arith, rules, leave_at)

@@ -69,8 +69,7 @@ pub all_present : (came : List Arrival) (t : ℕ) (P : Cell → Type 0) (a n : �
     AllByRecursion P (present (map (arriving_at came t) (range_with_len a n)))
 unfolding found
 all_present came t P a zero f = tt
-all_present came t P a (suc n) f =
-    grind (arith, common_steps, arriving_at came t a, f a, all_present came t P (a + 1) n f)
+all_present came t P a (suc n) f = search (rules, f a, all_present came t P (a + 1) n f)
 
 -- ## What comes, weighed
 
@@ -145,10 +144,6 @@ quiet_at_end came = quiet_from came (end_of came) 0 (enough came) (omega arith)
 
 -- ## Cells counted
 
-present_more : (o : Option Cell) (cells : List (Option Cell)) →
-    length (present (o ∷ cells)) ≡ length (cell_listed o) + length (present cells)
-present_more o cells = grind (arith, common_steps)
-
 count_from : (came : List Arrival) (a n : ℕ) →
     come_count (map (arriving came) (range_with_len a n)) ≡ total (λ t. length (present (arriving came t))) a n
 unfolding come_count total
@@ -159,13 +154,10 @@ count_from came a (suc n) = let rest = count_from came (a + 1) n in omega arith
 pub come_count-first : (came : List Arrival) (n : ℕ) →
     come_count (map (arriving came) (range_with_len 0 n)) ≤ length came
 come_count-first came n =
-    let most = weighed length (λ cells. length (present cells)) length refl refl present_more in
-    omega (arith, most (λ a all. omega arith) came n, count_from came 0 n)
+    let weigh = weighed length (λ cells. length (present cells)) length refl refl in
+    let most = weigh (λ o cells. grind (arith, common_steps)) (λ a all. omega arith) came n in
+    omega (arith, most, count_from came 0 n)
 
 pub come_count-traffic_of : (came : List Arrival) → come_count (traffic_of came) ≤ length came
 unfolding traffic_of
 come_count-traffic_of came = come_count-first came (enough came)
-
-pub length-traffic_of : (came : List Arrival) → length (traffic_of came) ≡ end_of came + length came
-unfolding traffic_of enough
-length-traffic_of came = length-map-range_with_len (arriving came) 0 (end_of came + length came)

@@ -58,16 +58,14 @@ module _ (limits : List (Option ℕ)) (ms : List Machine) (ports : ℕ) (ranks :
       let passes = passes_at_first over (range_with_len 0 (enough came)) 0 in
       search (arith, rules, length-range_with_len, passes, get_or-range_with_len)
 
-  pub run_all : run_to (enough came) ≡ limited_run limits ms 0 (traffic_of came) (empty_limited ports ranks)
-  run_all = ap (λ l. limited_run limits ms 0 l (empty_limited ports ranks)) (all_slots came)
-
   -- what is known where the run of so many slots meets no fault
   pub limited_over_at_end : (ran : LimitedRan) → run_to last ≡ Ok ran →
       (end_of came ≤ last) × IsEmptyIdeal ran.after.state
   unfolding enough
   limited_over_at_end ran is =
       let all = limited_empty_at_end limits ms ports ranks came in
-      grind (arith, common_steps, over_from_test came last (state_ran ran), over_at_last, limited_not_more, run_all)
+      let same = all_slots came in
+      grind (arith, common_steps, over_from_test came last (state_ran ran), over_at_last, limited_not_more)
 
   pub at_ok : (x : Result LimitedRan TagFault) (ran : LimitedRan) → x ≡ Ok ran → IsOkAnd x (λ r. r.after ≡ ran.after)
   at_ok x ran is = grind (arith, common_steps)
@@ -122,8 +120,7 @@ module _ (limits : List (Option ℕ)) (ms : List Machine) (ports : ℕ) (ranks :
   Settled m (Err fault) = run_to m ≡ Err fault
 
   pub settled : (m : ℕ) (x : Result LimitedRan TagFault) → last ≤ m → run_to last ≡ x → Settled m x
-  settled m (Ok ran) le is = search (arith, rules, limited_over_at_end ran is, more last (m - last) m ran)
-  settled m (Err fault) le is = search (arith, rules, goes_on last (m - last) m)
+  settled m x le is = search (arith, rules, limited_over_at_end, more last (m - last) m, goes_on last (m - last) m)
 
   -- a fault in some slots is one of the whole run
   pub limited_whole_fault : (n : ℕ) (fault : TagFault) →
@@ -137,7 +134,7 @@ module _ (limits : List (Option ℕ)) (ms : List Machine) (ports : ℕ) (ranks :
       ≡ departures_limited (whole_limited_run limits ms came (empty_limited ports ranks))
   unfolding whole_limited_run
   limited_same_sent =
-      search (arith, rules, common_steps, run_all, settled (enough came) (run_to last) limited_not_more refl)
+      search (arith, rules, common_steps, all_slots came, settled (enough came) (run_to last) limited_not_more refl)
 
 -- ## Without limits
 
@@ -169,9 +166,6 @@ module _ (ms : List Machine) (ports : ℕ) (ranks : List (List ℕ)) (came : Lis
   abbrev limited : ℕ → Result LimitedRan TagFault
   limited n = limited_run [] ms 0 (first_slots came n) (empty_limited ports ranks)
 
-  its_runs : (n : ℕ) → unlimited (limited n) ≡ plain_run n
-  its_runs n = same_runs [] ms ports ranks came no_limit n
-
   refusing_none : (n : ℕ) (x : Result Ran TagFault) → plain_run n ≡ x →
       limited n ≡ none_refused_ran (marks_down ports) (first_slots came n) x
   refusing_none n x is = grind (arith, common_steps, run_of_none, none_refused_in, no_limit)
@@ -182,7 +176,7 @@ module _ (ms : List Machine) (ports : ℕ) (ranks : List (List ℕ)) (came : Lis
     after = search (arith, rules, refusing_none n (plain_run n) refl);
     all_came = y.all_came;
     empty = y.empty;
-    first = λ m s. search (arith, rules, y.first m s.state, its_runs m);
+    first = λ m s. search (arith, rules, y.first m s.state, same_runs [] ms ports ranks came no_limit m);
   }
 
   pub not_more : slots_of_run ms came (empty_ideal ports ranks) ≤ enough came
@@ -214,7 +208,7 @@ module _ (ms : List Machine) (ports : ℕ) (ranks : List (List ℕ)) (came : Lis
   -- what a run of more slots says of one of fewer
   pub fewer_slots : (m n : ℕ) (ran : Ran) → m ≤ n → plain_run n ≡ Ok ran → (first : Ran) × (plain_run m ≡ Ok first)
   fewer_slots m n ran le is =
-      grind (arith, common_steps, cut_at [] ms ports ranks came m n _ le (refusing_none n (Ok ran) is), its_runs m)
+      grind (arith, common_steps, cut_at [] ms ports ranks came m n _ le (refusing_none n (Ok ran) is), same_runs [] ms)
 
   pub whole_fault : (n : ℕ) (fault : TagFault) → plain_run n ≡ Err fault →
       whole_ideal_run ms came (empty_ideal ports ranks) ≡ Err fault
@@ -225,6 +219,7 @@ module _ (ms : List Machine) (ports : ℕ) (ranks : List (List ℕ)) (came : Lis
       (whole_ideal_run ms came (empty_ideal ports ranks))
   same_sent =
       let whole = run_as_before [] ms ports ranks came no_limit in
-      search (arith, rules, common_steps, its_runs (enough came), all_slots came, limited_same_sent [] ms ports ranks)
+      let all = same_runs [] ms ports ranks came no_limit (enough came) in
+      search (arith, rules, common_steps, all_slots came, limited_same_sent [] ms ports ranks)
 
 pub ruleset limited_slots_more = (limited_not_more, limited_whole_fault, limited_same_sent)

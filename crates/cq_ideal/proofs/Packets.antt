@@ -2,7 +2,7 @@
 -- what became of it becomes of all its cells. Where the cells are those of packets of rising numbers, the admitted
 -- ones are by induction all cells of some of the packets, and the refused ones all cells of the others: the packet
 -- that goes on is admitted where the mark is down, and for the rest the first cell of the next one decides.
-use Rattle.cq_ideal.proofs.Terms.{zero, suc, rules, ◌≡◌, ℕ, ◌+◌, ◌≤◌, Bool, false, cond, not, List, [], ◌∷◌, filter, Option, Some, None, refl, ap, ⊎_elim, arith, common_steps, nat_lt, cons_option, cond-false, lt-ltb, le-ltb, Cell, arrival_at, Admission, admitted_in, is_first, mark_after, held_after, marks_after, mark_at, unless, where_up, AreJudged, AreOfPackets, AreWholePackets, cells_at}
+use Rattle.cq_ideal.proofs.Terms.{suc, rules, ◌≡◌, ℕ, ◌+◌, ◌≤◌, Bool, false, cond, not, List, [], ◌∷◌, filter, Option, Some, None, refl, ap, ⊎_elim, arith, common_steps, nat_lt, cons_option, cond-false, lt-ltb, le-ltb, Cell, arrival_at, Admission, admitted_in, is_first, mark_after, held_after, marks_after, mark_at, unless, where_up, AreJudged, AreOfPackets, AreWholePackets, cells_at}
 use Rattle.cq_ideal.proofs.Admitted.{admitted_at, its_marks}
 
 -- ## The mark of one input
@@ -14,10 +14,9 @@ GoesOn (Some cell) = is_first cell ≡ false
 
 mark_stays : (limits : List (Option ℕ)) (held : List ℕ) (marks : List Bool) (cells : List (Option Cell)) (i : ℕ) →
     GoesOn (arrival_at cells i) → mark_at (marks_after limits held marks cells) i ≡ mark_at marks i
-mark_stays limits held (mark ∷ marks) (cell ∷ cells) zero on = search (arith, rules, cond-false)
 mark_stays limits held (mark ∷ marks) (cell ∷ cells) (suc i) on =
     mark_stays limits (held_after (mark_after limits held mark cell) held cell) marks cells i on
-mark_stays limits held marks cells i on = refl
+mark_stays limits held marks cells i on = grind (arith, common_steps, cond-false)
 
 -- ## The cells of one input
 

@@ -1,13 +1,9 @@
 -- Counts of what is refused. A count over two lists is the sum of the counts over each, so counts add up slot by
 -- slot, output by output. And an arriving cell is admitted or refused by the mark of its input, so it is counted
 -- once.
-use Rattle.cq_ideal.proofs.Terms.{drop_more, drop_all, common_steps, ◌≡◌, ℕ, ◌+◌, Bool, List, [], ◌∷◌, ◌++◌, length, filter, Option, refl, ap, ◌∙◌, append_assoc, arith, enumerate_from, filter_map, option_map, append-nil, length-append, filter-append, Cell, Refused, admitted, refused, count_for, AreAllZero, cells_refused, packets_refused, refused_at, refused_counts, with_refused}
+use Rattle.cq_ideal.proofs.Terms.{drop_more, drop_all, common_steps, ◌≡◌, ℕ, ◌+◌, Bool, List, [], ◌∷◌, ◌++◌, Option, refl, ◌∙◌, append_assoc, arith, enumerate_from, filter_map, option_map, append-nil, length-append, filter-append, Cell, Refused, admitted, refused, count_for, AreAllZero, cells_refused, packets_refused, refused_at, refused_counts, with_refused}
 
 -- ## Two lists of refused cells
-
-pub count_both : (p : Cell → Bool) (before now : List Cell) →
-    length (filter p (before ++ now)) ≡ length (filter p before) + length (filter p now)
-count_both p before now = ap length (filter-append p before now) ∙ length-append (filter p before) (filter p now)
 
 -- the counts from output j on
 abbrev pub counts_from : ℕ → List (Option ℕ) → List Cell → List Refused
@@ -20,7 +16,8 @@ more_from : (j : ℕ) (limits : List (Option ℕ)) (before now : List Cell) →
     counts_from j limits (before ++ now) ≡ with_refused now (counts_from j limits before)
 unfolding cells_refused packets_refused
 more_from j [] before now = refl
-more_from j (o ∷ limits) before now = grind (arith, common_steps, count_both, more_from (j + 1) limits before now)
+more_from j (o ∷ limits) before now =
+    grind (arith, common_steps, filter-append, length-append, more_from (j + 1) limits before now)
 
 pub counts_more : (limits : List (Option ℕ)) (before now : List Cell) →
     refused_counts limits (before ++ now) ≡ with_refused now (refused_counts limits before)

@@ -68,9 +68,8 @@ one_put q lists j inside = search (rules, cases_Bool, eqb-true, get_or-set_same,
 pub filled_next : (o : Option Queued) (came : List (Option Queued)) (lists : List (List Queued)) →
     filled (o ∷ came) lists ≡ filled came (with_came o lists)
 unfolding filled
-filled_next None came lists = refl
-filled_next (Some q) came lists =
-    let same = ext_get_or [] (filled (Some q ∷ came) lists) (filled came (with_cell q lists)) in
+filled_next o came lists =
+    let same = ext_get_or [] (filled (o ∷ came) lists) (filled came (with_came o lists)) in
     search (arith, rules, same, length-filled, length-set, filled_at, one_put)
 
 -- a list with one cell more than before
