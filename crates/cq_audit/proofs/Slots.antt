@@ -97,14 +97,9 @@ module _ (M : List ℕ → Machine) {slot : ℕ} {cells : List (Option Cell)} {l
   pub first_goes : CanGoBy slot 1 lines q1 note
   first_goes = let all = known in search (rules, can_cross_first, ranked, arrived, room, first_long)
 
-  -- a fault of the parts is one of what is seen of them
-  seen : (f : SlotFault) → IsSlotFault ms slot cells lines (shown ranks0 q0 l) f →
-      IsSlotFault (map M v.fixed) slot cells lines v f
-  seen f wrong = rw (← is) wrong
-
   pub first_fault : (f : SlotFault) → (f.phase ≡ 1) × IsPhaseFault q1.inputs (in_phase slot 1 lines) f.fault →
       IsSlotFault (map M v.fixed) slot cells lines v f
-  first_fault f wrong = grind (arith, common_steps, seen, ranked, arrived, arrives)
+  first_fault f wrong = rw (← is) (grind (arith, common_steps, ranked, arrived, arrives))
 
   module _ {behind : List Transfer} {q2 : Queues} {note1 : RoomView Transfer}
       (one : HasGoneBy slot 1 lines behind q1 q2 note note1) where
@@ -135,7 +130,7 @@ module _ (M : List ℕ → Machine) {slot : ℕ} {cells : List (Option Cell)} {l
           IsSlotFault (map M v.fixed) slot cells lines v f
       second_fault f wrong =
           let gone = slot_departs ranked arrived room moved1 have_sent in
-          search (arith, rules, seen, ranked, arrived, arrives, second_behind, slot_fills)
+          rw (← is) (search (arith, rules, ranked, arrived, arrives, second_behind, slot_fills))
 
       module _ {rest : List Transfer} {q4 : Queues} {note2 : RoomView Transfer}
           (two : HasGoneBy slot 2 behind rest q3 q4 note1 note2) where
