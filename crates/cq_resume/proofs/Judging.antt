@@ -8,7 +8,7 @@
 -- it are known; and a state is sound of which all are known.
 use Rattle.cq_resume.proofs.Terms.{common_steps, arith, rules, ◌≡◌, ◌<◌, ◌↔◌, ◌⊎◌, eqb, Bool, true, false, List, [], length, map, refl, ◌∙◌, ℕ, ap, All, IsPermutation, filter, AllByRecursion, AllZip, list_any-IsPermutation, sum_by-IsPermutation, Arrival, Queued, IsTally, input_told, AreFound, IsWholePacket, PacketsStand, TalliesUp, has_name, names_of, IsFound, AllNamed, AreWholePackets, NoneNamed, HasLimit, Switch, is_named, named_in, packet_before, buffer_told, fabric_told, Gone, Name, Tally, State, length-filter, figures_at_input, Found, Seen, ◌++◌, get_or, ◌≤◌, AllPairs, map-append, All-permutation, IsPermutation-sym, IsBefore, FlowsStand, IsGone, IsNameBefore, IsTold, InOneFlow, LeavesEarlier, sent_name, waiting_name, IsFoundBefore, IsListedBefore, IsNoLaterInput, IsGoneBefore, IsTimely, StandsBelow, StandBelow, AreOrdered, KeepArrivalOrder, OfOneFlow, AreBelowFloors, IsBelowFloor, StandInOrder, is_ahead, queued_in, output_of, Named, Sent, All-from_recursion, recursion_from_All, machines_of, Some, ◌+◌, filter_map, slice_get, cases_lt, get_or_past, map-id, get_or-map-range_with_len, length-map-range_with_len, is_for, cushion_of, input, SlackStands, cushion_in, HaveSlack, list_told, queued_of, length-map, Scheduled, AreCellsFor, AreNamesFor, HaveRoom, IsCellFor, IsFirstOfTwo, AreFoundIn, IsForPorts, Clause, IsFirstOf, IsFirstUnsound, IsSound, filter_none, ne_eqb, switch_of, CanTakeUp, ports_of, Tables, machine_of, IsInRange, IsNamed, below_more, all_weaker, all_both, all_front, all_back, of_images, Setup, has_at, has_there, all_of_has, all_has, has_all, has_left, has_right, has_cases, has_image, image_has, pair_of_has, all_from_has, Has, each_pair, most_ports, StateRefusal, err_from_is_err_and, kept_has}
 use Rattle.cq_resume.proofs.Zipped.{zip_by, same_mapped, IsOf, names_zip, sifted, told_facts, zip_both, pairs_alike, all_alike, all_as, each_right, one_for}
-use Rattle.cq_resume.proofs.Cut.{filter_both}
+use Rattle.cq_resume.proofs.Cut.{filter_both, listed_at}
 use Rattle.cq_resume.specs.Sound.{IsBufferedBefore, IsSentBefore}
 
 -- what holds of both sides of a clause alike holds of all items alike
@@ -23,10 +23,10 @@ mapped_alike {X} {Y} f g same xs = ap (λ (h : X → Y). map h xs) (λ k x. same
 has_moved : (xs ys : List Name) (m : Name) → IsPermutation ys xs → Has xs m → Has ys m
 has_moved xs ys m back has = search (rules, all_has (Has ys) xs, All-permutation (Has ys) ys, has_all (Has ys) ys)
 
-abbrev of_input : ℕ → Queued → Bool
-of_input i q = eqb q.key.input i
-
 -- ## The fabric that is told of
+
+-- what stands at a number, of what is told for each of so many
+ruleset told_at = (get_or-map-range_with_len, length-map-range_with_len, get_or_past, cases_lt)
 
 all_found : (came : List Arrival) (next : ℕ) (names : List Named) (found : List Queued) →
     AreFound came next names found → filter_map (queued_of came) names ≡ found
@@ -150,14 +150,9 @@ module _ (w : Switch) (s : State) (f : Found) (found : IsFound w.came s f) where
       let wait = λ (q : Queued) (has : Has waiting q). has_left _ _ _ (has_image waiting_name waiting q has) in
       let gone = λ (g : Gone) (has : Has f.sent.items g). has_right _ _ _ (has_image sent_name f.sent.items g has) in
       record {
-        sent = λ i j d lt inside one. grind (
-          arith,
-          common_steps,
-          stand i j d,
-          gone,
-          has_at,
-          in_turn flows (sent_name (get_or f.sent.items i d)) (sent_name (get_or f.sent.items j d)),
-        );
+        sent = λ i j d lt inside one.
+            let turn = in_turn flows (sent_name (get_or f.sent.items i d)) (sent_name (get_or f.sent.items j d)) in
+            grind (arith, common_steps, stand i j d, gone, has_at, turn);
         after = all_from_has _ _ (λ g first. all_from_has (Behind g) waiting (λ q has one.
             grind (arith, common_steps, in_turn flows (sent_name g) (waiting_name q) (gone g first) (wait q has))));
         queued = all_from_has _ _ (λ q first. all_from_has (InTurn q) waiting (λ r has one less.
@@ -180,7 +175,7 @@ module _ (w : Switch) (s : State) (f : Found) (found : IsFound w.came s f) where
 
   -- ## Slack
 
-  pub list_is : (i : ℕ) → list_told w.came s i ≡ filter (of_input i) f.listed.items
+  pub list_is : (i : ℕ) → list_told w.came s i ≡ listed_at f.listed.items i
   list_is i = grind (arith, common_steps, sifted w.came i s.listed, all_found)
 
   pub buffer_is : (j : ℕ) → buffer_told w.came s j ≡ filter (is_for j) f.buffered.items
@@ -188,27 +183,15 @@ module _ (w : Switch) (s : State) (f : Found) (found : IsFound w.came s f) where
 
   module _ (inputs : AllByRecursion (λ q. q.key.input < s.head.ports) f.listed.items)
       (outputs : AllByRecursion (λ q. q.cell.output < s.head.ports) f.listed.items) where
-    input_is : (i : ℕ) → input (fabric_told w.came s) i ≡ filter (of_input i) f.listed.items
+    input_is : (i : ℕ) → input (fabric_told w.came s) i ≡ listed_at f.listed.items i
     unfolding fabric_told
-    input_is i =
-        search (
-          arith,
-          rules,
-          get_or-map-range_with_len,
-          length-map-range_with_len,
-          get_or_past,
-          list_is,
-          cases_lt,
-          filter_none,
-          all_weaker,
-          ne_eqb,
-        )
+    input_is i = search (arith, rules, told_at, list_is, filter_none, all_weaker, ne_eqb)
 
-    cushion_is : (i ahead : ℕ) (c : Queued) → slice_get (filter (of_input i) f.listed.items) ahead ≡ Some c →
+    cushion_is : (i ahead : ℕ) (c : Queued) → slice_get (listed_at f.listed.items i) ahead ≡ Some c →
         cushion_of (fabric_told w.came s) c ≡ length (cushion_in f.buffered.items c)
     unfolding fabric_told
     cushion_is i ahead c is =
-        let has = kept_has (of_input i) f.listed.items c (has_there _ ahead c is) in
+        let has = kept_has _ f.listed.items c (has_there _ ahead c is) in
         let inside : c.cell.output < s.head.ports = all_of_has _ f.listed.items c outputs has.0 in
         let j = c.cell.output in
         let there = get_or-map-range_with_len (buffer_told w.came s) 0 s.head.ports j j [] inside (omega arith) in
