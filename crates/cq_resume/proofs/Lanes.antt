@@ -3,10 +3,9 @@
 -- place is kept. Where the relation goes on from one to the next, that decides it for each and each later one of one
 -- lane: of the earlier items of the lane each is the last one, or stands before it. The orders in which the lines of a
 -- state stand go on from one to the next: those of lists, of buffers, of departures, of transfers and of names, and the
--- one in which the cells of a flow leave. Of cells or names that stand by input, those of one list or of one flow stand
--- in order exactly where those of one lane do, by input first. And the cells of lists have slack where those of the
--- list of each port have.
-use Rattle.cq_resume.proofs.Terms.{common_steps, rules, ap, ◌==◌, ◌≡◌, ℕ, ◌+◌, ◌<◌, ◌≤◌, ◌⊎◌, ◌↔◌, Bool, true, false, List, length, get_or, set, replicate, Option, None, Some, refl, inl, inr, arith, ◌*◌, IfSome, AllPairs, AllByRecursion, cases_eq, cases_lt, get_or-replicate, get_or-set_other, get_or-set_same, get_or_default, get_or_past, length-replicate, get_or_read, FlowsStand, IsNameBefore, IsBefore, Queued, Name, ne_eqb, SlackStands, slice_get-get_or, key_laws, most_classes, All-from_recursion, zero, suc, AllAdjacentBelow, all_weaker, filter, HasRoom, IsAheadInFlow, IsAheadInList, flow_of, IsNoLaterInput, IsListedBefore, filter_none}
+-- one in which the cells of a flow leave. Of names that stand by input, those of one flow stand in order exactly where
+-- those of one lane do, by input first. And the cells of lists have slack where those of the list of each port have.
+use Rattle.cq_resume.proofs.Terms.{common_steps, rules, ap, ◌==◌, ◌≡◌, ℕ, ◌+◌, ◌<◌, ◌≤◌, ◌⊎◌, ◌↔◌, Bool, true, false, List, length, get_or, set, replicate, Option, None, Some, refl, inl, inr, arith, ◌*◌, IfSome, AllPairs, AllByRecursion, cases_eq, cases_lt, get_or-replicate, get_or-set_other, get_or-set_same, get_or_default, get_or_past, length-replicate, get_or_read, FlowsStand, IsNameBefore, IsBefore, Queued, Name, ne_eqb, SlackStands, slice_get-get_or, key_laws, most_classes, All-from_recursion, zero, suc, AllAdjacentBelow, all_weaker, filter, HasRoom, IsAheadInFlow, flow_of, filter_none}
 use Rattle.cq_resume.specs.Neighbours.{IsOfNeighbours}
 use Rattle.cq_base.proofs.Each.{one_there}
 
@@ -111,18 +110,9 @@ name_inputs a b before = grind (arith, common_steps)
 
 -- ## Cells of lists
 
-pub in_list_on : (a b c : Queued) → IsAheadInList a b → IsAheadInList b c → IsAheadInList a c
-in_list_on a b c first second = grind (arith, common_steps, urgent_on)
-
--- those that stand by input do by their lanes where those of one list do
-pub lists_as_lanes : (listed : List Queued) → AllPairs IsNoLaterInput listed →
-    AllPairs (InLane (λ q. q.cell.output) IsAheadInList) listed ↔ AllPairs IsListedBefore listed
-lists_as_lanes listed inputs = grind (arith, common_steps, inputs)
+pub ruleset list_steps = (urgent_on, length-replicate)
 
 -- ## Flows
-
-pub in_flow_on : (a b c : Name) → IsAheadInFlow a b → IsAheadInFlow b c → IsAheadInFlow a c
-in_flow_on a b c first second = grind (arith, common_steps, urgent_on)
 
 module _ (ports : ℕ) (xs : List Name)
     (each : AllByRecursion (λ n. (n.queued.cell.output < ports) × (n.queued.cell.class < most_classes)) xs) where
@@ -135,9 +125,7 @@ module _ (ports : ℕ) (xs : List Name)
     (λ stand i j d lt inside. grind (arith, common_steps, ordered i j d, stand i j d, All-from_recursion _ xs each)),
   )
 
-pub ruleset flow_steps = (flows_fit, flows_as_lanes, in_flow_on, length-replicate)
-
-pub ruleset list_steps = (lists_as_lanes, in_list_on, length-replicate)
+pub ruleset flow_steps = (flows_fit, flows_as_lanes, urgent_on, length-replicate)
 
 -- ## Slack
 
