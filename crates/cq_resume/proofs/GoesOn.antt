@@ -6,15 +6,14 @@
 -- The cells of the lists stand in order of their inputs and those of the buffers in order of their outputs, and all of
 -- these are ports, so taken port by port they are the same. Each name arrives, so its cell is told by it, and a
 -- departure by the slot and the name of its cell.
-use Rattle.cq_resume.proofs.Terms.{common_steps, rules, ◌≡◌, ◌≢◌, ℕ, ◌+◌, ◌<◌, ◌≤◌, ◌^◌, Bool, true, List, [], ◌∷◌, length, get_or, map, Option, Some, refl, ap, ◌∙◌, arith, length-append, ◌==◌, IsSome, filter, flat_map, flat_same, IsNamed, nat_lt, slice_get, AllByRecursion, enumerate_from, filter_map, range_with_len, option_map, cases_lt, eq-eqb, eqb-true, lt-ltb, length-map, filter-append, get_or-map-range_with_len, length-enumerate_from, length-map-range_with_len, Arrival, IsBefore, is_for, Cell, Departure, Queued, OutputFigures, IsTraffic, is_from, is_to, number_of, cells_refused, packets_refused, refused_at, refused_counts, Refused, Fabric, buffer, input, AreCountsOf, AreOwn, HasPorts, IsSoundFabric, fabric_in, departure_of, figures_told, frozen_told, sent_told, IsSound, HasShape, Switch, arriving_cell, buffer_told, fabric_told, is_ahead, key_of, list_told, named_in, output_in, output_of, queued_in, queued_of, IsInRange, Named, Sent, State, few_kept, InputFigures, Key, held_for, waiting_for, Apart, Early, all_before, differ_from, IsFabric, ListsKeepOrder, Frozen, AreSized, all_of_has, all_from_has, all_has, has_left, has_right, has_kept, kept_has, Has, AreApart, no_more, each_pair, pairs_left, pairs_cross, pairs_kept_with, looked_up, pairs_looked_up, kept_few, looked_few, image_at, numbers_few, EachPair, Scheduled, input_told, AreTables, IsScheduleOf, Tables, named_as, switch_of, Seen, Taken, has_image}
+use Rattle.cq_resume.proofs.Terms.{common_steps, rules, ◌≡◌, ◌≢◌, ℕ, ◌+◌, ◌<◌, ◌≤◌, ◌^◌, Bool, true, List, [], ◌∷◌, length, get_or, map, Option, Some, refl, ap, ◌∙◌, arith, length-append, ◌==◌, IsSome, filter, flat_map, flat_same, IsNamed, nat_lt, slice_get, AllByRecursion, enumerate_from, filter_map, range_with_len, option_map, cases_lt, eq-eqb, eqb-true, lt-ltb, length-map, filter-append, get_or-map-range_with_len, length-enumerate_from, length-map-range_with_len, Arrival, IsBefore, is_for, Cell, Departure, Queued, OutputFigures, IsTraffic, is_from, is_to, number_of, cells_refused, packets_refused, refused_at, refused_counts, Refused, Fabric, buffer, input, AreCountsOf, AreOwn, HasPorts, IsSoundFabric, fabric_in, departure_of, figures_told, frozen_told, sent_told, IsSound, HasShape, Switch, arriving_cell, buffer_told, fabric_told, is_ahead, key_of, list_told, named_in, output_in, output_of, queued_in, queued_of, IsInRange, Named, Sent, State, few_kept, InputFigures, Key, held_for, waiting_for, Apart, Early, all_before, differ_from, IsFabric, ListsKeepOrder, Frozen, AreSized, all_of_has, all_from_has, all_has, has_left, has_right, has_kept, kept_has, Has, AreApart, no_more, each_pair, pairs_left, pairs_cross, pairs_kept_with, looked_up, pairs_looked_up, kept_few, looked_few, image_at, numbers_few, EachPair, input_told, named_as, Seen, has_image}
 use Rattle.std.proofs.lemmas.List.{Elements.filter_map-append, Folds.flat_map-map}
 use Rattle.cq_resume.proofs.Cut.{ordered, rising_kept}
 pub use Rattle.cq_resume.proofs.Coming.{FoundAt, found_at}
 pub use Rattle.cq_resume.proofs.Zipped.{Differ, is_cell_of, sifted}
 use Rattle.cq_resume.specs.Sound.{IsBufferedBefore, IsSentBefore}
 use Rattle.cq_resume.specs.Finding.{IsBufferedBefore as IsFoundBefore}
-use Rattle.cq_resume.proofs.Scheduling.{schedule_known}
-use Rattle.cq_resume.specs.Reading.{IsRead, seen_as, sent_as, text_of_taken}
+use Rattle.cq_resume.specs.Reading.{seen_as, sent_as}
 unfoldable use Rattle.cq_resume.specs.Reading.{state_of}
 
 -- the arrivals before this slot
@@ -323,10 +322,3 @@ module _ (w : Switch) (s : State) (in_range : IsInRange s) (shape : HasShape w s
   state_again =
       let lists = names_again s.listed in
       search (rules, lists_joined, lists, has_left, buffers_again, sent_again, seen_again, length-map-range_with_len)
-
--- ## The text
-
-pub text_again : (t : Tables) (c : Scheduled) (text : List ℕ) (x : Taken) → AreTables t → IsScheduleOf t c →
-    IsRead (switch_of t c) text x → text_of_taken (switch_of t c) x ≡ text
-text_again t c text x tables is read =
-    search (arith, rules, state_again (switch_of t c) read.state, schedule_known t c, length-map)
