@@ -37,16 +37,11 @@ all_found came next names found zips = search (rules, same_mapped (IsTold came n
 -- whole packets and what is left out are the same by both
 module _ (w : Switch) (s : State) (names : List Name)
     (same : (a : Arrival) → is_named (named_in s) a ≡ has_name names a) where
-  abbrev ByState : Arrival → Type 0
-  ByState a = a.cell.id.index ≡ 0 → a.slot < s.head.next →
-      AllNamed s (packet_before w.came s.head.next a)
-      ⊎ (NoneNamed s (packet_before w.came s.head.next a) × HasLimit w.limits a.cell.output)
-
-  abbrev ByNames : Arrival → Type 0
-  ByNames a = a.cell.id.index ≡ 0 → a.slot < s.head.next → IsWholePacket w.limits s.head.next w.came names a
-
   pub packets_alike : AreWholePackets w s ↔ PacketsStand w.limits s.head.next w.came names
-  packets_alike = all_same ByState ByNames (λ a.
+  packets_alike = all_same (λ a. a.cell.id.index ≡ 0 → a.slot < s.head.next →
+      AllNamed s (packet_before w.came s.head.next a)
+      ⊎ (NoneNamed s (packet_before w.came s.head.next a) × HasLimit w.limits a.cell.output))
+      (λ a. a.cell.id.index ≡ 0 → a.slot < s.head.next → IsWholePacket w.limits s.head.next w.came names a) (λ a.
       let alike = λ (t : Bool). all_same (λ b. is_named (named_in s) b ≡ t) (λ b. has_name names b ≡ t)
       (search (rules, same)) (packet_before w.came s.head.next a) in
       search (arith, rules, alike true, alike false)) w.came
