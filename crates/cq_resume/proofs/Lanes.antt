@@ -51,7 +51,7 @@ module _ {X : Type 0} (lane : X → ℕ) (R : X → X → Type 0) where
   lanes_first xs last none = grind (arith, common_steps, get_or-replicate, get_or_past, cases_lt (length last))
 
   module _ {xs : List X} {n : ℕ} {last : List (Option X)} (known : Lanes xs n last) (lanes : ℕ)
-      (long : length last ≡ lanes) (fits : AllByRecursion (λ x. lane x < lanes) xs) (here : X)
+      (fits : AllByRecursion (λ x. lane x < lanes) xs) (long : length last ≡ lanes) (here : X)
       (is : here ≡ get_or xs n here) (inside : n < length xs) (its : ℕ) (own : its ≡ lane here) where
     abbrev then : List (Option X)
     then = set last its (Some here)

@@ -21,7 +21,7 @@ pub use Rattle.cq_laws.specs.Fabric.{Fabric, IsEmptyFabric, IsFabric, ListsKeepO
 pub use Rattle.cq_laws.specs.Frozen.{AreCountsOf, AreOwn, HasPorts, IsSoundFabric, fabric_in, marked_in}
 pub use Rattle.cq_resume.specs.Counted.{IsTally, departure_of, input_told, latest, output_told, sent_told}
 unfoldable pub use Rattle.cq_resume.specs.Counted.{figures_told, frozen_told}
-pub use Rattle.cq_resume.specs.Finding.{AreFound, AreGone, ArePackets, ComeBehind, ComesNext, FlowsStand, InOneFlow, IsBufferedBefore, IsBufferedBefore as IsFoundBefore, IsFound, IsGone, IsLine, IsListedBefore, IsNameBefore, IsNameNotAfter, IsNoLaterInput, IsSentBefore, IsSentBefore as IsGoneBefore, IsTimely, IsTold, IsWholePacket, LeavesEarlier, PacketsStand, SlackStands, StandsBelow, TalliesUp, HasRoom, IsAheadInFlow, IsAheadInList, flow_of, coming, cushion_in, firsts_before, has_limit, has_name, is_left_out, left_out, mark_on, may_come, names_of, sent_name, told_of, unnamed, waiting_name}
+pub use Rattle.cq_resume.specs.Finding.{AreFound, AreGone, ArePackets, ComeBehind, ComesNext, FlowsStand, InOneFlow, IsBufferedBefore, IsBufferedBefore as IsFoundBefore, IsFound, IsGone, IsLine, IsListedBefore, IsNameBefore, IsNameNotAfter, IsNoLaterInput, IsSentBefore, IsSentBefore as IsGoneBefore, IsTimely, IsTold, IsWholePacket, LeavesEarlier, PacketsStand, SlackStands, StandsBelow, TalliesUp, HasRoom, IsAheadInFlow, flow_of, coming, cushion_in, firsts_before, has_limit, has_name, is_left_out, left_out, mark_on, may_come, names_of, sent_name, told_of, unnamed, waiting_name}
 pub use Rattle.cq_resume.specs.Sound.{AllNamed, AreArrivals, AreBelowFloors, AreWholePackets, Clause, HaveSlack, IsBelowFloor, IsFirstOf, IsFirstUnsound, IsForPorts, IsSound, KeepArrivalOrder, NoneNamed, OfOneFlow, StandInOrder}
 pub use Rattle.cq_resume.specs.Steps.{AreCellsFor, AreNamesFor, AreOrdered, HaveRoom, IsCellFor, IsFirstOfTwo, AreFoundIn, StandBelow}
 pub use Rattle.cq_resume.specs.Switch.{HasLimit, HasShape, IsScheduleOf, Switch, switch_of}

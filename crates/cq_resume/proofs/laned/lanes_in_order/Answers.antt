@@ -1,12 +1,6 @@
 use Rattle.cq_resume.proofs.Terms.{arith, rules, length}
-use Rattle.cq_resume.proofs.Lanes.{lanes_first, lanes_next, lanes_stop, within}
+use Rattle.cq_resume.proofs.Lanes.{lanes_next, lanes_stop}
 use Rattle.cq_resume.proofs.laned.lanes_in_order.Goals as goal
-
-pub items-init : goal.items-init
-items-init g c = lanes_first _ _ _ _ c.requires.none
-
-pub bounds-last-lane : goal.bounds-last-lane
-bounds-last-lane g c = search (arith, rules, within _ _ c.items.invariant (length c.args.last.now))
 
 pub items-preserved : goal.items-preserved
 items-preserved g c = search (arith, rules, lanes_next _ _ c.items.invariant (length c.args.last.now))
