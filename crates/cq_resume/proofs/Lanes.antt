@@ -104,10 +104,6 @@ urgent_on a b c = key_laws.on a.key b.key c.key
 pub name_on : (a b c : Name) → IsNameBefore a b → IsNameBefore b c → IsNameBefore a c
 name_on a b c first second = grind (arith, common_steps)
 
--- names that stand by input and then by slot stand by input
-pub name_inputs : (a b : Name) → IsNameBefore a b → a.queued.key.input ≤ b.queued.key.input
-name_inputs a b before = grind (arith, common_steps)
-
 -- ## Cells of lists
 
 pub ruleset list_steps = (urgent_on, length-replicate)
