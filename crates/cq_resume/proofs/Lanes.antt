@@ -5,7 +5,7 @@
 -- state stand go on from one to the next: those of lists, of buffers, of departures, of transfers and of names, and the
 -- one in which the cells of a flow leave. Of names that stand by input, those of one flow stand in order exactly where
 -- those of one lane do, by input first. And the cells of lists have slack where those of the list of each port have.
-use Rattle.cq_resume.proofs.Terms.{common_steps, rules, ap, ◌==◌, ◌≡◌, ℕ, ◌+◌, ◌<◌, ◌≤◌, ◌⊎◌, ◌↔◌, Bool, true, false, List, length, get_or, set, replicate, Option, None, Some, refl, inl, inr, arith, ◌*◌, IfSome, AllPairs, AllByRecursion, cases_eq, cases_lt, get_or-replicate, get_or-set_other, get_or-set_same, get_or_default, get_or_past, length-replicate, get_or_read, FlowsStand, IsNameBefore, IsBefore, Queued, Name, ne_eqb, SlackStands, slice_get-get_or, key_laws, most_classes, All-from_recursion, zero, suc, AllAdjacentBelow, all_weaker, filter, HasRoom, IsAheadInFlow, flow_of, filter_none}
+use Rattle.cq_resume.proofs.Terms.{common_steps, rules, ap, ◌==◌, ◌≡◌, ℕ, ◌+◌, ◌<◌, ◌⊎◌, ◌↔◌, Bool, true, false, List, length, get_or, set, replicate, Option, None, Some, refl, inl, inr, arith, ◌*◌, IfSome, AllPairs, AllByRecursion, cases_eq, cases_lt, get_or-replicate, get_or-set_other, get_or-set_same, get_or_default, get_or_past, length-replicate, get_or_read, FlowsStand, IsNameBefore, IsBefore, Queued, Name, ne_eqb, SlackStands, slice_get-get_or, key_laws, most_classes, All-from_recursion, zero, suc, AllAdjacentBelow, all_weaker, filter, HasRoom, IsAheadInFlow, flow_of, filter_none}
 use Rattle.cq_resume.specs.Neighbours.{IsOfNeighbours}
 use Rattle.cq_base.proofs.Each.{one_there}
 
