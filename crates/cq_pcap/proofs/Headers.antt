@@ -71,19 +71,12 @@ link-Decides form bytes = Decides-eqb (number_at form.big 4 bytes 20 % 2 ^ 16) 1
 -- what an answer says of the header
 abbrev pub Tells : List ℕ → Result Form PcapRefusal → Type 0
 Tells bytes (Ok form) = (24 ≤ length bytes) × HasMagic form bytes × HasVersion form bytes × HasLinkType form bytes
-Tells bytes (Err fault) = IsFaulty bytes fault
+Tells bytes (Err fault) = IsFaulty bytes fault × (offset_of fault ≡ None)
 
 -- what is answered is so
 pub header_says : (bytes : List ℕ) → Tells bytes (header_form bytes)
 unfolding header_form
 header_says bytes = search (arith, rules, nat_tests, form_found, found_magic, version-Decides, link-Decides)
-
-pub header_is : (bytes : List ℕ) (answer : Result Form PcapRefusal) → header_form bytes ≡ answer → Tells bytes answer
-header_is bytes answer e = let P : Result Form PcapRefusal → Type 0 = Tells bytes in subst P e (header_says bytes)
-
-pub header_place : (bytes : List ℕ) (fault : PcapRefusal) → header_form bytes ≡ Err fault → offset_of fault ≡ None
-unfolding header_form
-header_place bytes fault e = search (arith, rules)
 
 ruleset header_tests = (version-Decides, link-Decides, form_found, nat_tests)
 

@@ -100,7 +100,7 @@ walk form bytes (suc n) at packets fits within few s = ⊎_elim
 
 by_header : (bytes : List ℕ) (header : Result Form PcapRefusal) → AreBytes bytes → Tells bytes header → Known bytes
 by_header bytes (Ok form) fits h = grind (arith, common_steps, walk form bytes (length bytes) 24 [], spelt_none)
-by_header bytes (Err fault) fits h = inr (fault, h)
+by_header bytes (Err fault) fits h = inr (fault, h.0)
 
 pub spelt_or_faulty : (bytes : List ℕ) → AreBytes bytes →
     ((packets : List Captured) × Spells bytes packets) ⊎ ((fault : PcapRefusal) × IsFaulty bytes fault)

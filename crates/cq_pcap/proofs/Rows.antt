@@ -4,7 +4,7 @@
 -- no byte is left the file is a capture.
 use Rattle.cq_pcap.proofs.Terms.{rules, ◌≡◌, ℕ, ◌+◌, ◌-◌, ◌<◌, ◌≤◌, ◌^◌, List, [], ◌∷◌, ◌++◌, length, take, drop, ap, sym, arith, add-zero, common_steps, map-append, length-drop, length-take-le, drop-drop, take_all, take_rest, All-push, sum_by-cons, sum_by_push, Ok, Err, Some, None, sum_by, Form, PcapRefusal, Captured, rows_from, file_length, first_packet, header_form, AreRowsOf, AreRowsTo, AreSpelt, IsFaultAt, IsRowOf, packet_at, packets_at, all_both, IfOk-weaker, IfErr-weaker}
 use Rattle.cq_pcap.specs.declared.capture.PacketRow.{PacketRow}
-use Rattle.cq_pcap.proofs.Headers.{header_is, header_place, AreBytes, AreBytes-drop, first_says}
+use Rattle.cq_pcap.proofs.Headers.{header_says, AreBytes, AreBytes-drop, first_says}
 use Rattle.cq_pcap.proofs.ReadIsSpelt.{body_length, faulty_at, spelt_more, spelt_none}
 
 -- the bytes of these records
@@ -33,7 +33,7 @@ module _ (form : Form) (bytes : List ℕ) (at : ℕ) (row : PacketRow) (r : IsRo
 
 -- the header alone, where it is one of a form
 pub rows_none : (form : Form) (bytes : List ℕ) → header_form bytes ≡ Ok form → AreRowsTo form bytes 24 []
-rows_none form bytes e = search (arith, rules, spelt_none, header_is bytes (Ok form) e)
+rows_none form bytes e = search (arith, rules, spelt_none, rw e at (header_says bytes))
 
 ruleset longer = (sum_by_push, All-push)
 
@@ -65,7 +65,7 @@ rows_fault form bytes rows at refusal left e so_far =
 -- and so is a fault of the header
 pub header_fault : (bytes : List ℕ) (refusal : PcapRefusal) → header_form bytes ≡ Err refusal
     → IsFaultAt bytes None refusal
-header_fault bytes refusal e = search (rules, header_is, header_place)
+header_fault bytes refusal e = search (rules, rw e at (header_says bytes))
 
 -- no byte is left
 pub rows_all : (form : Form) (bytes : List ℕ) (rows : List PacketRow) (at : ℕ) → at ≡ length bytes
