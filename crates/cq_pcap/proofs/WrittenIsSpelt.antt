@@ -6,13 +6,10 @@ use Rattle.cq_pcap.proofs.Terms.{rules, ◌≡◌, List, [], ◌∷◌, map, ref
 abbrev little_nanos : Form
 little_nanos = record { big = false; nano = true }
 
-records_fit : (ps : List OutPacket) → AllByRecursion IsWritable ps → AllByRecursion Fits (map written_record ps)
-records_fit [] w = tt
-records_fit (p ∷ ps) w = search (arith, rules, records_fit ps w.1)
-
-records_kept : (ps : List OutPacket) → AllByRecursion IsWritable ps →
-    map (captured_of little_nanos) (map written_record ps) ≡ map read_again ps
-records_kept [] w = refl
+-- each record fits, and makes its packet again
+records_kept : (ps : List OutPacket) → AllByRecursion IsWritable ps → AllByRecursion Fits (map written_record ps)
+    × (map (captured_of little_nanos) (map written_record ps) ≡ map read_again ps)
+records_kept [] w = (tt, refl)
 records_kept (p ∷ ps) w = search (arith, rules, records_kept ps w.1)
 
 begins : IsHeader little_nanos written_header
@@ -20,4 +17,4 @@ unfolding number_at
 begins = record { len = refl; magic = refl; version = record { major = refl; minor = refl }; link = refl }
 
 pub written_is_spelt : (ps : List OutPacket) → AllByRecursion IsWritable ps → Spells (written ps) (map read_again ps)
-written_is_spelt ps w = grind (arith, common_steps, begins, records_fit, flat_map-map, records_kept)
+written_is_spelt ps w = grind (arith, common_steps, begins, flat_map-map, records_kept)
