@@ -1,6 +1,6 @@
 -- What is spelt is read: each number reads back from its four bytes, so the record at the front is the one that was
 -- put there, and the bytes after it are the rest.
-use Rattle.cq_pcap.proofs.Terms.{rules, ◌≡◌, ℕ, ◌+◌, List, [], ◌∷◌, ◌++◌, length, map, take, drop, refl, arith, append_assoc, length-append, Bool, ◌<◌, common_steps, append-nil, drop-drop, drop_at, length-drop, length-take-le, take-append-drop, take_at, Result, Ok, Err, flat_map, AllByRecursion, Form, number_at, Captured, PcapRefusal, CutHeader, LongRecord, CutBody, IsFaulty, IsSpeltUpTo, ◌>>=◌, first_packet, header_form, packets_from, packets_of, Record, spelling, Fits, Spells, SpellsIn, captured_of, zero, suc, ◌≤◌, packets_in}
+use Rattle.cq_pcap.proofs.Terms.{IfErr-weaker, rules, ◌≡◌, ℕ, ◌+◌, List, [], ◌∷◌, ◌++◌, length, map, take, drop, refl, arith, append_assoc, length-append, Bool, ◌<◌, common_steps, append-nil, drop-drop, drop_at, length-drop, length-take-le, take-append-drop, take_at, Result, Ok, Err, flat_map, AllByRecursion, Form, number_at, Captured, PcapRefusal, CutHeader, LongRecord, CutBody, IsFaulty, IsSpeltUpTo, ◌>>=◌, first_packet, header_form, packets_from, packets_of, Record, spelling, Fits, Spells, SpellsIn, captured_of, zero, suc, ◌≤◌, packets_in}
 use Rattle.cq_pcap.proofs.Headers.{header_read, header_faulty, number_at-drop, number_in-reads_back, first_said, Says}
 
 -- what stands in the bytes of a record, whatever follows it
@@ -86,3 +86,5 @@ fault_is_read bytes (LongRecord offset len) h =
 fault_is_read bytes (CutBody offset) h =
     grind (arith, common_steps, record_fault_read h.0 bytes offset (CutBody offset) h.1, length-drop, number_at-drop)
 fault_is_read bytes fault h = header_fault_read bytes fault (header_faulty bytes fault refl h)
+
+pub ruleset read_steps = (IfErr-weaker, fault_is_read, spelt_is_read)

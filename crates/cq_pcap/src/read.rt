@@ -178,6 +178,7 @@ fn rows_of(alloc: Global, bytes: &[u8]) -> Result<Vec<PacketRow>, PcapRefusal>
 ///
 /// The header's zone, sigfigs, snaplen and the upper half of its network field may be anything.
 /// Subseconds of any number are added to the seconds as they stand. A refusal drops the bytes.
+#[tactic(auto, using(crate::proofs::SpeltIsRead::read_steps))]
 pub fn read_capture(alloc: Global, bytes: Vec<u8>) -> Result<Capture, PcapRefusal>
     requires { length bytes.items ≤ longest_file }
     ensures spelt { IfOk result (λ packets. Spells bytes.items packets) }
