@@ -1,5 +1,5 @@
 -- The document that a text is, and the verdict on it.
-use Rattle.cq_tables.proofs.Terms.{rules, arith, ◌≡◌, ℕ, nat_le, ◌<◌, ◌≤◌, List, [], ◌∷◌, ◌++◌, Option, Some, None, Result, Ok, IfErr, length, is_some, unwrap_or, subst, ap, ◌∙◌, sym, le-leb, common_steps, IsUtf8, cases_Bool, lt-leb, is_utf8-from_IsUtf8, IsUtf8-from_is_utf8, Members, no_members, Tables, TableRefusal, Refuses, at, first, refused, unless, NotToml, TooLong, Top, table_checks, default_checks, document, file_check, top_keys, whole, read_or_refused, IsRefusedFor, tables_of, top_of, verdict}
+use Rattle.cq_tables.proofs.Terms.{rules, arith, ◌≡◌, ℕ, nat_le, ◌<◌, ◌≤◌, List, [], ◌∷◌, ◌++◌, Some, None, Result, Ok, IfErr, length, is_some, subst, ap, ◌∙◌, sym, le-leb, common_steps, IsUtf8, cases_Bool, lt-leb, is_utf8-from_IsUtf8, IsUtf8-from_is_utf8, Members, Tables, TableRefusal, Refuses, at, first, refused, unless, NotToml, TooLong, Top, table_checks, default_checks, document, file_check, top_keys, whole, read_or_refused, IsRefusedFor, tables_of, verdict}
 use Rattle.toml.specs.Parse.{parse_document}
 use Rattle.cq_tables.proofs.Checks.{all_in, first_all, first_here, first_none, first_on, here, here_in, later, later_in}
 
@@ -13,11 +13,6 @@ unfolding document
 document_none text h = grind (arith, common_steps, cases_Bool, IsUtf8-from_is_utf8)
 
 -- the verdict decides
-pub read_ok : (text : List ℕ) (t : Tables) → verdict text ≡ None → t ≡ tables_of (top_of text) →
-    read_or_refused text ≡ Ok t
-unfolding read_or_refused
-read_ok text t held value = rw (held, value)
-
 pub read_refused : (text : List ℕ) (r : TableRefusal) → Refuses (verdict text) r → IsRefusedFor (read_or_refused text) r
 unfolding read_or_refused
 read_refused text r h = search (arith, rules)
@@ -64,8 +59,9 @@ file_fault text top t r small is held value told =
 pub read_all : (text : List ℕ) (top : Members) (t : Tables) → length text ≤ 1048576 → document text ≡ Some top
     → first (table_checks Top (top_keys top) top ++ default_checks top) ≡ None → t ≡ tables_of top →
     file_check t ≡ None → read_or_refused text ≡ Ok t
+unfolding read_or_refused
 read_all text top t small is held value apart =
-    let last = ap file_check (sym value) ∙ apart in
-    read_ok text t (left_of text top small is
-    ∙ all_in (table_checks Top (top_keys top) top ++ default_checks top) _ held (first_all _ _ last first_none))
-    (value ∙ ap (λ (o : Option Members). tables_of (unwrap_or o no_members)) (sym is))
+    let last : file_check (tables_of top) ≡ None = rw value at apart in
+    let none : verdict text ≡ None = left_of text top small is
+    ∙ all_in (table_checks Top (top_keys top) top ++ default_checks top) _ held (first_all _ _ last first_none) in
+    rw (none, is) (ap Ok (sym value))
