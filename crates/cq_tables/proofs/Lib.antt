@@ -3,5 +3,4 @@ pub mod Values
 pub mod Checks
 pub mod Walk
 pub mod Text
-pub mod Apart
 pub mod Versions

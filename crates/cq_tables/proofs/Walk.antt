@@ -1,7 +1,9 @@
 -- A walk over the elements of an array: what is checked and read so far, and what is left to check.
-use Rattle.cq_tables.proofs.Terms.{common_steps, rules, ◌≡◌, ℕ, suc, ◌+◌, ◌<◌, ◌≤◌, List, [], ◌∷◌, ◌++◌, length, get_or, take, drop, map, None, Result, IfErr, All, refl, ap, ◌∙◌, sym, arith, add-one, drop_all, map-append, All-push, drop-cons, take-suc, Data, Members, view, Value, TableRefusal, Check, Refuses, first, each, members, ◌≢◌, Bool, true, false, ◌||◌, Option, Some, nat_cmp, slice_cmp, AllPairs, list_any, list_any-append, list_any_at, length-map, get_or-map, is_eq, insert_key, bytes_eq, not-true, is_eq-slice_cmp, bytes_eq-Decides, all_pairs_push, DuplicateAddress, Addresses, address_keys, address_row, and_then, element_check, is_new, mac_in, required, address, address_value}
-use Rattle.cq_tables.proofs.Checks.{first_none, first_on, here}
+use Rattle.cq_tables.proofs.Terms.{common_steps, rules, ◌≡◌, ℕ, suc, ◌+◌, ◌<◌, ◌≤◌, List, [], ◌∷◌, ◌++◌, length, get_or, take, drop, map, None, Result, IfErr, All, refl, ap, ◌∙◌, sym, arith, add-one, drop_all, map-append, All-push, drop-cons, take-suc, Data, Members, view, Value, TableRefusal, Check, Refuses, first, each, members, ◌≢◌, Bool, true, false, ◌||◌, Option, Some, nat_cmp, slice_cmp, AllPairs, list_any, list_any-append, list_any_at, length-map, get_or-map, is_eq, insert_key, bytes_eq, not-true, is_eq-slice_cmp, bytes_eq-Decides, all_pairs_push, DuplicateAddress, Addresses, address_keys, address_row, and_then, element_check, is_new, mac_in, required, address, address_value, not, codes, append_assoc, append-nil, or-false, Tables, DuplicateFile, Ports, Element, at, otherwise, unless, path, Named, apart_from, clash, file_check, files_of, names_of}
+use Rattle.cq_tables.proofs.Checks.{first_none, first_on, here, first-append, here_in}
 use Rattle.cq_route.specs.declared.tables.AddressRow.{AddressRow}
+use Rattle.cq_route.specs.declared.tables.PortRow.{PortRow}
+use Rattle.cq_tables.specs.Files.{files_before, is_named, read_clashes, write_clashes}
 
 -- the checks from an element on are its own and those from the next one on
 each_drop : (check : ℕ → Data → Check) (vs : List Value) (i n : ℕ) (d : Value) → i < length vs →
@@ -133,3 +135,62 @@ module _ {ports : ℕ} {vs : List Value} {i : ℕ} {known : List (List ℕ)} {ro
       IfErr r (Refuses (first (each (address_check ports vs) 0 (map view vs))))
   apart_stop r v small is told =
       grind (arith, common_steps, same_at ports i vs (view v) known rows w, walked_stop w.walked r v small is)
+
+-- ## The names of files, port by port
+
+-- a name clashes with those of the ports that name its file
+named_among : (n : Named) (i : ℕ) (rows : List PortRow) →
+    list_any (clash n) (files_of i rows) ≡ list_any (is_named n.file n.is_read) rows
+named_among n i [] = refl
+named_among n i (row ∷ rows) = grind (arith, common_steps, list_any-append, or-false, named_among n (suc i) rows)
+
+-- as the code asks it
+pub taken : (t : Tables) (i : ℕ) (n : Named) →
+    (bytes_eq n.file t.trace || (bytes_eq n.file t.log || list_any (is_named n.file n.is_read) (take i t.ports)))
+    ≡ list_any (clash n) (files_before t i)
+taken t i n = rw (named_among n 0 (take i t.ports))
+
+-- ---- the walk over the ports
+
+files_take : (rows : List PortRow) (i n m : ℕ) (d : PortRow) → m ≡ n + i → i < length rows →
+    files_of n (take (suc i) rows) ≡ files_of n (take i rows) ++ names_of m (get_or rows i d)
+files_take [] i n m d e h = absurd (omega arith)
+files_take (row ∷ rows) i n m d e h = grind (arith, common_steps, append-nil, append_assoc, files_take rows)
+
+-- the names of the first i ports clash with none before them
+abbrev pub Apart : Tables → ℕ → Type 0
+Apart t i = file_check t ≡ first (apart_from (files_before t i) (files_of i (drop i t.ports)))
+
+port_step : (t : Tables) (i : ℕ) (row : PortRow) → i < length t.ports → row ≡ get_or t.ports i row →
+    apart_from (files_before t i) (files_of i (drop i t.ports))
+    ≡ apart_from (files_before t i) (names_of i row)
+    ++ apart_from (files_before t (suc i)) (files_of (suc i) (drop (suc i) t.ports))
+port_step t i row small is = grind (arith, common_steps, files_take, drop-cons, append-nil, append_assoc)
+
+pub apart_next : (t : Tables) (i : ℕ) (row : PortRow) → i < length t.ports → row ≡ get_or t.ports i row →
+    first (apart_from (files_before t i) (names_of i row)) ≡ None → Apart t i → Apart t (i + 1)
+apart_next t i row small is held apart = rw (add-one, apart, port_step t i row small is, first-append, held) refl
+
+pub apart_stops : {B : Type 0} (r : Result B TableRefusal) (t : Tables) (i : ℕ) (row : PortRow) → i < length t.ports →
+    row ≡ get_or t.ports i row → IfErr r (Refuses (first (apart_from (files_before t i) (names_of i row)))) →
+    Apart t i → IfErr r (Refuses (file_check t))
+apart_stops r t i row small is told apart = rw (apart, port_step t i row small is) (search (rules, here_in))
+
+pub apart_all : (t : Tables) (i : ℕ) → length t.ports ≤ i → Apart t i → file_check t ≡ None
+apart_all t i past apart = grind (arith, common_steps, first_none)
+
+-- ---- one port
+
+-- the checks of a port's names
+abbrev port_checks : ℕ → Bool → Bool → Check
+port_checks i read write =
+    otherwise (at (path (Element Ports i) (codes "read")) (unless (not read) DuplicateFile))
+    (at (path (Element Ports i) (codes "write")) (unless (not write) DuplicateFile))
+
+pub port_checked : (t : Tables) (i : ℕ) (row : PortRow) →
+    first (apart_from (files_before t i) (names_of i row))
+    ≡ port_checks i (read_clashes t i row) (write_clashes t i row)
+unfolding first
+port_checked t i row = let asked = taken t i in grind (arith, common_steps, list_any-append, asked)
+
+pub ruleset differ_steps = (apart_all, apart_next, apart_stops, port_checked)

@@ -80,7 +80,7 @@ fn write_is_taken(tables: &Tables, index: usize, row: &PortRow) -> bool
 }
 
 // Refuses a port's name of a file that stands before it.
-#[tactic(auto, using(crate::proofs::Apart::differ_steps))]
+#[tactic(auto, using(crate::proofs::Walk::differ_steps))]
 fn port_files(
     alloc: Global,
     tables: &Tables,
@@ -104,7 +104,7 @@ fn port_files(
 }
 
 /// Refuses the first name of a file that stands before it, where not both are to be read.
-#[tactic(auto, using(crate::proofs::Apart::differ_steps), unfolding(crate::specs::Check::first))]
+#[tactic(auto, using(crate::proofs::Walk::differ_steps), unfolding(crate::specs::Check::first))]
 pub fn files_differ(alloc: Global, tables: &Tables) -> Result<(), TableRefusal>
     ensures held { IfOk result (λ _. file_check tables.now ≡ None) }
     ensures refused { IfErr result (Refuses (file_check tables.now)) }

@@ -1,4 +1,4 @@
-use Rattle.cq_tables.proofs.Apart.{Apart}
+use Rattle.cq_tables.proofs.Walk.{Apart}
 use Rattle.cq_tables.proofs.files.files_differ.Given as goal
 
 abbrev pub invariant-ports : goal.invariant-ports
