@@ -1,6 +1,6 @@
 -- Made packets are small: each fits a record, and all records of an input fit a file. So the file that is written is
 -- read again as the same packets.
-use Rattle.cq_gen.proofs.Terms.{rules, ◌≡◌, ℕ, ◌*◌, ◌<◌, ◌≤◌, ◌^◌, List, [], ◌∷◌, length, map, Ok, refl, ap, sym, subst, arith, length-append, common_steps, length-map, length-map-range_with_len, AllByRecursion, flat_map, most_soak_slots, Captured, IsWritable, read_again, record_of, written, frame_of, packet_of, packets_to, to_write, packets_of, OutPacket, spelt_is_read, written_is_spelt, all_made}
+use Rattle.cq_gen.proofs.Terms.{rules, ◌≡◌, ℕ, ◌*◌, ◌<◌, ◌≤◌, ◌^◌, List, [], ◌∷◌, length, map, Ok, refl, ap, sym, subst, arith, length-append, common_steps, length-map, length-map-range_with_len, AllByRecursion, flat_map, most_soak_slots, Captured, IsWritable, read_again, record_of, written, frame_of, packet_of, packets_to, to_write, packets_of, OutPacket, spelt_is_read, written_is_spelt, all_made, ◌+◌, ◌++◌, map-append, draw_for, counted_more, written_with}
 
 -- a packet of 60 bytes, with a stamp below 2^32 seconds
 record IsSmall (p : Captured) : Type 0 where
@@ -56,3 +56,22 @@ module _ (words : List ℕ) (ports slots input : ℕ) (few : slots ≤ most_soak
   file_read =
       let ps = map to_write packets in
       rw (wrote, spelt_is_read (written ps) _ (written_is_spelt ps (writable ps small)), again packets) refl
+
+-- ## The packets of an input are put into its file one after another: after each slot it is the file of those so far
+
+module _ (words : List ℕ) (ports input : ℕ) where
+  abbrev made_in : ℕ → Captured
+  made_in slot = packet_of ports slot input (draw_for words ports slot input)
+
+  -- with one slot more
+  more : (slot : ℕ) → packets_to words ports slot input ++ made_in slot ∷ [] ≡ packets_to words ports (slot + 1) input
+  unfolding packets_to
+  more slot = search (rules, counted_more)
+
+  pub one_put : (slot : ℕ) (bytes new : List ℕ) → bytes ≡ written (map to_write (packets_to words ports slot input)) →
+      new ≡ bytes ++ record_of (to_write (packet_of ports slot input (draw_for words ports slot input))) →
+      new ≡ written (map to_write (packets_to words ports (slot + 1) input))
+  one_put slot bytes new so_far put =
+      let ps = packets_to words ports slot input in
+      let with = written_with (map to_write ps) (to_write (made_in slot)) in
+      cc (with, map-append to_write ps (made_in slot ∷ []), more slot)

@@ -1,5 +1,5 @@
 use Rattle.cq_gen.proofs.Terms.{packets_to}
-use Rattle.cq_gen.proofs.Put.{one_put}
+use Rattle.cq_gen.proofs.Small.{one_put}
 use Rattle.cq_gen.proofs.packets.file_to.Goals as goal
 
 pub slots-init : goal.slots-init
