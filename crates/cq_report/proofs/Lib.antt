@@ -1,4 +1,3 @@
 mod Terms
 pub mod Hundreds
 pub mod OneMore
-pub mod Words

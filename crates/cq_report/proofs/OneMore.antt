@@ -31,3 +31,11 @@ no_line_left line left text all none so_far = grind (arith, common_steps, append
 pub ruleset left_steps = (first_line, no_line_left)
 
 pub ruleset packed_steps = (flat_map-map)
+
+-- ## Words that are put one behind another, each with a blank or the line feed behind it, make a line
+
+-- what is put behind a word is put behind all
+pub word_then : (start old new word rest : List ℕ) (blank : ℕ) → old ≡ start ++ (word ++ blank ∷ []) →
+    new ≡ old ++ rest →
+    new ≡ start ++ (word ++ blank ∷ rest)
+word_then start old new word rest blank o n = grind (arith, common_steps, append_assoc)

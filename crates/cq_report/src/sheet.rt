@@ -102,7 +102,7 @@ impl Sheet {
 
 // The three numbers at the end of a line, a port and the packet and the number of a cell, and the line feed.
 #[inline(always)]
-#[tactic(auto, using(crate::proofs::Hundreds::line_feed_behind, crate::proofs::Words::word_then))]
+#[tactic(auto, using(crate::proofs::Hundreds::line_feed_behind, crate::proofs::OneMore::word_then))]
 fn put_cell(
     bytes: &mut [u8; SHEET],
     at: usize,
