@@ -3,11 +3,11 @@
 -- written. The run with input-best matchings is a stable one, and its log is read as what it is spelt from. A yes that
 -- holds is never denied. First, the files that an accepted configuration names: no two names clash, so a file that is
 -- read is none that is written, and the trace is not the log.
-use Rattle.cq_run.proofs.Terms.{IfSome_then, rules, ◌≡◌, ◌≢◌, ◌≤◌, ◌^◌, ◌∙◌, ◌++◌, ℕ, List, [], ◌∷◌, length, Option, None, Some, refl, arith, IsOkAnd, Ok, get, AllByRecursion, Arrival, log_of, trace_of, Departure, Transfer, short_is, small_cells, traffic_is, arrivals, IsTraffic, all_weaker, limited_not_more, LimitedRecord, slots_in, Captured, all_both, all_back, classes_of, ports_of, Tables, machines_of, as_many_slots, sends_as_ideal, stable_limited_too, departures_in_run, ideal_departures, Contents, files_in, read_or_refused, Audit, Denial, Refusal, Aim, Auditing, Denies, Meets, KeepsUp, audited, captures_out, crossed, Reader, ◌>>=◌, captures_in, found_or_missing, judged, read_or_refused_for, tables_in, all_replaced, common_steps, IsAuditPassed, audit_is_exact, stable_log, trace_is_exact, IsYes, transfers_of_run, empty_list, all_stable, stable_sends, stable_slack, longest_file, ◌&&◌, suc, true, false, codes, is_some, sym, inl, inr, IfSome, list_any, and_from, not_from_false, bytes_eq-Decides, PortRow, first, Named, apart_from, checks_in, clash, file_check, files_of, names_of, read_at, tables_of, top_of, written_at, first_parts, Ports, Element, Top, EachPair, Has, has_left, has_right, pair_of_has}
+use Rattle.cq_run.proofs.Terms.{IfSome_then, rules, ◌≡◌, ◌≢◌, ◌≤◌, ◌^◌, ◌∙◌, ◌++◌, ℕ, List, [], ◌∷◌, length, Option, None, Some, refl, arith, IsOkAnd, Ok, get, AllByRecursion, Arrival, log_of, trace_of, Departure, Transfer, short_is, small_cells, traffic_is, arrivals, IsTraffic, all_weaker, limited_not_more, LimitedRecord, slots_in, Captured, all_both, all_back, classes_of, ports_of, Tables, machines_of, as_many_slots, sends_as_ideal, stable_limited_too, departures_in_run, ideal_departures, Contents, files_in, read_or_refused, Audit, Denial, Refusal, Aim, Auditing, Denies, Meets, KeepsUp, audited, captures_out, crossed, Reader, ◌>>=◌, captures_in, found_or_missing, judged, read_or_refused_for, tables_in, all_replaced, common_steps, IsAuditPassed, audit_is_exact, stable_log, trace_is_exact, IsYes, transfers_of_run, empty_list, all_stable, stable_sends, stable_slack, longest_file, ◌&&◌, suc, true, false, codes, is_some, inl, inr, IfSome, list_any, and_from, not_from_false, bytes_eq-Decides, PortRow, first, Named, apart_from, checks_in, clash, file_check, files_of, names_of, read_at, tables_of, top_of, written_at, first_parts, Ports, Element, Top, EachPair, Has, has_left, has_right, pair_of_has}
 use Rattle.cq_run.specs.Auditing.{IsDenied}
 use Rattle.cq_run.specs.RunsAudited.{RunsAreAudited}
 use Rattle.cq_run.proofs.Left.{captures_same, last_two, outputs_named, untouched}
-use Rattle.cq_run.proofs.TextRead.{text_is}
+use Rattle.cq_run.proofs.Chain.{text_is}
 use Rattle.std.proofs.lemmas.List.Folds.{list_any-append}
 use Rattle.cq_run.specs.declared.denial.Denial.TheVariants as why
 
@@ -41,7 +41,7 @@ never_same a b clear written same = search (arith, rules, and_from, not_from_fal
 
 -- a file that is read is none that is written
 read_or_written : (xs : List Named) → ArePairs xs → (r w : Named) → Has xs r → Has xs w →
-    r.is_read ≡ true → w.is_read ≡ false → r.file ≢ w.file
+    r.is_read ≡ true → w.is_read ≡ false → w.file ≢ r.file
 read_or_written xs pairs r w k l read written = grind (arith, common_steps, pair_of_has, never_same)
 
 -- ## The names of the ports
@@ -68,18 +68,14 @@ pub record IsUnwritten (t : Tables) (name : List ℕ) : Type 0 where
   pub log : t.log ≢ name
 
 module _ (t : Tables) (pairs : ArePairs (files_in t)) where
-  -- a name of the ports that is read is none that is written
-  unlike : (r w : Named) → Has (files_of 0 t.ports) r → Has (files_in t) w →
-      r.is_read ≡ true → w.is_read ≡ false → w.file ≢ r.file
-  unlike r w k l read written same = read_or_written (files_in t) pairs r w (inr (inr k)) l read written (sym same)
-
-  -- so it is with each that they read
+  -- so it is with each that the ports read
   pub reads_unwritten : AllByRecursion (λ row. IfSome row.read (IsUnwritten t)) t.ports
   reads_unwritten = each_read (IsUnwritten t) 0 t.ports (λ r k read.
       let outputs = each_written (λ (w : List ℕ). w ≢ r.file) 0 t.ports in
-      let trace = unlike r (written_at Top (codes "trace") t.trace) k (inl refl) read refl in
-      let log = unlike r (written_at Top (codes "log") t.log) k (inr (inl refl)) read refl in
-      search (arith, rules, outputs, unlike r))
+      let unlike = λ (w : Named). read_or_written (files_in t) pairs r w (inr (inr k)) in
+      let trace = unlike (written_at Top (codes "trace") t.trace) (inl refl) read refl in
+      let log = unlike (written_at Top (codes "log") t.log) (inr (inl refl)) read refl in
+      search (arith, rules, outputs, unlike))
 
   -- and the trace is not the log
   pub trace_or_log : t.trace ≢ t.log

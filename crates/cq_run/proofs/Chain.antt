@@ -3,10 +3,11 @@
 -- the same without it, or misses it. First, judging where a name is not there: a judgement that accepts the contents
 -- comes to the same without some name, unless it is to read that name: then it misses it. This holds of the bytes of
 -- one name, and of one judgement after another.
-use Rattle.cq_run.proofs.Terms.{rules, arith, ◌≡◌, ◌⊎◌, ℕ, List, IfSome, Result, Ok, Err, common_steps, Contents, Space, Mode, Refusal, Missing, Halt, ◌>>=◌, Judges, Pace, Ahead, Uncounted, AnyName, Call, Fails, Lasts, ◌∙◌, cond, [], ◌∷◌, ap, inl, Option, None, ◌+◌, nat_list_cmp_total, get, get-remove, exact_bytes, tells_apart, PortRow, Reader, tables_in, capture_in, packets_at, captures_from, short_in, eq_by_cmp_equiv}
+use Rattle.cq_run.proofs.Terms.{rules, arith, ◌≡◌, ◌⊎◌, ℕ, List, IfSome, Result, Ok, Err, common_steps, Contents, Space, Mode, Refusal, Missing, Halt, ◌>>=◌, Judges, Pace, Ahead, Uncounted, AnyName, Call, Fails, Lasts, ◌∙◌, cond, [], ◌∷◌, ap, inl, Option, None, ◌+◌, nat_list_cmp_total, get, get-remove, exact_bytes, tells_apart, PortRow, Reader, tables_in, capture_in, packets_at, captures_from, short_in, eq_by_cmp_equiv, ⊎_elim, ◌<◌, ◌≤◌, length, codes, Some, le-ltb, bytes_of, Configuration, IsRefused, first, read_or_refused, sym, slice_index, Captured, PcapRefusal, IsFaulty, Spells, Halts, halt_for, file_in, spelt_or_faulty, fault_is_read, spelt_is_read}
 use Rattle.std.specs.FinMap.{remove}
 use Rattle.cq_run.specs.declared.refusal.Refusal.TheVariants.{Capture}
 use Rattle.cq_run.specs.declared.refusal.CaptureFault.TheVariants.{Long}
+use Rattle.cq_pcap.specs.Reading.{packets_of}
 
 -- without a name the judgement comes to the same, or misses that name
 unfoldable pub Stays : {A : Type 0} → (Contents → Result A Refusal) → Type 0
@@ -114,3 +115,42 @@ pub stands_on : {A B : Type 0} {whole : Contents → Result B Refusal} {j : Cont
     (f : A → Contents → Result B Refusal) {q : Pace} {Q : List ℕ → Type 0} {old mid new : Space} {x : A} → Stays j →
     Stands whole (both j f) old mid → Judges q j Q mid new (Ok x) → Stands whole (f x) old new
 stands_on {whole = whole} {j = j} f {x = x} s st h = search (arith, rules, comes_on {whole = whole} j f x s)
+
+-- ## What is told of a text from what was read under its name: its bytes, where they are not too many
+
+-- a trace or a log of an audit, or the state of a stopped run
+module _ (long : Refusal) (limit : ℕ) (name : List ℕ) where
+  pub text_is : (told : Option Contents) (bytes : List ℕ) → length bytes ≤ limit →
+      IfSome told (λ m. get m name ≡ Some bytes)
+      → IfSome told (λ m. short_in long limit name m ≡ Ok bytes)
+  text_is told bytes short at = grind (arith, common_steps, le-ltb)
+
+-- the name that was asked for is the one that is to be read, or a copy of it
+pub configuration_long : (told : Option Contents) (name asked path : List ℕ) → asked ≡ name → path ≡ codes "-" →
+    IfSome told (λ m. 1048576 < length (bytes_of m asked)) → IsRefused (tables_in name) told (Configuration 10 path)
+unfolding read_or_refused first
+configuration_long told name asked path a e h = search (arith, rules)
+
+-- ## Captures are read in one way
+
+-- the reader that begins at the front of a file
+pub from_front : Reader
+from_front = record { read = packets_of; spelt = spelt_is_read; faulty = fault_is_read }
+
+pub one_answer : (r s : Reader) (bytes : List ℕ) → ((i : ℕ) → slice_index bytes i < 256) → r.read bytes ≡ s.read bytes
+one_answer r s bytes are = ⊎_elim (λ (h : (packets : List Captured) × Spells bytes packets).
+    r.spelt bytes h.0 h.1 ∙ sym (s.spelt bytes h.0 h.1)) (λ (h : (fault : PcapRefusal) × IsFaulty bytes fault).
+    r.faulty bytes h.0 h.1 ∙ sym (s.faulty bytes h.0 h.1)) (spelt_or_faulty bytes are)
+
+module _ (r : Reader) (name : List ℕ) (input limit : ℕ) (bytes : List ℕ) where
+  pub capture_is : (told : Option Contents) (packets : List Captured) →
+      IfSome told (λ m. file_in name input limit m ≡ Ok bytes) → Spells bytes packets
+      → IfSome told (λ m. capture_in r name input limit m ≡ Ok packets)
+  capture_is told packets at spelt = let read = r.spelt bytes packets spelt in grind (arith, common_steps)
+
+  -- a refusal of the reading stops it for its fault, or for want of memory
+  pub capture_halts : (p : Pace) (R : List ℕ → Type 0) (old new : Space) (found : Option PcapRefusal) →
+      IfSome old.told (λ m. file_in name input limit m ≡ Ok bytes) → IfSome found (IsFaulty bytes)
+      → Uncounted p (AnyName R) old.faults new.faults →
+      Halts p (capture_in r name input limit) R old new (halt_for input found)
+  capture_halts p R old new found at faulty kept = grind (arith, common_steps)

@@ -2,14 +2,23 @@
 -- status says. Each end has one status, and what the end says of the verdict is what the status says of it, which the
 -- table of refusals tells case by case. Words are refused only where they are no command: no judgement of contents
 -- refuses them, since they are judged before any file is asked for.
-use Rattle.cq_run.proofs.Terms.{common_steps, arith, ◌≡◌, ◌↔◌, ℕ, List, rules, [], ◌∷◌, ◌≢◌, Result, Ok, Err, Option, None, Some, IfSome, Call, Fails, Lasts, Writes, Contents, Space, Command, IsJudged, Pace, Plan, known_to, known_by, Reader, Taken, World, IsCut, IsDone, IsCutAtFile, Rose, Words, Emulates, judged, judged_or_words, StatusCauses, Status, ◌+◌, PortRow, captures_from}
+use Rattle.cq_run.proofs.Terms.{Uncounted, common_steps, arith, ◌≡◌, ◌↔◌, ℕ, List, rules, [], ◌∷◌, ◌≢◌, Result, Ok, Err, Option, None, Some, IfSome, Call, Fails, Lasts, Writes, Contents, Space, Command, IsJudged, Pace, Plan, known_to, known_by, Reader, Taken, World, IsCut, IsDone, IsCutAtFile, Rose, Words, Emulates, judged, judged_or_words, StatusCauses, Status, ◌+◌, PortRow, captures_from, option_map, leb-true, command_for, most_slots, with_three, IsWithinRange, Ahead, InTurn, pace_of, number_from, as_run, run_of, streamed, most_ports, most_soak_slots}
 use Rattle.cq_run.specs.declared.stop.Stop.{Stop}
 use Rattle.cq_run.specs.declared.stop.Stop.TheVariants.{Cut, Halted}
 use Rattle.cq_run.specs.declared.stop.Unwritten.{Unwritten}
 use Rattle.cq_run.specs.Ending.{CommandEnds, EndsFor, WhereHalted, status_of}
 use Rattle.cq_run.proofs.Chain.{fails_after}
-use Rattle.cq_run.proofs.Planned.{known_faults, counts_known}
+use Rattle.std.specs.Int.{IsInRange}
 use Rattle.cq_base.specs.declared.status.Status.TheVariants as status
+
+-- what a command knows of a file space has its count of faults
+known_faults : (command : Command) (s : Space) → (known_to command s).faults ≡ s.faults
+known_faults command s = grind (arith, common_steps)
+
+-- the count of faults that a command knows of is that of the file space
+counts_known : (p : Pace) (U V : Type 0) (command : Command) (old new : Space) → (U → V) →
+    Uncounted p U (known_to command old).faults (known_to command new).faults → Uncounted p V old.faults new.faults
+counts_known p U V command old new f h = grind (arith, common_steps)
 
 file_from : (ws : List (List ℕ × List ℕ)) (name : List ℕ) (old mid new : Space) → mid.told ≡ old.told →
     mid.faults ≡ old.faults → IsCutAtFile ws name mid new → IsCutAtFile ws name old new
@@ -78,3 +87,30 @@ module _ (p : Pace) (a : Reader) (R W : List ℕ → Type 0) (T : Type 0) (comma
   pub emulated_at : (c : Command) → command ≡ Some c → answer ≡ status.Done →
       IfSome old.files.told (λ m. (plan : Plan) × Emulates a c m plan × IsDone plan old new)
   emulated_at c e done = search (arith, rules)
+
+-- ## The numbers of a command that words are stand in their ranges
+
+-- a number that a text writes is in its range
+in_range : (least most : ℕ) (text : List ℕ) (n : ℕ) → number_from least most text ≡ Some n → IsInRange least most n
+in_range least most text n e = grind (arith, common_steps, leb-true)
+
+three_within : (word first second third : List ℕ) (command : Command) →
+    with_three word first second third ≡ Some command → IsWithinRange command
+three_within word first second third command e =
+    grind (arith, common_steps, in_range 0 most_slots second, in_range 1 most_ports second, in_range 1 most_soak_slots)
+
+pub words_within : (words : List (List ℕ)) (command : Command) → command_for words ≡ Some command →
+    IsWithinRange command
+words_within (word ∷ a ∷ b ∷ c ∷ []) command e = grind (arith, common_steps, three_within word a b c)
+words_within words command e = grind (arith, common_steps)
+
+-- ## The words `stream CONFIG` are judged as `run CONFIG`, ahead
+
+-- what was found in the words, told of what it points to
+module _ {A : Type 0} (found : Option A) (now : A → List ℕ) (words : List (List ℕ))
+    (is : option_map now found ≡ streamed words) where
+  pub others : found ≡ None → (as_run words ≡ words) × (pace_of words ≡ InTurn)
+  others e = grind (arith, common_steps)
+
+  pub streams : (config : A) → found ≡ Some config → (as_run words ≡ run_of (now config)) × (pace_of words ≡ Ahead)
+  streams config e = grind (arith, common_steps)

@@ -4,11 +4,9 @@ pub mod Crossed
 pub mod Chain
 pub mod Ports
 pub mod Planned
-pub mod Within
 pub mod Reached
 pub mod OnePort
 pub mod Ends
-pub mod TextRead
 pub mod Left
 pub mod Audits
 pub mod AnyWorkers

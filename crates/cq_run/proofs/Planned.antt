@@ -1,21 +1,12 @@
 -- From one judgement after another to a plan that meets what is aimed at: for each command what is judged of what it
 -- reads, and a plan that it comes to.
-use Rattle.cq_run.proofs.Terms.{resumed_best, resumed_slack, parted_best, parted_slack, rules, arith, ◌≡◌, ◌∙◌, ℕ, List, [], ◌∷◌, refl, ap, Result, Ok, Err, IfOk, IfErr, IsOk, common_steps, soak_captures, soak_tables, Captured, Tables, Call, Contents, Space, Closed, Command, Ideal, Run, Soak, Pass, Audit, Part, Resume, Given, Halt, Reporting, Meets, Exactly, Auditing, IsGiven, IsPassage, AreRead, IsAudited, AreGiven, IsJudged, IsHaltOf, Judges, Pace, InTurn, Uncounted, Plan, known_to, Reader, ◌>>=◌, ideally_sent, capture_in, text_in, state_in, passed, audited, file_alone, IsCrossing, IsIdeal, IsPassing, plain_tables, AreTables, Lasts, trace_of, IsAuditHalted, IsAuditPassed, IsPartHalt, IsResumeHalt, IsResuming, IsPartText, written, recursion_from_All, IfSome_then, left_in_packets}
+use Rattle.cq_run.proofs.Terms.{resumed_best, resumed_slack, parted_best, parted_slack, rules, arith, ◌≡◌, ◌∙◌, ℕ, List, [], ◌∷◌, refl, ap, Result, Ok, Err, IfOk, IfErr, IsOk, common_steps, soak_captures, soak_tables, Captured, Tables, Call, Contents, Space, Closed, Command, Ideal, Run, Soak, Pass, Audit, Part, Resume, Given, Halt, Reporting, Meets, Exactly, Auditing, IsGiven, IsPassage, AreRead, IsAudited, AreGiven, IsJudged, IsHaltOf, Judges, Pace, InTurn, Plan, Reader, ◌>>=◌, ideally_sent, capture_in, text_in, state_in, passed, audited, file_alone, IsCrossing, IsIdeal, IsPassing, plain_tables, AreTables, Lasts, trace_of, IsAuditHalted, IsAuditPassed, IsPartHalt, IsResumeHalt, IsResuming, IsPartText, written, recursion_from_All, IfSome_then, left_in_packets}
 use Rattle.cq_run.proofs.Reached.{computed_halts, computed_plans, given_so, Reached, begun, read_on, sent_of, settled, exit_is, tables_end, no_memory}
 use Rattle.cq_run.proofs.OnePort.{all_leave_is, none_limited}
 use Rattle.cq_run.proofs.Chain.{capture_stays, short_stays}
 use Rattle.cq_run.specs.declared.denial.Denial.TheVariants.{LongLog, LongTrace}
 use Rattle.cq_run.specs.Headline.{IsTakenUp}
 use Rattle.cq_run.specs.declared.judge.Asked.TheVariants as asked
-
--- what a command knows of a file space has its count of faults
-pub known_faults : (command : Command) (s : Space) → (known_to command s).faults ≡ s.faults
-known_faults command s = grind (arith, common_steps)
-
--- the count of faults that a command knows of is that of the file space
-pub counts_known : (p : Pace) (U V : Type 0) (command : Command) (old new : Space) → (U → V) →
-    Uncounted p U (known_to command old).faults (known_to command new).faults → Uncounted p V old.faults new.faults
-counts_known p U V command old new f h = grind (arith, common_steps)
 
 -- what is judged of a command that is this one
 pub judged_as : {S : Type 0} (space : S → Space) (may_fail : Call → S → S → Type 0) (keeps : S → S → Type 0) (p : Pace)

@@ -3,11 +3,10 @@
 -- contents as they are, so the first capture is judged as if nothing had come between. Where it ends the whole, the
 -- later inputs say nothing but what the count of faults may show.
 use Rattle.cq_run.proofs.Terms.{rules, ◌≡◌, ◌<◌, ℕ, ◌+◌, List, [], ◌∷◌, ◌++◌, ◌≤◌, append-nil, append_assoc, drop_all, drop_more, length, drop, get_or, arith, Result, Ok, Err, Option, Some, IfSome, IfOk, IfErr, MatchOption, common_steps, Contents, Space, Closed, Captured, PortRow, Refusal, Halt, Judges, Halts, Ahead, AnyName, Uncounted, Reader, ◌>>=◌, packets_at, captures_from, Spells, Call, Fails, Lasts, Reads}
-use Rattle.cq_run.proofs.Chain.{packets_stay, Stands, both, stands_back, stands_first, stands_on, judges_then, counts_of, name_after, fails_after}
+use Rattle.cq_run.proofs.Chain.{packets_stay, Stands, both, stands_back, stands_first, stands_on, judges_then, counts_of, name_after, fails_after, capture_halts, capture_is}
 use Rattle.cq_run.specs.declared.decoding.Decoding.{Decoding}
 use Rattle.cq_run.specs.Decoding.{HasBegun, IsBegunFor, source}
 use Rattle.cq_run.specs.Input.{IsHaltFor, IsInFront}
-use Rattle.cq_run.proofs.TextRead.{capture_halts, capture_is}
 
 abbrev Packets : Type 0
 Packets = List Captured

@@ -5,8 +5,7 @@ use Rattle.cq_run.proofs.Terms.{rules, arith, ◌≡◌, ◌⊎◌, ℕ, IsTrue,
 use Rattle.cq_run.specs.declared.denial.Denial.TheVariants.{LongLog, LongTrace}
 use Rattle.cq_run.specs.declared.judge.Asked.{Asked}
 use Rattle.cq_run.specs.declared.judge.Asked.TheVariants as asked
-use Rattle.cq_run.proofs.Chain.{ComesTo, Stands, both, comes_on, stands_back, stands_first, stands_on, judges_then, fails_after, Stays, captures_from_stay, tables_stay}
-use Rattle.cq_run.proofs.TextRead.{from_front}
+use Rattle.cq_run.proofs.Chain.{ComesTo, Stands, both, comes_on, stands_back, stands_first, stands_on, judges_then, fails_after, Stays, captures_from_stay, tables_stay, from_front}
 
 -- what the exit of a `?` returns, where the conversion of the error is told by an equation
 pub exit_is : {T E : Type 0} {e : E} (r : Result T E) → IsErrAnd r (λ y. y ≡ e) → r ≡ Err e

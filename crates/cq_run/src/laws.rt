@@ -5,7 +5,7 @@ ghost use Rattle.cq_run.specs.Terms.{Reader, RunsAreAudited, WorkersChangeNothin
 
 /// There is a reader that goes by the grammar of captures and by its faults, and of a file of bytes any two such
 /// readers make the same. So what holds for any reader holds for one that is pinned on all files.
-#[tactic(auto, using(crate::proofs::TextRead::from_front, crate::proofs::TextRead::one_answer))]
+#[tactic(auto, using(crate::proofs::Chain::from_front, crate::proofs::Chain::one_answer))]
 pub fn captures_are_read_in_one_way()
     ensures a_reader { Reader }
     ensures one_answer { (r s : Reader) (bytes : List ℕ) → ((i : ℕ) → slice_index bytes i < 256) →

@@ -18,7 +18,7 @@ const LONGEST_CONFIGURATION: u64 = cq_base::LONGEST_CONFIGURATION as u64;
 const LONGEST_TEXT: u64 = cq_state::LONGEST_TEXT as u64;
 
 /// The tables of the configuration of this name.
-#[tactic(auto, using(crate::proofs::TextRead::configuration_long))]
+#[tactic(auto, using(crate::proofs::Chain::configuration_long))]
 pub fn read_configuration<F: Files>(
     alloc: Global,
     files: &mut F,

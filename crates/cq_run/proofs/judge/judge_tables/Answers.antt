@@ -1,5 +1,5 @@
 use Rattle.cq_run.proofs.Reached.{captures_end, given_read, exit_is}
-use Rattle.cq_run.proofs.TextRead.{from_front}
+use Rattle.cq_run.proofs.Chain.{from_front}
 use Rattle.cq_run.proofs.judge.judge_tables.Goals as goal
 
 pub returns-in_err-captures : goal.returns-in_err-captures

@@ -1,5 +1,5 @@
 use Rattle.cq_run.proofs.Terms.{arith, rules}
-use Rattle.cq_run.proofs.TextRead.{capture_halts, capture_is}
+use Rattle.cq_run.proofs.Chain.{capture_halts, capture_is}
 use Rattle.cq_run.proofs.reading.read_input.Goals as goal
 
 pub returns-in-Ok-clause-judges : goal.returns-in-Ok-clause-judges

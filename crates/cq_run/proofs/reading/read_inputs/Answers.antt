@@ -1,7 +1,6 @@
 use Rattle.cq_run.proofs.Terms.{rules, arith, sym, length-append}
-use Rattle.cq_run.proofs.Chain.{fails_after, judges_then, stands_as, stands_back, stands_on, packets_stay}
+use Rattle.cq_run.proofs.Chain.{fails_after, judges_then, stands_as, stands_back, stands_on, packets_stay, from_front}
 use Rattle.cq_run.proofs.Ports.{first_left, next_left, none_left}
-use Rattle.cq_run.proofs.TextRead.{from_front}
 use Rattle.cq_run.proofs.Reached.{exit_is}
 use Rattle.cq_run.proofs.reading.read_inputs.Goals as goal
 

@@ -1,6 +1,5 @@
 use Rattle.cq_run.proofs.Terms.{rules, arith, ap, Err, ⊎_elim, common_steps, lt-ltb}
-use Rattle.cq_run.proofs.Chain.{get-remove_same}
-use Rattle.cq_run.proofs.TextRead.{text_is}
+use Rattle.cq_run.proofs.Chain.{get-remove_same, text_is}
 use Rattle.cq_run.proofs.reading.read_short.Goals as goal
 
 pub returns-in-Ok-clause-judges : goal.returns-in-Ok-clause-judges

@@ -1,7 +1,6 @@
 use Rattle.cq_run.proofs.Terms.{map, string_bytes, Ahead}
-use Rattle.cq_run.proofs.Ends.{causes_at, emulated_at, halted_so, words_end}
-use Rattle.cq_run.proofs.TextRead.{from_front}
-use Rattle.cq_run.proofs.Within.{others, streams}
+use Rattle.cq_run.proofs.Ends.{causes_at, emulated_at, halted_so, words_end, others, streams}
+use Rattle.cq_run.proofs.Chain.{from_front}
 use Rattle.cq_run.proofs.stream.stream_top.Goals as goal
 
 -- all other words: each clause is that of `switch_top`, along the equations of the words and of the pace

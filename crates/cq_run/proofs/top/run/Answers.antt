@@ -1,5 +1,5 @@
 use Rattle.cq_run.proofs.Terms.{arith, rules, string_bytes, ◌∙◌, sym}
-use Rattle.cq_run.proofs.Within.{words_within}
+use Rattle.cq_run.proofs.Ends.{words_within}
 use Rattle.cq_run.proofs.top.run.Goals as goal
 
 pub obey-requires-clause-range : goal.obey-requires-clause-range

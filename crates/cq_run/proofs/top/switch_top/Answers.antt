@@ -1,6 +1,6 @@
 use Rattle.cq_run.proofs.Terms.{arith, rules, refl, InTurn}
 use Rattle.cq_run.proofs.Ends.{causes_at, emulated_at, halted_so, words_end}
-use Rattle.cq_run.proofs.TextRead.{from_front}
+use Rattle.cq_run.proofs.Chain.{from_front}
 use Rattle.cq_run.proofs.top.switch_top.Goals as goal
 
 pub returns : goal.returns
