@@ -1,14 +1,10 @@
 -- Lists that are made from a range of numbers: one item more, and what holds of each item.
 -- The tables are in range, and no address stands twice, since the last bytes of two addresses differ.
-use Rattle.cq_gen.proofs.Terms.{rules, ◌≡◌, ℕ, ◌<◌, ◌≤◌, Option, None, sym, ◌∙◌, arith, length-replicate, get_or-replicate, length-map-range_with_len, IsInRange, AddressRow, AreTables, ports_of, ◌≢◌, soak_address, soak_kind, soak_port, soak_rule, soak_setup, soak_tables, RuleRow, plain_tables, common_steps, map, All, AllPairs, get_or-map-range_with_len, range_with_len}
+use Rattle.cq_gen.proofs.Terms.{rules, ◌≡◌, ℕ, ◌<◌, ◌≤◌, Option, None, sym, ◌∙◌, arith, length-replicate, get_or-replicate, length-map-range_with_len, IsInRange, AreTables, ports_of, soak_kind, soak_port, soak_rule, soak_setup, soak_tables, RuleRow, plain_tables, common_steps, map, All, get_or-map-range_with_len, range_with_len}
 
 pub all_counted : {X : Type 0} (P : X → Type 0) (f : ℕ → X) (n : ℕ) → ((k : ℕ) → k < n → P (f k)) →
     All P (map f (range_with_len 0 n))
 all_counted P f n h k d l = grind (arith, common_steps, length-map-range_with_len, get_or-map-range_with_len)
-
-pub all_pairs_counted : {X : Type 0} (R : X → X → Type 0) (f : ℕ → X) (n : ℕ) → ((i j : ℕ) → i < j → R (f i) (f j)) →
-    AllPairs R (map f (range_with_len 0 n))
-all_pairs_counted {X} R f n h i j d l within = search (rules, length-map-range_with_len, get_or-map-range_with_len)
 
 pub soak_ports : (ports : ℕ) → ports_of (soak_setup ports) ≡ ports
 soak_ports ports = length-map-range_with_len soak_kind 0 ports
@@ -35,7 +31,7 @@ tables_in_range ports range =
       limits = search (arith, rules, get_or-replicate);
       default_output = omega arith;
       default_class = omega arith;
-      addresses_differ = search (arith, rules, all_pairs_counted (λ (a b : AddressRow). a.mac ≢ b.mac) soak_address);
+      addresses_differ = search (arith, rules, length-map-range_with_len, get_or-map-range_with_len);
       outputs = search (arith, rules, all_counted);
       inputs = search (arith, rules, all_counted);
       rule_classes = all_counted (λ (row : RuleRow). row.class < 8) soak_rule 8 (λ k l. l);

@@ -1,8 +1,8 @@
 -- A made packet goes where its word says. Its destination is the address of one output and of no other, and its tag
 -- has the priority of one rule and of no other, so what is found is that one.
-use Rattle.cq_gen.proofs.Terms.{common_steps, rules, ◌≡◌, ℕ, zero, suc, ◌+◌, ◌*◌, ◌/◌, ◌%◌, ◌<◌, ◌≤◌, ◌^◌, Bool, true, false, length, map, find, Some, refl, arith, mod-lt, cases_eq, eq-eqb, ne_eqb, IsInRange, range_with_len, frame_of, output_address, packet_of, soak_address, soak_tables, FrameParts, plain_tables}
+use Rattle.cq_gen.proofs.Terms.{common_steps, rules, ◌≡◌, ℕ, zero, suc, ◌+◌, ◌*◌, ◌/◌, ◌%◌, ◌<◌, ◌≤◌, ◌^◌, Bool, true, false, length, map, find, Some, refl, arith, mod-lt, cases_eq, eq-eqb, ne_eqb, IsInRange, range_with_len, frame_of, output_address, packet_of, soak_address, soak_tables, plain_tables}
 use Rattle.cq_frame.specs.Frame.{destination, priority}
-use Rattle.cq_route.specs.Route.{class_for, is_to, output_for, route}
+use Rattle.cq_route.specs.Route.{is_to, route}
 
 -- what is found is the item of the only number that passes
 found_counted : {X : Type 0} (test : X → Bool) (f : ℕ → X) (j a n : ℕ) → a ≤ j → j < a + n → test (f j) ≡ true →
@@ -10,33 +10,13 @@ found_counted : {X : Type 0} (test : X → Bool) (f : ℕ → X) (j a n : ℕ) �
 found_counted test f j a zero low high here other = absurd (omega arith)
 found_counted {X} test f j a (suc n) low high here other = search (rules, cases_eq, found_counted test f j (a + 1) n)
 
-destination_is : (output input rank : ℕ) → destination (frame_of output input rank) ≡ Some (output_address output)
-unfolding destination frame_of
-destination_is output input rank = refl
-
-priority_is : (output input rank : ℕ) → priority (frame_of output input rank) ≡ Some rank
-unfolding priority frame_of
-priority_is output input rank = grind (arith, common_steps)
-
-output_is : (ports output : ℕ) → output < ports → output_for (soak_tables ports) (Some (output_address output)) ≡ output
-unfolding soak_tables plain_tables
-output_is ports output inside =
-    let found = found_counted (is_to (Some (output_address output))) soak_address output 0 ports in
-    search (arith, rules, found, eq-eqb, ne_eqb)
-
--- the fields of a frame with this priority
-abbrev with_priority : FrameParts → ℕ → Type 0
-with_priority fields rank = fields.pcp ≡ Some rank
-
-class_is : (ports input rank : ℕ) (fields : FrameParts) → rank < 8 → with_priority fields rank →
-    class_for (soak_tables ports) input fields ≡ rank
-unfolding soak_tables plain_tables
-class_is ports input rank fields few e = search (arith, rules, found_counted, ne_eqb, eq-eqb)
-
+-- the output is the only one with this address, and the rule the only one with this priority
 frame_routed : (ports input output rank : ℕ) → output < ports → rank < 8 →
     route (soak_tables ports) input (frame_of output input rank) ≡ (output, rank)
-unfolding route
-frame_routed ports input output rank inside few = search (rules, destination_is, output_is, class_is, priority_is)
+unfolding route priority destination frame_of soak_tables plain_tables
+frame_routed ports input output rank inside few =
+    let found = found_counted (is_to (Some (output_address output))) soak_address output 0 ports in
+    search (arith, rules, found, found_counted, ne_eqb, eq-eqb)
 
 pub packet_routed : (ports slot input word : ℕ) → IsInRange 1 64 ports → word < 2 ^ 32 →
     route (soak_tables ports) input (packet_of ports slot input word).body ≡ (word % ports, word / 2 ^ 29)

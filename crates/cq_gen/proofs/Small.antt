@@ -23,17 +23,14 @@ length-packets_to words ports slots input = grind (arith, common_steps, length-m
 
 -- ## What is written of small packets
 
-writable : (ps : List OutPacket) → AllByRecursion IsSmall (map read_again ps) → AllByRecursion IsWritable ps
-writable [] small = tt
-writable (p ∷ ps) small = grind (arith, common_steps, writable ps small.1)
-
 -- the records of packets
 abbrev spelt : List OutPacket → List ℕ
 spelt ps = flat_map record_of ps
 
-length-spelt : (ps : List OutPacket) → AllByRecursion IsSmall (map read_again ps) → length (spelt ps) ≡ 76 * length ps
-length-spelt [] small = refl
-length-spelt (p ∷ ps) small = search (arith, rules, length-append, length-spelt ps small.1)
+are_written : (ps : List OutPacket) → AllByRecursion IsSmall (map read_again ps) →
+    AllByRecursion IsWritable ps × (length (spelt ps) ≡ 76 * length ps)
+are_written [] small = (tt, refl)
+are_written (p ∷ ps) small = search (arith, rules, length-append, are_written ps small.1)
 
 -- ## The packets of an input
 
@@ -50,12 +47,12 @@ module _ (words : List ℕ) (ports slots input : ℕ) (few : slots ≤ most_soak
   small = subst (AllByRecursion IsSmall) (sym (again packets)) (packets_small words ports slots input few)
 
   pub file_small : length bytes ≤ 2 ^ 28
-  file_small = search (arith, rules, length-map, length-packets_to, length-spelt, small, length-append)
+  file_small = search (arith, rules, length-map, length-packets_to, are_written, small, length-append)
 
   pub file_read : packets_of bytes ≡ Ok (packets_to words ports slots input)
   file_read =
       let ps = map to_write packets in
-      rw (wrote, spelt_is_read (written ps) _ (written_is_spelt ps (writable ps small)), again packets) refl
+      rw (wrote, spelt_is_read (written ps) _ (written_is_spelt ps (are_written ps small).0), again packets) refl
 
 -- ## The packets of an input are put into its file one after another: after each slot it is the file of those so far
 
