@@ -4,7 +4,7 @@
 -- of what arrives and of these. Numbers can be exchanged, so it holds both ways. First, an aim is met by one plan:
 -- there is one whole run, one run up to a slot, one state with a given text, and from each state one run goes on; a
 -- plan is written of what such a run keeps.
-use Rattle.cq_run.proofs.Terms.{Audit, Check, Ideal, Part, Pass, Resume, Run, Soak, rules, arith, common_steps, ◌≡◌, ℕ, List, refl, IsOkAnd, Result, Ok, Err, arrivals, arrivals_at, cell_of, cells, Captured, Tables, captures_out, crossed, resumed, switched, ideal_departures, ran_ideal, packets_out, Contents, Aim, Denies, Meets, Refusal, Plan, Reader, ◌>>=◌, judged, tables_in, Command, openings_of, Crossing, Reporting, Parting, Resuming}
+use Rattle.cq_run.proofs.Terms.{Audit, Check, Ideal, Part, Pass, Resume, Run, Soak, rules, arith, ◌≡◌, ℕ, List, refl, IsOkAnd, Result, Ok, Err, arrivals, arrivals_at, cell_of, cells, Captured, Tables, captures_out, crossed, resumed, switched, ideal_departures, ran_ideal, packets_out, Contents, Aim, Denies, Meets, Refusal, Plan, Reader, judged, tables_in, Command, openings_of, Crossing, Reporting, Parting, Resuming}
 use Rattle.cq_cells.specs.Schedule.{stamp_slot, start}
 use Rattle.cq_route.specs.Route.{route}
 use Rattle.cq_run.specs.Plan.{check_line}
@@ -35,10 +35,6 @@ record Follows (one other : Result Aim Refusal) : Type 0 where
 alike : (x : Result Aim Refusal) → Follows x x
 alike x = record { met = λ plan h. h; denied = λ refusal h. h; refused = λ refusal h. h }
 
-then_both : {A : Type 0} (x : Result A Refusal) (f g : A → Result Aim Refusal) → ((a : A) → Follows (f a) (g a)) →
-    Follows (x >>= f) (x >>= g)
-then_both x f g h = grind (arith, common_steps)
-
 module _ (n : ℕ) (t : Tables) where
   -- the tables with another number of workers
   abbrev u : Tables
@@ -58,11 +54,11 @@ module _ (n : ℕ) (t : Tables) where
     follows (Pass from to) = alike _
     follows (Soak seed ports slots) = alike _
     follows (Check config) = rw (first, second) (alike _)
-    follows (Ideal config) = search (rules, first, second, arrivals_same, then_both, alike)
-    follows (Run config) = search (rules, first, second, arrivals_same, then_both, alike)
-    follows (Audit config) = search (rules, first, second, arrivals_same, then_both, alike)
-    follows (Part config slots state) = search (rules, first, second, arrivals_same, then_both, alike)
-    follows (Resume config state) = search (rules, first, second, arrivals_same, then_both, alike)
+    follows (Ideal config) = search (rules, first, second, arrivals_same, alike)
+    follows (Run config) = search (rules, first, second, arrivals_same, alike)
+    follows (Audit config) = search (rules, first, second, arrivals_same, alike)
+    follows (Part config slots state) = search (rules, first, second, arrivals_same, alike)
+    follows (Resume config state) = search (rules, first, second, arrivals_same, alike)
 
 -- ## Both ways
 

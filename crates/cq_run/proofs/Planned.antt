@@ -1,6 +1,6 @@
 -- From one judgement after another to a plan that meets what is aimed at: for each command what is judged of what it
 -- reads, and a plan that it comes to.
-use Rattle.cq_run.proofs.Terms.{resumed_best, resumed_slack, parted_best, parted_slack, rules, arith, ◌≡◌, ◌∙◌, ℕ, List, [], ◌∷◌, refl, ap, Result, Ok, Err, IfOk, IfErr, IsOk, common_steps, soak_captures, soak_tables, Captured, Tables, Call, Contents, Space, Closed, Command, Ideal, Run, Soak, Pass, Audit, Part, Resume, Given, Halt, Reporting, Meets, Exactly, Auditing, IsGiven, IsPassage, AreRead, IsAudited, AreGiven, IsJudged, IsHaltOf, Judges, Pace, InTurn, Plan, Reader, ◌>>=◌, ideally_sent, capture_in, text_in, state_in, passed, audited, file_alone, IsCrossing, IsIdeal, IsPassing, plain_tables, AreTables, Lasts, trace_of, IsAuditHalted, IsAuditPassed, IsPartHalt, IsResumeHalt, IsResuming, IsPartText, written, recursion_from_All, IfSome_then, left_in_packets}
+use Rattle.cq_run.proofs.Terms.{resumed_best, resumed_slack, parted_best, parted_slack, rules, arith, ◌≡◌, ◌∙◌, ℕ, List, [], ◌∷◌, refl, ap, Result, Ok, Err, IfOk, IfErr, IsOk, common_steps, soak_captures, soak_tables, Captured, Tables, Call, Contents, Space, Closed, Command, Ideal, Run, Soak, Pass, Audit, Part, Resume, Given, Halt, Reporting, Meets, Exactly, Auditing, IsGiven, AreRead, IsAudited, AreGiven, IsJudged, IsHaltOf, Judges, Pace, InTurn, Plan, Reader, ◌>>=◌, ideally_sent, capture_in, text_in, state_in, passed, audited, file_alone, IsCrossing, IsIdeal, IsPassing, plain_tables, AreTables, Lasts, trace_of, IsAuditHalted, IsAuditPassed, IsPartHalt, IsResumeHalt, IsResuming, IsPartText, written, recursion_from_All, IfSome_then, left_in_packets}
 use Rattle.cq_run.proofs.Reached.{computed_halts, computed_plans, given_so, Reached, begun, read_on, sent_of, settled, exit_is, tables_end, no_memory}
 use Rattle.cq_run.proofs.OnePort.{all_leave_is, none_limited}
 use Rattle.cq_run.proofs.Chain.{capture_stays, short_stays}
@@ -61,13 +61,6 @@ module _ {S : Type 0} {space : S → Space} {may_fail : Call → S → S → Typ
 
 -- ## Passing: what leaves a switch of one port, from the one capture that is read
 
-passage_at : (from to : List ℕ) (packets : List Captured) (plan : Plan)
-    (is : IsPassing (plain_tables from to) packets to plan) (r : Reader) → AreTables (plain_tables from to) →
-    (m : Contents) → capture_in r from 0 (plain_tables from to).limit_bytes m ≡ Ok packets → IsPassage r from to m plan
-unfolding plain_tables
-passage_at from to packets plan is r are m captured =
-    search (arith, rules, all_leave_is (plain_tables from to) packets, none_limited)
-
 module _ {S : Type 0} {space : S → Space} {keeps : S → S → Type 0}
     (lasts : Lasts keeps) {from to : List ℕ} {old new : S} (closed : (space old).mode ≡ Closed) (kept : keeps old new)
     {R : List ℕ → Type 0} {packets : List Captured} (are : AreTables (plain_tables from to)) (h : (r : Reader) →
@@ -82,9 +75,10 @@ module _ {S : Type 0} {space : S → Space} {keeps : S → S → Type 0}
         IfOk result (IsPassing (plain_tables from to) packets to) →
         IfErr result (IsHaltOf (ideally_sent (plain_tables from to) (packets ∷ []))) →
         IsJudged space may_fail keeps InTurn (Pass from to) old new result
+    unfolding plain_tables
     passing_judged (Ok plan) is refused =
         computed_plans _ _ at_packets is.is_sent (grind (arith, common_steps)) (rw is.writes (refl, tt))
-        (λ r. IfSome_then (space old).told (h r).ok (passage_at from to packets plan is r are))
+        (λ r. search (arith, rules, IfSome_then, (h r).ok, all_leave_is (plain_tables from to) packets, none_limited))
     passing_judged (Err halt) is refused = computed_halts _ _ at_packets halt refused
 
 -- ## An audit: the configuration, its captures, the trace, the log, and then the ideal run

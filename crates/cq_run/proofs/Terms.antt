@@ -37,7 +37,7 @@ pub use Rattle.cq_words.specs.declared.command.Command.TheVariants.{Audit, Check
 pub use Rattle.cq_run.specs.Aim.{Aim, Auditing, Crossing, Denies, Exactly, Meets, Parting, Reporting, Resuming}
 pub use Rattle.cq_run.specs.Asked.{command_asking}
 pub use Rattle.cq_run.specs.Given.{Given, IsGiven, judged_of_given}
-pub use Rattle.cq_run.specs.Headline.{AreGiven, AreRead, Emulates, IsAudited, IsPassage, KeepsUp}
+pub use Rattle.cq_run.specs.Headline.{AreGiven, AreRead, Emulates, IsAudited, KeepsUp}
 pub use Rattle.cq_run.specs.Judging.{Halts, IsHaltOf, IsRefused, Judges}
 pub use Rattle.cq_run.specs.Line.{Puts}
 unfoldable pub use Rattle.cq_run.specs.Line.{line}

@@ -18,8 +18,7 @@ returns-in_err-log g c = λ config start is.
 
 pub returns : goal.returns
 returns g c = λ config start is.
-    let passed = rw (c.as_slice.ensures, c.as_slice-2.ensures) at c.audit_texts-done.ensures.passed in
-    let halted = rw (c.as_slice.ensures, c.as_slice-2.ensures) at c.audit_texts-done.ensures.halted in
+    let told = rw (c.as_slice.ensures, c.as_slice-2.ensures) at c.audit_texts-done.ensures in
     audit_judged is g.met.F.Files.lasts_unbegun c.read_text.ensures.kept c.in_ok-trace.ensures.judges
     c.read_text-2.ensures.kept c.in_ok-log.ensures.judges _ (grind (arith, common_steps)) (grind (arith, common_steps))
     (grind (arith, common_steps))
