@@ -156,16 +156,13 @@ packets_come t captures input tables as_many =
 
 -- ## Numbers that rise
 
-alone : (p : ℕ → Bool) (a n k : ℕ) → a ≤ k → k < a + n → p k ≡ true →
-    filter (λ g. g == k) (filter p (range_with_len a n)) ≡ k ∷ []
-alone p a n k from to is =
-    search (arith, rules, filter_both, filter_agree, one_is k a n, cases_eq, ne_eqb)
-
 each_alone : (p q : ℕ → Bool) (a n b m : ℕ) → a ≤ b → b + m ≤ a + n →
     flat_map (λ k. filter (λ g. g == k) (filter p (range_with_len a n))) (filter q (filter p (range_with_len b m)))
     ≡ filter q (filter p (range_with_len b m))
 each_alone p q a n b zero from to = refl
-each_alone p q a n b (suc m) from to = grind (arith, common_steps, alone p a n b, each_alone p q a n (b + 1) m)
+each_alone p q a n b (suc m) from to =
+    let own = of_kind (λ (k : ℕ). k) b p (range_with_len a n) in
+    grind (arith, common_steps, one_is b a n, each_alone p q a n (b + 1) m)
 
 -- ## The packets of a flow
 

@@ -2,7 +2,7 @@
 -- state says was sent, and then what waits in it, are the arrivals that it names, in their order. What waits leaves
 -- first, as it does from the list of the ideal switch beside it, and then what is admitted of what comes. A packet
 -- that the state names is named with all its cells, and goes on as it began.
-use Rattle.cq_simulate.proofs.Terms.{common_steps, rules, map-append, ◌≡◌, ℕ, ◌<◌, Bool, true, false, List, [], ◌∷◌, ◌++◌, length, map, filter, Option, Some, refl, sym, ap, ◌∙◌, arith, ◌+◌, ◌≤◌, not, cond, ◌&&◌, ◌==◌, All, slice_index_or, nat_lt, AllByRecursion, AllPairs, and_from, and_parts, cases_lt, eq-eqb, eqb-true, lt-ltb, ltb-true, cases_eq, cond-false, le-ltb, Arrival, IsBefore, Departure, Queued, IsLater, IsTraffic, comes_in_flow, leaves_in_flow, left_in_flow, is_kind, shown, HasWaited, Stands, line_at, rest_of, Agrees, Fabric, ideal_of, list_of, departure_of, sent_told, firsts_at, is_refused, latest, IsSound, OfOneFlow, IsBelowFloor, AreWholePackets, HasShape, Switch, arriving_cell, class_of, fabric_told, is_ahead, is_named, key_of, named_in, output_of, queued_in, queued_of, EachPair, each_pair, buffer_is, comes, found_at, in_buffer, in_list, in_order, is_cell_of, its_output, its_slot, list_is, of_traffic, ports_are, queued_differ, queued_named, some_cell, Has, all_from_has, all_of_has, has_cases, has_image, has_kept, has_left, has_right, image_has, kept_has, pair_of_has, IsInRange, Sent, State, NoLater, all_weaker, Machine, machine_at, AreOfPackets, key_laws, all_has, looked_up, pairs_kept, pairs_kept_with, pairs_looked_up, pairs_with, Named, any_has, has_any, any_alike, pairs_mapped, pairs_joined, has_looked_up, same_pairs, filter_none, filter_all, append_assoc, take_all, filter-append, get_or-map-range_with_len, Cell, traffic_is, arrivals, schedule_of, comes_at_input, AreOfClasses, present, flow_came, no_port, is_of_flow, of_flow, is_run_of, comes_from, Marked, arriving_from, IsRunnable, came_in_flow, departures_of, IdealState, LimitedRan, cells_at, agrees_of, empty_together, LimitedRunsAlike, LimitedFabricRun, LimitedRecord, admissions_in, slots_in, gone_in, Captured, IsInputBest, frozen_told, marks_told, taken_of, IsResumed, Kept, switch_of, Taken, GoesOn, goes_on, AreTables, ports_of, Tables, openings_of, LeaveInOrder, LeaveWhole, LeftInOrder, CanBeTakenUp, slots_fit, all_filter, all_in_range, class_in_slot, none_came, flow_on, whole_on, StandAt, stand_in, best_act_alike, most_ports, filter_both, filter_agree, of_images, LineStands, as_first, line_ends, mark_is, is_line, packets_alike, schedule_known, ArePackets, coming, has_limit, has_name, mark_on, Name, le-leb, list_any, inl, IsScheduleOf, None}
+use Rattle.cq_simulate.proofs.Terms.{IsEarlier, common_steps, rules, map-append, ◌≡◌, ℕ, ◌<◌, Bool, true, false, List, [], ◌∷◌, ◌++◌, length, map, filter, Option, Some, refl, sym, ap, ◌∙◌, arith, ◌+◌, ◌≤◌, not, cond, ◌&&◌, ◌==◌, All, slice_index_or, nat_lt, AllByRecursion, and_from, and_parts, cases_lt, eq-eqb, eqb-true, lt-ltb, ltb-true, cases_eq, cond-false, le-ltb, Arrival, IsBefore, Departure, Queued, IsLater, IsTraffic, comes_in_flow, leaves_in_flow, left_in_flow, is_kind, shown, HasWaited, Stands, line_at, rest_of, Agrees, Fabric, ideal_of, list_of, departure_of, sent_told, firsts_at, is_refused, latest, IsSound, OfOneFlow, IsBelowFloor, HasShape, Switch, arriving_cell, class_of, fabric_told, is_ahead, is_named, key_of, named_in, output_of, queued_in, queued_of, EachPair, each_pair, buffer_is, comes, found_at, in_buffer, in_list, in_order, is_cell_of, its_output, its_slot, list_is, of_traffic, ports_are, queued_differ, queued_named, some_cell, Has, all_from_has, all_of_has, has_cases, has_image, has_kept, has_left, has_right, image_has, kept_has, pair_of_has, IsInRange, Sent, State, NoLater, all_weaker, Machine, machine_at, AreOfPackets, key_laws, all_has, looked_up, pairs_kept, pairs_kept_with, pairs_looked_up, pairs_with, Named, any_has, has_any, any_alike, pairs_mapped, pairs_joined, has_looked_up, same_pairs, filter_none, filter_all, append_assoc, take_all, filter-append, get_or-map-range_with_len, Cell, traffic_is, arrivals, schedule_of, comes_at_input, AreOfClasses, present, flow_came, no_port, is_of_flow, of_flow, is_run_of, comes_from, Marked, arriving_from, IsRunnable, came_in_flow, departures_of, IdealState, LimitedRan, cells_at, agrees_of, empty_together, LimitedRunsAlike, LimitedFabricRun, LimitedRecord, admissions_in, slots_in, gone_in, Captured, IsInputBest, frozen_told, marks_told, taken_of, IsResumed, Kept, switch_of, Taken, GoesOn, goes_on, AreTables, ports_of, Tables, openings_of, LeaveInOrder, LeaveWhole, LeftInOrder, CanBeTakenUp, slots_fit, all_filter, all_in_range, class_in_slot, none_came, flow_on, whole_on, StandAt, stand_in, best_act_alike, most_ports, filter_both, filter_agree, of_images, LineStands, as_first, line_ends, mark_is, is_line, packets_alike, schedule_known, ArePackets, coming, has_limit, has_name, mark_on, Name, le-leb, list_any, inl, IsScheduleOf, None}
 use Rattle.std.proofs.lemmas.Simd.{map-map}
 use Rattle.cq_ideal.proofs.AtInput.{cells_of}
 use Rattle.cq_simulate.proofs.OfPackets.{as_packets, line_packets, none_at, none_from, right_classes, runnable, filter_images, filter_same}
@@ -67,99 +67,13 @@ pub has_as_name : (names : List Named) (a : Arrival) → is_named names a ≡ ha
 has_as_name [] a = refl
 has_as_name (c ∷ names) a = grind (arith, common_steps, has_as_name names a)
 
--- ## What a sound state says
-
--- Which packets of an input a run that goes on from a sound state has taken. Of those that began before the next slot
--- the state says it, with one answer for all cells that arrived; of the others the run does. Where a packet goes on
--- over the slot both say the same: it is the last that began, and the mark of the input is up exactly where the state
--- does not name it.
-
-abbrev pub IsEarlier : Arrival → Arrival → Type 0
-IsEarlier a b = a.slot < b.slot
-
-module _ (w : Switch) (s : State) (i : ℕ) where
-  abbrev pub line : List Arrival
-  line = line_at i w.came
-
-  abbrev pub before : List Arrival
-  before = filter (λ a. nat_lt a.slot s.head.next) line
-
-  abbrev pub behind : List Arrival
-  behind = rest_of s.head.next line
-
-  abbrev pub is_told : Arrival → Bool
-  is_told a = is_named (named_in s) a
-
-  -- the number from which packets begin from the slot on
-  abbrev pub begin_from : ℕ
-  begin_from = next_after 0 before
-
-  abbrev pub mark : Bool
-  mark = is_refused w.came s (latest (firsts_at w.came s i))
-
-  pub parted_at : (line : List Arrival) → EachPair IsEarlier line →
-      line ≡ filter (λ a. nat_lt a.slot s.head.next) line ++ rest_of s.head.next line
-  parted_at [] rising = refl
-  parted_at (a ∷ line) rising =
-      search (rules, lt-ltb, all_weaker, filter_none, filter_all, le-ltb, cases_lt, parted_at line rising.1)
-
-  module _ (ports : ℕ) (are : ArePackets ports w.came) (whole : AreWholePackets w s) (rising : EachPair IsEarlier line)
-      (packets : AreOfPackets 0 (cells_of line)) where
-    packets_parted : AreOfPackets 0 (cells_of before) × AreOfPackets begin_from (cells_of behind)
-    packets_parted = of_parts 0 before behind (rw (parted_at line rising) at packets)
-
-    abbrev standing : List Name
-    standing = map as_name (named_in s)
-
-    early : coming i 0 s.head.next w.came ≡ before
-    early = search (rules, filter_agree, le-leb)
-
-    stands_by : LineStands w.limits ports s.head.next w.came standing are i
-    stands_by = as_first w.limits ports s.head.next w.came standing are
-        ((packets_alike w s standing (has_as_name (named_in s))).0 whole) i
-
-    -- all cells of a packet are named, or none
-    alike : (a b : Arrival) → Has before a → Has before b → packet a ≡ packet b → is_told a ≡ is_told b
-    alike a b first second same =
-        grind (arith, common_steps, early, stands_by, has_as_name (named_in s), begun 0 before packets_parted.0 a)
-
-    -- the walk over them ends with the mark
-    ends : i < ports → mark_on is_told (has_limit w.limits) false before ≡ Some mark
-    ends inside =
-        let named : has_name standing ≡ is_named (named_in s) = λ k a. sym (has_as_name (named_in s) a) k in
-        let whole = is_line w.limits ports s.head.next w.came standing are i inside in
-        let is = mark_is w.limits ports s.head.next w.came standing are i inside stands_by in
-        rw (← early, ← named) (search (arith, rules, line_ends (has_name standing), whole, stands_by, is, named))
-
-    -- those of the last one just where the mark is down
-    mark_says : (a : Arrival) → Has before a → packet a + 1 ≡ begin_from → not mark ≡ is_told a
-    mark_says a has last =
-        let inside : i < ports = search (arith, rules, kept_has, all_of_has, are.inputs, eqb-true) in
-        let it = last_is is_told (has_limit w.limits) 0 false mark before (ends inside) a has in
-        grind (arith, common_steps, alike it.0 a it.1 has)
-
-    -- ## Together
-
-    module _ (taken : ℕ → Bool) (goes_on : (p : ℕ) → p + 1 ≡ begin_from → taken p ≡ not mark) where
-      abbrev pub is_taken : ℕ → Bool
-      is_taken p =
-          cond (nat_lt (p + 1) begin_from) (list_any is_told (filter (λ a. packet a == p) before)) (taken p)
-
-      pub taken_before : AllByRecursion (λ a. is_taken (packet a) ≡ is_told a) before
-      taken_before = all_from_has _ before (λ a has.
-          let high = all_of_has _ before a (within 0 0 before (omega arith) packets_parted.0).1 has in
-          let own = filter (λ (b : Arrival). packet b == packet a) before in
-          let any = any_alike is_told (is_told a) own a in
-          search (arith, rules, any, kept_has, has_kept, alike, mark_says, lt-ltb, le-ltb, cases_lt, eq-eqb, eqb-true))
-
-      pub taken_behind : AllByRecursion (λ b. is_taken (packet b) ≡ taken (packet b)) behind
-      taken_behind = search (arith, rules, within begin_from, packets_parted, all_weaker, le-ltb, cond-false)
-
 -- ## Arrivals that rise by slot
 
--- the arrivals at an input rise
-pub line_rises : (came : List Arrival) → AllPairs IsLater came → (i : ℕ) → EachPair IsEarlier (line_at i came)
-line_rises came later i = search (arith, rules, pairs_kept_with IsLater IsEarlier, each_pair, eqb-true)
+parted_at : (next : ℕ) (line : List Arrival) → EachPair IsEarlier line →
+    line ≡ filter (λ a. nat_lt a.slot next) line ++ rest_of next line
+parted_at next [] rising = refl
+parted_at next (a ∷ line) rising =
+    search (rules, lt-ltb, all_weaker, filter_none, filter_all, le-ltb, cases_lt, parted_at next line rising.1)
 
 -- ## Cells of arrivals
 
@@ -202,6 +116,20 @@ module _ (w : Switch) (s : State) (in_range : IsInRange s) (shape : HasShape w s
   agrees : Agrees next f (ideal_of f)
   unfolding frozen_told fabric_told
   agrees = agrees_of next f goes.sound
+
+  -- the arrivals at an input rise, those before the slot and those from it on
+  module _ (i : ℕ) where
+    abbrev line : List Arrival
+    line = line_at i w.came
+
+    abbrev before : List Arrival
+    before = filter (λ a. nat_lt a.slot next) line
+
+    abbrev behind : List Arrival
+    behind = rest_of next line
+
+    rises : EachPair IsEarlier line
+    rises = search (arith, rules, pairs_kept_with IsLater IsEarlier, each_pair, traffic.one_by_one, eqb-true)
 
   module _ (i c j : ℕ) where
     abbrev t : Named → Option Queued
@@ -311,7 +239,7 @@ module _ (w : Switch) (s : State) (in_range : IsInRange s) (shape : HasShape w s
 
     -- the arrivals of the flow before the slot, of which these are named
     abbrev pub told : List Arrival
-    told = filter named (filter (comes_in_flow i c j) (before w s i))
+    told = filter named (filter (comes_in_flow i c j) (before i))
 
     abbrev is_name_of : Arrival → Named → Bool
     is_name_of x n = n.slot == x.slot && n.input == x.cell.id.input
@@ -327,11 +255,6 @@ module _ (w : Switch) (s : State) (in_range : IsInRange s) (shape : HasShape w s
         (has_right (queued_in s) _ d.cell (has_image (λ (d : Sent). d.cell) s.sent d has)) in
         let named = queued_named w s in_range shape sound traffic in
         search (arith, rules, image_has, has_cases, was_sent, sent, waits, one_of_names, named)
-
-    -- an arrival is the only one of its slot and input
-    one_arrival : (a x : Arrival) → Has w.came a → Has w.came x → a.slot ≡ x.slot → a.cell.id.input ≡ x.cell.id.input →
-        a ≡ x
-    one_arrival a x first second slots inputs = grind (arith, common_steps, pair_of_has IsLater w.came a x, each_pair)
 
     -- where the cell of a name stands
     among_gone : (n : Named) (q : Queued) → InFlow n q → Has (map (λ (d : Sent). d.cell) s.sent) n → Has gone q
@@ -358,14 +281,15 @@ module _ (w : Switch) (s : State) (in_range : IsInRange s) (shape : HasShape w s
         grind (arith, common_steps, kept_has, line_at, ltb-true) in
         let (n, has_name, same_name) = has_any (is_name_of x) names one.3 in
         let some = some_cell (arriving_cell w.came n) (comes w s in_range shape sound traffic n has_name).1 in
-        let same = one_arrival (found_at w.came n.slot n.input some.0 some.1).arrival x in
+        let rising = each_pair IsLater w.came traffic.one_by_one in
+        let same = pair_of_has IsLater w.came (found_at w.came n.slot n.input some.0 some.1).arrival x rising in
         let q : Queued = record { cell = x.cell; key = key_of n } in
-        let of : InFlow n q = search (arith, rules, and_parts, eqb-true, is_kind, same) in
+        let of : InFlow n q = grind (arith, common_steps, and_parts, eqb-true, is_kind, same) in
         let is = has_image as_arrival (gone ++ waiting) q in
         search (arith, rules, is, has_right, among_listed, among_buffered, has_cases, has_left, among_gone)
 
     told_rises : EachPair IsEarlier told
-    told_rises = grind (arith, common_steps, pairs_kept, IsEarlier, line_at, line_rises)
+    told_rises = grind (arith, common_steps, pairs_kept, IsEarlier, line_at, rises)
 
     -- what was sent of the flow, and then what waits of it
     pub told_flow : left_in_flow i c j (sent_told w.came s) ++ shown i c there ≡ cells_of told
@@ -441,31 +365,88 @@ module _ (w : Switch) (s : State) (in_range : IsInRange s) (shape : HasShape w s
 
     -- ## At one input
 
+    -- Which packets of an input a run that goes on from a sound state has taken. Of those that began before the next
+    -- slot the state says it, with one answer for all cells that arrived; of the others the run does. Where a packet
+    -- goes on over the slot both say the same: it is the last that began, and the mark of the input is up exactly
+    -- where the state does not name it.
+
     module _ (i : ℕ) where
+      -- the number from which packets begin from the slot on
+      abbrev begin_from : ℕ
+      begin_from = next_after 0 (before i)
+
+      abbrev mark : Bool
+      mark = is_refused w.came s (latest (firsts_at w.came s i))
+
+      packets_parted : AreOfPackets 0 (cells_of (before i)) × AreOfPackets begin_from (cells_of (behind i))
+      packets_parted = of_parts 0 (before i) (behind i) (rw (parted_at next (line i) (rises i)) at (packets i))
+
+      abbrev standing : List Name
+      standing = map as_name names
+
+      early : coming i 0 next w.came ≡ before i
+      early = search (rules, filter_agree, le-leb)
+
+      stands_by : LineStands w.limits ports next w.came standing are i
+      stands_by = as_first w.limits ports next w.came standing are
+          ((packets_alike w s standing (has_as_name names)).0 sound.packets) i
+
+      -- all cells of a packet are named, or none
+      alike : (a b : Arrival) → Has (before i) a → Has (before i) b → packet a ≡ packet b → named a ≡ named b
+      alike a b first second same =
+          grind (arith, common_steps, early, stands_by, has_as_name names, begun 0 (before i) packets_parted.0 a)
+
+      -- the walk over them ends with the mark
+      ends : i < ports → mark_on named (has_limit w.limits) false (before i) ≡ Some mark
+      ends inside =
+          let same : has_name standing ≡ is_named (named_in s) = λ k a. sym (has_as_name names a) k in
+          let whole = is_line w.limits ports next w.came standing are i inside in
+          let is = mark_is w.limits ports next w.came standing are i inside stands_by in
+          rw (← early, ← same) (search (arith, rules, line_ends (has_name standing), whole, stands_by, is, same))
+
+      -- those of the last one just where the mark is down
+      mark_says : (a : Arrival) → Has (before i) a → packet a + 1 ≡ begin_from → not mark ≡ named a
+      mark_says a has last =
+          let inside : i < ports = search (arith, rules, kept_has, all_of_has, are.inputs, eqb-true) in
+          let it = last_is named (has_limit w.limits) 0 false mark (before i) (ends inside) a has in
+          grind (arith, common_steps, alike it.0 a it.1 has)
+
       -- those that come from the slot on are the late ones
-      late_are : cells_at i slots ≡ cells_of (behind w s i)
+      late_are : cells_at i slots ≡ cells_of (behind i)
       unfolding arriving_from frozen_told fabric_told
       late_are = search (arith, rules, comes_from i, none_at, none_from, traffic, cases_lt i most_ports, resumed)
 
-      rises : EachPair IsEarlier (line w s i)
-      rises = line_rises w.came traffic.one_by_one i
-
-      late_packets : AreOfPackets (begin_from w s i) (cells_at i slots)
-      late_packets = rw late_are (packets_parted w s i ports are sound.packets rises (packets i)).1
+      late_packets : AreOfPackets begin_from (cells_at i slots)
+      late_packets = rw late_are packets_parted.1
 
       -- what is taken of the packets that come
       abbrev taken : ℕ → Bool
-      taken = (whole_on w.limits w.machines next slots beside ran ideal_alike.ran stand over i (begin_from w s i)
+      taken = (whole_on w.limits w.machines next slots beside ran ideal_alike.ran stand over i begin_from
           late_packets).is_taken
 
-      goes_as_marked : (p : ℕ) → p + 1 ≡ begin_from w s i → taken p ≡ not (mark w s i)
+      goes_as_marked : (p : ℕ) → p + 1 ≡ begin_from → taken p ≡ not mark
       unfolding next_after
       goes_as_marked p last =
           search (arith, rules, whole_on, over, late_packets, get_or-map-range_with_len, none_at, cases_lt i)
 
-      -- and of all packets
+      -- and of all packets, where these are taken of those that come
+      abbrev with_early : (ℕ → Bool) → ℕ → Bool
+      with_early late p =
+          cond (nat_lt (p + 1) begin_from) (list_any named (filter (λ a. packet a == p) (before i))) (late p)
+
+      taken_before : (late : ℕ → Bool) → ((p : ℕ) → p + 1 ≡ begin_from → late p ≡ not mark) →
+          AllByRecursion (λ a. with_early late (packet a) ≡ named a) (before i)
+      taken_before late goes_on = all_from_has _ (before i) (λ a has.
+          let high = all_of_has _ (before i) a (within 0 0 (before i) (omega arith) packets_parted.0).1 has in
+          let own = filter (λ (b : Arrival). packet b == packet a) (before i) in
+          let any = any_alike named (named a) own a in
+          search (arith, rules, any, kept_has, has_kept, alike, mark_says, lt-ltb, le-ltb, cases_lt, eq-eqb, eqb-true))
+
+      taken_behind : (late : ℕ → Bool) → AllByRecursion (λ b. with_early late (packet b) ≡ late (packet b)) (behind i)
+      taken_behind late = search (arith, rules, within begin_from, packets_parted, all_weaker, le-ltb, cond-false)
+
       abbrev takes : ℕ → Bool
-      takes = is_taken w s i ports are sound.packets rises (packets i) taken goes_as_marked
+      takes = with_early taken
 
       abbrev taken_cell : Cell → Bool
       taken_cell cell = taken cell.id.packet
@@ -478,25 +459,21 @@ module _ (w : Switch) (s : State) (in_range : IsInRange s) (shape : HasShape w s
         its_flow = comes_in_flow i c j
 
         abbrev later : List Cell
-        later = cells_of (filter its_flow (behind w s i))
+        later = cells_of (filter its_flow (behind i))
 
-        early_taken : filter takes_cell (cells_of (filter its_flow (before w s i))) ≡ cells_of (told i c j)
-        early_taken =
-            let all = taken_before w s i ports are sound.packets rises (packets i) taken goes_as_marked in
-            search (rules, filter_images, filter_same, all_filter, all)
+        early_taken : filter takes_cell (cells_of (filter its_flow (before i))) ≡ cells_of (told i c j)
+        early_taken = search (rules, filter_images, filter_same, all_filter, taken_before taken goes_as_marked)
 
         late_taken : filter takes_cell later ≡ filter taken_cell later
-        late_taken =
-            let all = taken_behind w s i ports are sound.packets rises (packets i) taken goes_as_marked in
-            search (rules, filter_same, of_images, all_filter, all)
+        late_taken = search (rules, filter_same, of_images, all_filter, taken_behind taken)
 
         takes_parts : filter takes_cell (came_in_flow i c j w.came) ≡ cells_of (told i c j) ++ filter taken_cell later
         takes_parts =
-            search (rules, parted_at w s i, rises, flow_at, map-append, filter-append, early_taken, late_taken)
+            search (rules, parted_at next, rises, flow_at, map-append, filter-append, early_taken, late_taken)
 
         flow_late : flow_came i c j slots ≡ later
         unfolding of_flow
-        flow_late = rw (comes_at_input i c j slots stand, late_are) (filter_images (is_of_flow i c j) _ (behind w s i))
+        flow_late = rw (comes_at_input i c j slots stand, late_are) (filter_images (is_of_flow i c j) _ (behind i))
 
         -- ## What left
 
@@ -508,7 +485,7 @@ module _ (w : Switch) (s : State) (in_range : IsInRange s) (shape : HasShape w s
         at_port : j < ports → left_in_flow i c j kept.sent ≡ filter takes_cell (came_in_flow i c j w.came)
         at_port inside =
             let ranks = ap (λ (l : List (List ℕ)). length l) agrees.ranks in
-            let flow = flow_on w.limits w.machines next slots beside ran ideal_alike.ran stand over i (begin_from w s i)
+            let flow = flow_on w.limits w.machines next slots beside ran ideal_alike.ran stand over i begin_from
             late_packets c j (runs.machines j inside) (omega (arith, agrees.ports, many_are)) (omega (arith, many_are))
             (stands_there i c j (omega arith) (classes j inside)) (of_classes j) in
             grind (arith, common_steps, left_is, flow, append_assoc, told_flow i c j, flow_late, takes_parts)

@@ -1,5 +1,5 @@
 -- What each step of the loops over slots asks for, where so many slots are left as are not yet over.
-use Rattle.cq_simulate.proofs.Terms.{common_steps, rules, ◌≡◌, ◌↔◌, ℕ, suc, ◌+◌, ◌-◌, ◌<◌, ◌≤◌, Bool, false, List, [], ◌++◌, length, map, replicate, Option, Result, Ok, Err, refl, sym, ap, arith, zero, None, ◌∷◌, IsTrue, All, slice_index_or, cases_lt, Cell, Departure, Queued, TagFault, no_arrivals, Arrival, arriving, end_of, enough, traffic_of, RoomView, Machine, Marked, nothing_refused, admission, admitted, refused, IdealSwitch, HaveLeft, marked_state, count_for, IdealState, ideal_slot, departures_limited, LimitedSent, limited_run, limited_slot, ideal_admission, with_admission, CanCount, IsReady, waiting, counted, arriving_from, none_waits, nothing_left, all_slots, arrivals_for, for_here, from_here, some_one, come_for, come_for-traffic_of, IsQuiet, come_count, arriving_parts, departures_of, quiet_slots, length-replicate, append-nil, length-append, get_or-replicate, number_of, is_to, counts_fit, zero_fits, present, come_count-traffic_of, none_after, run_fault, each_once, waiting-empty, CanHaveSlot, HasHadSlot, IsSameSwitch, arriving_length, first_slots, departures_append, first_more, LimitedRan, come_from, ◌^◌, true, ◌*◌, sum, slice_index, and_left, leb-false, ne_eqb, arriving_at, Transfer, EngineView, HaveListRoom, IsMadeAs, IsReadyFor, SlotDone, answer_to, its_admission, marked_fabric, AreForPorts, ranking, IsEmptyFabric, Fabric, input, LimitedFabricRun, LimitedRecord, IsLimitedFault, LimitedFabricSlot, IsInputBest, class_count, none_counted, HasRunOn, IsReadyOn, NoneCome, StopsWithin, RanTo, WentOn, to_come, arrives_found, one_if, no_more_from, no_more_to, take_all, take-append-le, transfers_of_run, range_with_len, come_count-first, arriving_here, total, total_same, stable_limited_slot, same_limited_slot, only_limited_run, fabric_held, held_for, LimitedAgrees, figures_after, agrees_of, ideal_of, is_from, found, quiet_limited_slots, limited_lists_kept, limited_outputs_kept, all_go_on, departures_one, transfers_one, most_ports, best_act_alike, kept_on, kept_with, slots_fit, run_length, ◌∙◌, kept_both, kept_quiet, fabric_listed, admission_for_ports, Some, mul-le-mul, filter_map, cons_option, length-map, nil_from_length, length-insert, length-map-range_with_len, get_or-map-range_with_len, sum_by-le, arrival_at, is_for, outputs_at, IsFabric, SlotRecord, FabricSlot, proposals_in, transfers_in, orders_of, output_order, Partners, partner_of, spent, proposals, IsMatching, came_from, first_at, Transfers, came_to, list_arrived, OutputsInRange, are_offers, outputs_at_most, has_there, sum_by-cons, Agrees, hold_as_many, empty_together, IsStable, stable_slot, same_slot, arrived, after_sent, get_or_past}
+use Rattle.cq_simulate.proofs.Terms.{common_steps, rules, ◌≡◌, ◌↔◌, ℕ, suc, ◌+◌, ◌-◌, ◌<◌, ◌≤◌, Bool, false, List, [], ◌++◌, length, map, replicate, Option, Result, Ok, Err, refl, sym, ap, arith, zero, None, ◌∷◌, IsTrue, All, slice_index_or, cases_lt, Cell, Departure, Queued, TagFault, no_arrivals, Arrival, arriving, end_of, enough, traffic_of, RoomView, Machine, Marked, nothing_refused, admission, admitted, refused, IdealSwitch, HaveLeft, marked_state, count_for, IdealState, ideal_slot, departures_limited, LimitedSent, limited_run, limited_slot, ideal_admission, with_admission, CanCount, IsReady, waiting, counted, arriving_from, none_waits, nothing_left, all_slots, arrivals_for, for_here, from_here, some_one, come_for, come_for-traffic_of, IsQuiet, come_count, arriving_parts, departures_of, quiet_slots, length-replicate, append-nil, length-append, get_or-replicate, number_of, is_to, counts_fit, zero_fits, present, come_count-traffic_of, none_after, run_fault, each_once, waiting-empty, CanHaveSlot, HasHadSlot, IsSameSwitch, arriving_length, first_slots, departures_append, first_more, LimitedRan, come_from, ◌^◌, true, ◌*◌, sum, slice_index, and_left, leb-false, ne_eqb, arriving_at, Transfer, EngineView, HaveListRoom, IsMadeAs, IsReadyFor, SlotDone, answer_to, its_admission, marked_fabric, AreForPorts, ranking, IsEmptyFabric, Fabric, input, LimitedFabricRun, LimitedRecord, IsLimitedFault, LimitedFabricSlot, IsInputBest, class_count, none_counted, IsReadyOn, NoneCome, StopsWithin, RanTo, WentOn, to_come, arrives_found, one_if, no_more_from, no_more_to, take_all, take-append-le, transfers_of_run, range_with_len, come_count-first, arriving_here, total, total_same, stable_limited_slot, same_limited_slot, only_limited_run, fabric_held, held_for, LimitedAgrees, figures_after, agrees_of, ideal_of, is_from, found, quiet_limited_slots, limited_lists_kept, limited_outputs_kept, all_go_on, departures_one, transfers_one, most_ports, best_act_alike, kept_on, kept_with, slots_fit, run_length, ◌∙◌, kept_both, kept_quiet, fabric_listed, admission_for_ports, Some, mul-le-mul, filter_map, cons_option, length-map, nil_from_length, length-insert, length-map-range_with_len, get_or-map-range_with_len, sum_by-le, arrival_at, is_for, outputs_at, IsFabric, SlotRecord, FabricSlot, proposals_in, transfers_in, orders_of, output_order, Partners, partner_of, spent, proposals, IsMatching, came_from, first_at, Transfers, came_to, list_arrived, OutputsInRange, are_offers, outputs_at_most, has_there, sum_by-cons, Agrees, hold_as_many, empty_together, IsStable, stable_slot, same_slot, arrived, after_sent, get_or_past}
 use Rattle.cq_ideal.specs.Ideal.{its_slot}
 use Rattle.cq_ideal.specs.IdealSlot.{Sent}
 use Rattle.cq_ideal.proofs.Waiting.{Counted}
@@ -80,12 +80,6 @@ running_first ms came first sent n ready all_left =
     let counts = zero_fits (length first.fixed + come_count (arriving_from came 0 n)) first.limits in
     search (arith, rules, all_slots, come_for-traffic_of, enough_are, length-replicate, get_or-replicate, waiting-empty)
 
-pub come_here : (came : List Arrival) (slot n : ℕ) →
-    come_count (arriving_from came slot (suc n)) ≡ length (present (arriving came slot)) + come_count
-    (arriving_from came (slot + 1) n)
-unfolding arriving_from come_count
-come_here came slot n = refl
-
 pub none_come : (came : List Arrival) (n slot : ℕ) → end_of came ≤ slot → come_count (arriving_from came slot n) ≡ 0
 unfolding arriving_from come_count
 none_come came zero slot le = refl
@@ -142,11 +136,12 @@ pub record ComeFewer (came : List Arrival) (slot m next n : ℕ) : Type 0 where
 
 pub fewer_come : (came : List Arrival) (slot k n next m : ℕ) → next ≡ slot + k → m ≡ k + n →
     ComeFewer came slot m next n
+unfolding arriving_from come_count
 fewer_come came slot zero n next m e f = grind (arith, common_steps)
 fewer_come came slot (suc k) n next m e f =
     let rest = fewer_come came (slot + 1) k n next (k + n) (omega arith) refl in
     let one_more : m ≡ suc (k + n) = omega arith in
-    rw one_more (search (arith, rules, rest.to, rest.from, come_here, for_here, from_here))
+    rw one_more (search (arith, rules, rest.to, rest.from, for_here, from_here))
 
 module _ (M : List ℕ → Machine) {came : List Arrival} {first : IdealSwitch} {first_sent sent : RoomView Departure}
     {slot m next : ℕ} {now new : IdealSwitch} (r : Running (map M first.fixed) came first first_sent slot m now sent)
@@ -206,7 +201,7 @@ module _ (M : List ℕ → Machine) {came : List Arrival} {first : IdealSwitch} 
       IsSameSwitch now after → after.stopped ≡ false → sent_new.items ≡ sent.items ++ left.items →
       sent_new.spare + length left.items ≡ sent.spare →
       Running (map M first.fixed) came first first_sent (slot + 1) n after sent_new
-  unfolding limited_run departures_of
+  unfolding limited_run departures_of arriving_from come_count
   at_next {cells} {after} {leaving} {left} {sent_new} {of_slot} are free was had switch running items spare =
       let ms = map M first.fixed in
       let here = arriving came slot in
@@ -214,7 +209,6 @@ module _ (M : List ℕ → Machine) {came : List Arrival} {first : IdealSwitch} 
       let is : limited_slot first.limits ms slot here (marked_state now) ≡ Ok of_slot =
       rw (are, same, r.same.limits) at was in
       let o = of_admitted first.limits ms slot here (marked_state now) of_slot is in
-      let come = come_here came slot n in
       let all = r.ran.admissions ++ of_slot.admission ∷ [] in
       let gone = r.ran.gone ++ of_slot.gone ∷ [] in
       let ran : LimitedRan = record { admissions = all; gone = gone; after = of_slot.after } in
@@ -489,12 +483,6 @@ module _ {whole : Bool} {ms : List Machine} {came : List Arrival} {first : Engin
   not_before is more m f le run late empty =
       search (arith, rules, c.going is m, take_all, only_limited_run ms first.limits, cases_lt m (length c.records))
 
-  -- ## The end of the loop
-
-  pub crossing_over : whole ≡ true → end_of came ≤ slot → IsEmptyFabric now.fabric →
-      HasRunOn ms came first now first_sent sent first_note note
-  crossing_over is late empty = grind (arith, common_steps, cases_lt)
-
   -- the run goes on with these records, which keep this
   went_on : (k : ℕ) (rs : List LimitedRecord) {after : EngineView} {sent_new : RoomView Departure}
       {note_new : RoomView Transfer} → length rs ≡ k →
@@ -579,7 +567,7 @@ module _ {whole : Bool} {end : ℕ} {M : List ℕ → Machine} {came : List Arri
       HaveLeft slot done.record_of.of_slot.gone sent sent_new → HasGoneOn slot now after → IsMadeAs now after →
       after.stopped ≡ false →
       Crossing whole (map M first.fixed) came first first_sent first_note end (slot + 1) n after sent_new note_new
-  unfolding arriving_from figures_after
+  unfolding arriving_from figures_after come_count
   next_here {after = after} {sent_new = sent_new} {note_new = note_new} are done put gone_on made running =
       let cells = arriving came slot in
       let ms = map M first.fixed in
@@ -596,7 +584,6 @@ module _ {whole : Bool} {end : ℕ} {M : List ℕ → Machine} {came : List Arri
       search (arith, rules, admission_for_ports) in
       let alike = same_limited_slot first.limits ms slot classes cells f g c.ideal r c.agrees come stable in
       let of_slot : LimitedSent = record { admission = r.admission; gone = r.of_slot.gone; after = alike.next } in
-      let here_come = come_here came slot n in
       let o = of_admitted first.limits ms slot cells c.ideal of_slot alike.sent in
       let went = went_on c 1 (r ∷ []) {after = after} {sent_new = sent_new} {note_new = note_new} refl (g, step, refl)
       (cc (departures_one slot r.of_slot, transfers_one r.of_slot, append-nil r.admission.refused)) made.limits

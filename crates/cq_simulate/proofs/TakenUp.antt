@@ -2,7 +2,7 @@
 -- that it stands at, and what is to come comes from that slot on, so both together are no more than what comes in all:
 -- at each input, for each output, and of all cells. So the run of a fabric that is made for tables can begin: what the
 -- calls say that made it is one record. And what its end says it says of the tables.
-use Rattle.cq_simulate.proofs.Terms.{length-filter_both, ◌≡◌, ℕ, ◌+◌, ◌-◌, ◌*◌, ◌≤◌, ◌<◌, ◌^◌, Bool, false, List, [], ◌∷◌, length, map, Option, refl, arith, rules, common_steps, ◌==◌, All, sum, range_with_len, slice_index, cases_lt, le-leb, le-ltb, lt-leb, lt-ltb, ne_eqb, length-map, length-replicate, get_or-map-range_with_len, Arrival, RoomView, Departure, Transfer, IsTraffic, is_from, is_to, number_of, Scheduled, Setup, CanGoOn, EngineView, fresh_engine, zero_fits, input, fabric_held, held_for, empty_list, Machine, class_count, GoesOn, came_before, goes_on, switch_of, Taken, classes_of, ports_of, Tables, machine_from, machine_of, machines_of, GoesOnFrom, IsReadyOn, to_come, CanBeTakenUp, IsScheduleFor, All-from_recursion, IsSoundFabric, nothing_for, fabric_listed, zero, suc, filter, filter_both, filter_agree, not, cases_eq, sum_by-cons, ap, take_all, frozen_of, Frozen, marked_fabric, departures_limited, counts_more, openings_of, IsKeptOf, unpacked_run, kept_of, IsFreshFor, HasKept, IsRefusalOn, IsRefusalOf, ideal_departures, ran_ideal, limited_whole_fault, slots_fit, PackedFabricRun, RunRefusal, IsResumed, RunsOn, best_act_alike_from_empty, figures_fold, HasPartedTo, IsResumeFault, IsParted}
+use Rattle.cq_simulate.proofs.Terms.{length-filter_both, ◌≡◌, ℕ, ◌+◌, ◌-◌, ◌*◌, ◌≤◌, ◌<◌, ◌^◌, Bool, false, List, [], ◌∷◌, length, map, Option, refl, arith, rules, common_steps, ◌==◌, All, sum, range_with_len, slice_index, cases_lt, le-leb, le-ltb, lt-leb, lt-ltb, ne_eqb, length-map, length-replicate, get_or-map-range_with_len, Arrival, RoomView, Departure, Transfer, IsTraffic, is_from, is_to, number_of, Scheduled, Setup, CanGoOn, EngineView, fresh_engine, zero_fits, input, fabric_held, held_for, empty_list, Machine, class_count, GoesOn, came_before, goes_on, switch_of, Taken, classes_of, ports_of, Tables, machine_from, machine_of, machines_of, GoesOnFrom, IsReadyOn, to_come, CanBeTakenUp, IsScheduleFor, All-from_recursion, IsSoundFabric, nothing_for, fabric_listed, zero, suc, filter, filter_both, filter_agree, not, cases_eq, sum_by-cons, ap, take_all, frozen_of, marked_fabric, departures_limited, counts_more, openings_of, IsKeptOf, unpacked_run, kept_of, IsFreshFor, HasKept, IsRefusalOn, IsRefusalOf, ideal_departures, ran_ideal, limited_whole_fault, slots_fit, PackedFabricRun, RunRefusal, IsResumed, RunsOn, best_act_alike_from_empty, figures_fold}
 use Rattle.cq_simulate.specs.ScheduleFor.{by_port}
 use Rattle.cq_simulate.specs.declared.refusal.RunRefusal.TheVariants as refusal
 
@@ -69,11 +69,6 @@ goes_from {t} {s} e sent note fit has machines classes from to running few sent_
     search (arith, rules, machine_count, both_parts, room_at, has.lost, held, listed, has.buffers, has.lists, all_parts)
 
 -- ## A fresh one
-
-pub holds_none : (came : List Arrival) (ports : ℕ) (fixed states : List (List ℕ)) (from to : List ℕ)
-    (limits : List (Option ℕ)) → length fixed ≡ ports → HoldsSome came (fresh_engine ports fixed states from to limits)
-holds_none came ports fixed states from to limits many =
-    search (arith, rules, length-replicate, empty_list, nothing_for, zero_fits (2 ^ 64 - 1) limits)
 
 -- ## One that was taken up
 
@@ -145,7 +140,8 @@ module _ {t : Tables} {s : Scheduled} {first : EngineView} {sent : RoomView Depa
   can_begin =
       let on = goes_from (fresh_engine (ports_of t.setup) first.fixed (openings_of t.setup) (by_port is_from t s.came)
       (by_port is_to t s.came) t.limits) sent note made.fit in
-      rw made.fresh.fresh (search (arith, rules, on, holds_none, machine_count))
+      let none = zero_fits (2 ^ 64 - 1) t.limits in
+      rw made.fresh.fresh (search (arith, rules, on, length-replicate, empty_list, nothing_for, none, machine_count))
 
   -- what it has run is the run of the tables
   pub run_is_kept : (run : PackedFabricRun) → HasKept (map machine_from first.fixed) s.came first sent note run →
@@ -164,15 +160,6 @@ module _ {t : Tables} {s : Scheduled} {first : EngineView} {sent : RoomView Depa
       s.came stop.count fault (search (arith, rules, slots_fit)))
   no_run refusal.NoMemory stop = tt
 
-  -- of a run up to a slot: the state in which it stands still, with what was kept
-  pub parted_of : {slots : ℕ} {last : EngineView} {sent_new : RoomView Departure} {note_new : RoomView Transfer}
-      {frozen : Frozen} →
-      HasPartedTo (map machine_from first.fixed) s.came slots first last sent sent_new note note_new →
-      frozen ≡ frozen_of last →
-      IsParted (switch_of t s) (openings_of t.setup) slots
-      (record { frozen = frozen; sent = sent_new.items; note = note_new.items })
-  parted_of has is = search (arith, rules, made.fresh.fresh, made.fresh.machines, machines_many)
-
 -- What a run says that goes on from where a run was taken up: what it kept, or the tag fault at which it stops.
 
 module _ (t : Tables) (s : Scheduled) (first : EngineView) (taken : Taken)
@@ -183,7 +170,3 @@ module _ (t : Tables) (s : Scheduled) (first : EngineView) (taken : Taken)
   resumed_of sent note run kept sent_was note_was =
       let limits = ap (λ (e : EngineView). e.limits) is.stands in
       search (arith, rules, resumes machine_from t s first sent note is.machines limits run kept, is.stands)
-
-  pub resumed_fault : (why : RunRefusal) → IsRefusalOn (map machine_from first.fixed) s.came first why →
-      IsResumeFault (switch_of t s) taken why
-  resumed_fault why stop = search (arith, rules)

@@ -73,14 +73,14 @@ pub use Rattle.cq_laws.specs.LimitedFabric.{IsLimitedFault, LimitedFabricRun, Li
 pub use Rattle.cq_laws.specs.Measures.{sends}
 unfoldable pub use Rattle.cq_laws.specs.Measures.{figures_after, figures_of, output_after, proposals_in}
 unfoldable pub use Rattle.cq_laws.specs.Records.{transfers_in, transfers_of_run}
-pub use Rattle.cq_resume.proofs.{Cut.filter_both, Joining.kept_both, Joining.kept_quiet, Judging.packets_alike, Scheduling.schedule_known}
+pub use Rattle.cq_resume.proofs.{Coming.IsEarlier, Cut.filter_both, Joining.kept_both, Joining.kept_quiet, Judging.packets_alike, Scheduling.schedule_known}
 pub use Rattle.cq_resume.proofs.Tallied.{LineStands, as_first, line_ends, mark_is, whole as is_line}
 pub use Rattle.cq_resume.specs.Finding.{ArePackets, coming, has_limit, has_name, mark_on}
 pub use Rattle.cq_resume.proofs.GoesOn.{GoesOn, buffer_is, came_before, comes, found_at, goes_on, in_buffer, in_list, in_order, is_cell_of, its_output, its_slot, list_is, of_traffic, ports_are, queued_differ, queued_named, some_cell}
 pub use Rattle.cq_resume.specs.Counted.{departure_of, firsts_at, is_refused, latest, marks_told, sent_told, taken_of}
 unfoldable pub use Rattle.cq_resume.specs.Counted.{figures_told, frozen_told}
 pub use Rattle.cq_resume.specs.Resumed.{IsResumed, Kept, RunsOn, kept_on}
-pub use Rattle.cq_resume.specs.Sound.{AreWholePackets, IsBelowFloor, IsSentBefore, IsSound, OfOneFlow}
+pub use Rattle.cq_resume.specs.Sound.{IsBelowFloor, IsSentBefore, IsSound, OfOneFlow}
 pub use Rattle.cq_resume.specs.Switch.{HasShape, IsScheduleOf, Switch, switch_of}
 pub use Rattle.cq_resume.specs.Told.{arriving_cell, class_of, is_ahead, is_named, key_of, named_in, output_of, queued_in, queued_of}
 unfoldable pub use Rattle.cq_resume.specs.Told.{fabric_told}
@@ -90,7 +90,7 @@ pub use Rattle.cq_traffic.proofs.Arriving.{arrivals_for, slots_fit, arrives_befo
 pub use Rattle.cq_traffic.proofs.ToCome.{arrives_found, bit, first_more, from_here, no_more_from, one_if, some_one, come_for-traffic_of, for_here, no_more_to}
 unfoldable pub use Rattle.cq_traffic.proofs.ToCome.{come_from, come_for}
 pub use Rattle.cq_simulate.specs.FabricRuns.{AlwaysHasSlack, AreChosen, AreInputBest, AreStable, IsFabricRun, IsKeptOf, SendsSlotBySlot, departures_in_run, refused_in_run, unpacked_run}
-pub use Rattle.cq_simulate.specs.GoingOn.{HasKept, HasPartedTo, HasRunOn, IsReadyOn, IsRefusalOn, RanTo, StopsWithin, WentOn, kept_with, to_come}
+pub use Rattle.cq_simulate.specs.GoingOn.{HasKept, IsReadyOn, IsRefusalOn, RanTo, StopsWithin, WentOn, kept_with, to_come}
 unfoldable pub use Rattle.cq_simulate.specs.GoingOn.{fabric_listed}
 pub use Rattle.cq_simulate.specs.IdealRuns.{IsRefusalOf, counts_limited, slots_ran}
 unfoldable pub use Rattle.cq_simulate.specs.IdealRuns.{ideal_departures, ideal_refusals, ran_ideal}
@@ -98,7 +98,7 @@ pub use Rattle.cq_simulate.specs.Packets.{ArePacked, HaveLeftOf, LeaveInOrder, L
 unfoldable pub use Rattle.cq_simulate.specs.Packets.{packets_out}
 pub use Rattle.cq_simulate.specs.Pieces.{CanBeJoined, Fits, IsCaptured, IsEmptied, JoinsOn, Took, AllFit, left_with, records_of}
 pub use Rattle.cq_simulate.specs.{declared.fabric_run.PackedFabricRun.PackedFabricRun, declared.refusal.RunRefusal.RunRefusal}
-pub use Rattle.cq_simulate.specs.Terms.{AreTables, CanBeTakenUp, Cell, FabricRun, GoesOnFrom, IsFreshFor, IsQuiet, IsReady, IsResumeFault, IsScheduleFor, IsSetup, NoneCome, Tables, classes_of, kept_of, ports_of}
+pub use Rattle.cq_simulate.specs.Terms.{AreTables, CanBeTakenUp, Cell, FabricRun, GoesOnFrom, IsFreshFor, IsQuiet, IsReady, IsScheduleFor, IsSetup, NoneCome, Tables, classes_of, kept_of, ports_of}
 pub use Rattle.cq_base.proofs.Each.{all_both, all_filter, all_weaker, all_flat, all_made, filter_all, filter_none, of_images}
 pub use Rattle.cq_base.specs.{declared.figures.OutputFigures.OutputFigures, declared.packed.PackedDeparture.PackedDeparture, declared.setup.Kind.Kind, declared.setup.Kind.TheVariants.FirstCome}
 pub use Rattle.cq_base.proofs.Keys.{key_laws}
@@ -114,7 +114,7 @@ pub use Rattle.cq_reasm.specs.{Open.Open}
 pub use Rattle.cq_state.specs.declared.state.Named.{Named}
 pub use Rattle.cq_prefs.specs.Orders.{Orders}
 pub use Rattle.cq_prefs.proofs.{InputOrder.OutputsInRange, InputOrder.are_offers, Places.outputs_at_most}
-pub use Rattle.cq_laws.specs.{Frozen.fabric_in, Frozen.marked_in, Frozen.IsSoundFabric, LimitedQuiet.quiet_limited_slots, Phases.Transfers, Phases.came_to, Phases.list_arrived, declared.frozen.Frozen.Frozen}
+pub use Rattle.cq_laws.specs.{Frozen.fabric_in, Frozen.marked_in, Frozen.IsSoundFabric, LimitedQuiet.quiet_limited_slots, Phases.Transfers, Phases.came_to, Phases.list_arrived}
 pub use Rattle.cq_laws.proofs.{ActingAlike.best_act_alike_from_empty, ActingAlike.best_act_alike, AddingUp.figures_fold, Came.came_from, EndsTogether.slots_of_figures, Held.hold_as_many, Held.nothing_for, Parted.all_go_on, Parted.departures_one, Parted.transfers_one, Sound.first_at, Parted.run_length, Parted.run_of_whole}
 pub use Rattle.cq_resume.specs.Parts.{IsParted}
 pub use Rattle.cq_engine.proofs.{Kept.limited_lists_kept, Kept.limited_outputs_kept}

@@ -1,5 +1,5 @@
-use Rattle.cq_simulate.proofs.Terms.{◌+◌, ◌-◌, true, ◌∙◌, arith, rules, sym, err_from_is_err_and, quiet_of}
-use Rattle.cq_simulate.proofs.Steps.{over_by, Stands, can_run_here, crossing_over, fault_here, left_here, next_here, run_stands, free_again, goes_on, left_with_all}
+use Rattle.cq_simulate.proofs.Terms.{◌+◌, ◌-◌, true, ◌∙◌, arith, rules, sym, err_from_is_err_and, quiet_of, cases_lt}
+use Rattle.cq_simulate.proofs.Steps.{over_by, Stands, can_run_here, fault_here, left_here, next_here, run_stands, free_again, goes_on, left_with_all}
 use Rattle.cq_simulate.proofs.fabric_run.run_slots.Given as given
 use Rattle.cq_simulate.proofs.fabric_run.run_slots.Goals as goal
 use Rattle.cq_simulate.proofs.fabric_run.run_slots.Goals.{After-arrivals}
@@ -47,4 +47,4 @@ slots-preserved g c =
     search (arith, rules, next, free_again free (left_here done))
 
 pub returns-clause-run : goal.returns-clause-run
-returns-clause-run g c = search (arith, rules, crossing_over, c.is_over.ensures)
+returns-clause-run g c = search (arith, rules, cases_lt, c.is_over.ensures)

@@ -1,5 +1,5 @@
 use Rattle.cq_simulate.proofs.Terms.{rules, arith, err_from_is_err_and}
-use Rattle.cq_simulate.proofs.TakenUp.{IsMade, can_begin, parted_of, machines_many}
+use Rattle.cq_simulate.proofs.TakenUp.{IsMade, can_begin, machines_many}
 use Rattle.cq_simulate.proofs.parted_run.part_fresh.Given as given
 use Rattle.cq_simulate.proofs.parted_run.part_fresh.Goals as goal
 use Rattle.cq_simulate.proofs.parted_run.part_fresh.Goals.{In_ok-note}
@@ -24,4 +24,4 @@ returns-in_err-run_before-clause-refused g c =
 pub returns-clause-parted : goal.returns-clause-parted
 returns-clause-parted g c =
     let begins = made g (goal.at.returns-clause-parted g c).In_ok-note in
-    parted_of begins c.in_ok-run_before.ensures.run c.in_ok-frozen.ensures
+    search (arith, rules, begins.fresh.fresh, begins.fresh.machines, machines_many)

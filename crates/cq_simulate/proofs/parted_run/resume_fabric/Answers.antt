@@ -1,5 +1,5 @@
 use Rattle.cq_simulate.proofs.Terms.{arith, rules, ◌∙◌, IfErr-weaker, IfOk-weaker}
-use Rattle.cq_simulate.proofs.TakenUp.{resumed_fault, resumed_of, machine_count, runs_on}
+use Rattle.cq_simulate.proofs.TakenUp.{resumed_of, machine_count, runs_on}
 use Rattle.cq_simulate.proofs.parted_run.resume_fabric.Goals as goal
 
 pub run_on-requires-clause-ready : goal.run_on-requires-clause-ready
@@ -17,4 +17,4 @@ returns-clause-run g c = IfOk-weaker c.run_on.result _ _ (λ run kept. resumed_o
     c.run_on.ensures.run
 
 pub returns-clause-refused : goal.returns-clause-refused
-returns-clause-refused g c = search (arith, rules, IfErr-weaker, resumed_fault)
+returns-clause-refused g c = search (arith, rules, IfErr-weaker)
