@@ -1,8 +1,8 @@
 -- Every packet leaves its output whole or is counted as refused there, once. The fabric sends and refuses what the
 -- ideal switch does, and there each packet of an input leaves or is refused: what comes are whole packets, and the
 -- cells of one are for one output.
-use Rattle.cq_simulate.proofs.Terms.{all_in_range, bit, common_steps, rules, append-nil, ◌≡◌, ℕ, ◌<◌, List, length, Ok, ap, arith, ◌+◌, Bool, [], ◌∷◌, map, Option, cond, not, filter, refl, sym, ◌∙◌, ◌-◌, AllByRecursion, range_with_len, All-from_recursion, all_from_has, all_of_has, Arrival, arriving, Departure, traffic_is, at_input, arrivals, packets_of, arrivals_at, cell_of, cells, packet_at, come_in_order, departures_of, whole_limited_run, slots_of_limited_run, LimitedRan, refused_in, packets_refused, AreOfPackets, came_at, AreJudged, LimitedRecord, Captured, AreTables, ports_of, Tables, machines_of, IsFabricRun, departures_in_run, refused_in_run, ideal_departures, ran_ideal, Cell, all_found, all_present, all_weaker, present, judged, Admission, Marked, admission, refused, is_first, arriving_from, IdealState, Machine, ◌&&◌, ◌==◌, length-map, length-filter, sum-map, came_in_flow, ends_packet_at, packets_out, eq-eqb, cells_above, route, each_leaves_or_is_refused, refuses_none_elsewhere, KeepTheirOutput, LeaveOrAreRefused, most_ports, filter_agree, cases_eq, ne_eqb, kept_has, all_both, of_images, all_filter, eqb-true, filter_both, length-append, filter-append, ◌++◌, leaves_in_flow, left_in_flow}
-use Rattle.cq_simulate.proofs.OfPackets.{all_cells, came_as, left_in_packets, by_packet, flow_in_line, line_cells, packet_cells, packets_come, runnable, filter_images, filter_same, kinds_summed, of_kind, one_is, one_where, tally, tests_turned}
+use Rattle.cq_simulate.proofs.Terms.{filter_none, all_in_range, bit, common_steps, rules, append-nil, ◌≡◌, ℕ, ◌<◌, List, length, Ok, ap, arith, ◌+◌, Bool, [], ◌∷◌, map, Option, cond, not, filter, refl, sym, ◌∙◌, ◌-◌, AllByRecursion, range_with_len, All-from_recursion, all_from_has, all_of_has, Arrival, arriving, Departure, traffic_is, at_input, arrivals, packets_of, arrivals_at, cell_of, cells, packet_at, come_in_order, departures_of, whole_limited_run, slots_of_limited_run, LimitedRan, refused_in, packets_refused, AreOfPackets, came_at, AreJudged, LimitedRecord, Captured, AreTables, ports_of, Tables, machines_of, IsFabricRun, departures_in_run, refused_in_run, ideal_departures, ran_ideal, Cell, all_found, all_present, all_weaker, present, judged, Admission, Marked, admission, refused, is_first, arriving_from, IdealState, Machine, ◌&&◌, ◌==◌, length-map, length-filter, sum-map, came_in_flow, ends_packet_at, packets_out, eq-eqb, cells_above, route, each_leaves_or_is_refused, refuses_none_elsewhere, KeepTheirOutput, LeaveOrAreRefused, most_ports, filter_agree, cases_eq, ne_eqb, kept_has, all_both, of_images, all_filter, eqb-true, filter_both, length-append, filter-append, ◌++◌, leaves_in_flow, left_in_flow}
+use Rattle.cq_simulate.proofs.OfPackets.{all_cells, came_as, left_in_packets, by_packet, flow_in_line, line_cells, packet_cells, packets_come, runnable, filter_images, filter_same, kinds_summed, of_kind, one_is, tally, tests_turned}
 use Rattle.cq_simulate.proofs.FabricLaws.{slot_by_slot}
 use Rattle.cq_simulate.specs.EachPacket.{EachPacketOnce, number_for, number_from, output_of, times_left, times_refused}
 
@@ -75,7 +75,9 @@ module _ (t : Tables) (captures : List (List Captured)) (sent : List Departure) 
     -- of its cells for an output the one at this place: there is one, if the packet goes there
     one_cell : (p : Cell → Bool) (place : ℕ) → place < cells t captures input k →
         ((i : ℕ) → p (cell_of t captures input k i) ≡ (goes && i == place)) → tally p its ≡ bit goes
-    one_cell p place within same = rw (filter_images, length-map, filter_agree _ _ same) (one_where goes _ place within)
+    one_cell p place within same =
+        let one = one_is place 0 (cells t captures input k) (omega arith) (omega arith) in
+        rw (filter_images, length-map, filter_agree _ _ same) (search (arith, rules, one, filter_none, all_from_has))
 
     last_one : tally (λ cell. in_flow cell && cell.last) its ≡ bit goes
     unfolding cell_of cells

@@ -3,7 +3,7 @@
 -- ideal switch agree. With any stable matchings the fabric ends where the ideal switch ends, and has sent and refused
 -- what that sends and refuses; its matchings are those of orders by first cells, and no slack is below 0 after
 -- arrivals. The matchings of the run of tables are the input-best ones, so it is a run with stable matchings too.
-use Rattle.cq_simulate.proofs.Terms.{stable_limited_too, common_steps, rules, ◌≡◌, ◌≤◌, List, Ok, refl, arith, All, length, Arrival, IsTraffic, Machine, Marked, NoLimits, admitted_in, first_slots, slots_of, one_limited_whole, recorded, Fabric, empty_fabric, FabricRun, LimitedFabricRun, LimitedRecord, LimitedWholeRun, admissions_in, empty_limited_fabric, slots_in, figures_of, IsInputBest, IsStable, classes_of, ports_of, IsSetup, Tables, machines_of, openings_of, AlwaysHasSlack, AreInputBest, IsFabricRun, IsKeptOf, SendsSlotBySlot, departures_in_run, ideal_departures, ideal_refusals, ran_ideal, slots_ran, slots_of_figures, run_of_whole, ap, limited_found_end, departures_limited, whole_limited_run, LimitedRan, empty_limited, limited_ends, IsEmptyFabric, LimitedEndsAlike, gone_in, AreStable, refused_in_run, counts_limited, refused_counts, slots_fit, ℕ, ◌+◌, [], ◌∷◌, take_all, Option, traffic_is, schedule_of, Cell, arriving_from, IdealState, AreForPorts, admission_for_ports, agrees_of, after_sent, arrived, slack_arrived, orders_are, same_limited_slot, ideal_of, LimitedFabricSlot, Partners, Captured, IsResumed, Kept, Switch, switch_of, Taken, AreTables, AreChosen, CanBeTakenUp, fabric_in, marked_in, Orders, IsParted, false, cond, map, None, max, fold, is_some, slice_index_or, AllByRecursion, enumerate_from, list_any, cond_both, Queued, Figures, SlotRecord, sends, output_after, figures_after, OutputFigures, figures_fold, recursion_from_All, get_or-replicate, ◌<◌, Some, AllPairs, filter_map, eqb-true, All-from_recursion, Departure, EachPair, each_pair, departure_of, figures_told, frozen_told, IsSentBefore, Sent, State, all_made, all_from_has, all_weaker}
+use Rattle.cq_simulate.proofs.Terms.{stable_limited_too, common_steps, rules, ◌≡◌, ◌≤◌, List, Ok, refl, arith, All, length, Arrival, IsTraffic, Machine, Marked, NoLimits, admitted_in, first_slots, slots_of, one_limited_whole, recorded, Fabric, empty_fabric, FabricRun, LimitedFabricRun, LimitedRecord, LimitedWholeRun, admissions_in, empty_limited_fabric, slots_in, figures_of, IsInputBest, IsStable, classes_of, ports_of, IsSetup, Tables, machines_of, openings_of, AlwaysHasSlack, AreInputBest, IsFabricRun, IsKeptOf, SendsSlotBySlot, departures_in_run, ideal_departures, ideal_refusals, ran_ideal, slots_ran, slots_of_figures, run_of_whole, ap, limited_found_end, departures_limited, whole_limited_run, LimitedRan, empty_limited, limited_ends, IsEmptyFabric, LimitedEndsAlike, gone_in, AreStable, refused_in_run, counts_limited, refused_counts, slots_fit, ℕ, ◌+◌, [], ◌∷◌, take_all, Option, traffic_is, schedule_of, Cell, IdealState, AreForPorts, admission_for_ports, agrees_of, after_sent, arrived, slack_arrived, orders_are, same_limited_slot, ideal_of, LimitedFabricSlot, Partners, Captured, IsResumed, Kept, Switch, switch_of, Taken, AreTables, AreChosen, CanBeTakenUp, fabric_in, marked_in, Orders, IsParted, false, cond, map, None, max, fold, is_some, slice_index_or, AllByRecursion, enumerate_from, list_any, cond_both, Queued, Figures, SlotRecord, sends, output_after, figures_after, OutputFigures, figures_fold, recursion_from_All, get_or-replicate, ◌<◌, Some, AllPairs, filter_map, eqb-true, All-from_recursion, Departure, EachPair, each_pair, departure_of, figures_told, frozen_told, IsSentBefore, Sent, State, all_made, all_from_has, all_weaker}
 use Rattle.cq_simulate.proofs.OfPackets.{last_departs_without_limits, slots_are}
 use Rattle.cq_simulate.specs.Emulation.{EmulatesIdeal}
 use Rattle.cq_laws.proofs.LimitedWhole.{Stands, begin}
@@ -143,8 +143,7 @@ module _ (MayChoose : Orders → Partners → Type 0)
       (end : Marked Fabric) (traffic : IsTraffic ports class_count came) (run : LimitedFabricRun MayChoose limits ms 0
       (first_slots came slots) (empty_limited_fabric ports ranks) rs end) where
     pub first_chosen : AreChosen MayChoose rs × AlwaysHasSlack rs
-    first_chosen = each_chosen 0 _ _ end (empty_limited ports ranks) rs
-        (begin limits ms class_count ports ranks _ (slots_fit ports class_count came 0 slots traffic)) run
+    first_chosen = each_chosen 0 _ _ end (empty_limited ports ranks) rs (search (arith, rules, begin, slots_fit)) run
 
 -- ## A run in parts
 

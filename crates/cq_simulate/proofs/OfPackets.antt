@@ -2,7 +2,7 @@
 -- state of its size, and the arrivals rise by input. What arrives at an input are its packets, one after another, each
 -- from its first cell to its last. Cell 0 of a packet is its first cell and no other is, and the next packet has the
 -- next number. At what is no input nothing arrives.
-use Rattle.cq_simulate.proofs.Terms.{get_or_past, common_steps, rules, cond, filter, filter-append, Bool, ◌≡◌, ℕ, zero, suc, ◌+◌, ◌<◌, ◌≤◌, List, [], ◌∷◌, ◌++◌, length, map, refl, arith, flat_map, range_with_len, cases_lt, ne_eqb, Arrival, arriving, traffic_of, Cell, cells_above, at_input, traffic_is, arrivals, arrivals_at, arrivals_of, cell_of, cells, IsTraffic, come_in_order, AreOfPackets, cells_at, Captured, AreTables, ports_of, Tables, arrivals_for, map-append, true, flat_map-append, ◌&&◌, ◌==◌, Departure, came_in_flow, is_from, packet_at, packets_of, route, LeftInOrder, LeftInPackets, of_packet, filter_none, all_weaker, filter_both, filter_agree, cases_eq, min, get_or, slice_get_within, slice_index_or, AllPairs, get_or-map, length-map, length-replicate, get_or_from_slice_get, Setup, IsLater, IsRunnable, RiseByInput, KeepsLaws, machine_at, first_come, IsSetup, classes_of, machine_of, machines_of, openings_of, Kind, FirstCome, bit, sum_by, AllByRecursion, eq-eqb, sum_by-cons, Has, inl, kept_has, not, length-filter_both, all_from_has, ◌^◌, Result, Ok, sym, ◌∙◌, max, and_from, end_of, TagFault, start, piece_begins, all_flat, NoLimits, slots_of, leaves_in_flow, departures_of, departures_limited, LimitedRan, flows_leave_in_packets, limited_same_sent, run_as_before, slots_as_before, HaveLeftOf, LeaveInOrder, LeaveWhole, IsCaptured, ideal_departures, ran_ideal, slots_ran, and_parts, eqb-true, all_of_has, has_cases, has_image, has_kept, image_has, came_more, few_by, length_packet, row_of, rows_are, length-append, length-map-range_with_len, last_departs, limited_slots, all_made}
+use Rattle.cq_simulate.proofs.Terms.{get_or_past, common_steps, rules, cond, filter, filter-append, Bool, ◌≡◌, ℕ, zero, suc, ◌+◌, ◌<◌, ◌≤◌, List, [], ◌∷◌, ◌++◌, length, map, refl, arith, flat_map, range_with_len, cases_lt, ne_eqb, Arrival, arriving, traffic_of, Cell, cells_above, at_input, traffic_is, arrivals, arrivals_at, arrivals_of, cell_of, cells, IsTraffic, come_in_order, AreOfPackets, cells_at, Captured, AreTables, ports_of, Tables, arrivals_for, map-append, true, flat_map-append, ◌&&◌, ◌==◌, Departure, came_in_flow, is_from, packet_at, packets_of, route, LeftInOrder, LeftInPackets, of_packet, filter_none, all_weaker, filter_both, filter_agree, cases_eq, min, get_or, slice_get_within, slice_index_or, AllPairs, get_or-map, length-map, length-replicate, get_or_from_slice_get, Setup, IsLater, IsRunnable, RiseByInput, KeepsLaws, machine_at, first_come, IsSetup, classes_of, machine_of, machines_of, openings_of, Kind, FirstCome, sum_by, AllByRecursion, eq-eqb, sum_by-cons, Has, inl, kept_has, not, length-filter_both, ◌^◌, Result, Ok, sym, ◌∙◌, max, and_from, end_of, TagFault, start, piece_begins, all_flat, NoLimits, slots_of, leaves_in_flow, departures_of, departures_limited, LimitedRan, flows_leave_in_packets, limited_same_sent, run_as_before, slots_as_before, HaveLeftOf, LeaveInOrder, LeaveWhole, IsCaptured, ideal_departures, ran_ideal, slots_ran, and_parts, eqb-true, all_of_has, has_cases, has_image, has_kept, image_has, came_more, few_by, length_packet, row_of, rows_are, length-append, length-map-range_with_len, last_departs, limited_slots, all_made}
 use Rattle.std.proofs.lemmas.Simd.{map-map}
 use Rattle.cq_cells.specs.Traffic.{IsInRange, IsRecorded}
 
@@ -47,10 +47,6 @@ none_is k a (suc n) past = grind (arith, common_steps, ne_eqb, none_is k (a + 1)
 pub one_is : (k a n : ℕ) → a ≤ k → k < a + n → filter (λ i. i == k) (range_with_len a n) ≡ k ∷ []
 one_is k a zero from to = absurd (omega arith)
 one_is k a (suc n) from to = grind (arith, common_steps, cases_eq, eq-eqb, ne_eqb, none_is, one_is k (a + 1) n)
-
--- that number alone passes, if something else holds too, and else none
-pub one_where : (b : Bool) (n k : ℕ) → k < n → tally (λ i. b && i == k) (range_with_len 0 n) ≡ bit b
-one_where b n k inside = search (arith, rules, one_is k 0 n, filter_none, all_from_has)
 
 -- ## Sums
 

@@ -236,8 +236,7 @@ module _ (M : List ℕ → Machine) {came : List Arrival} {first : IdealSwitch} 
 
 pub one_present : (cells : List (Option Cell)) (i : ℕ) → one_if (arrival_at cells i) ≤ length (present cells)
 one_present [] i = omega arith
-one_present (o ∷ cells) zero = grind (arith, common_steps)
-one_present (o ∷ cells) (suc i) = grind (arith, common_steps, one_present cells i)
+one_present (o ∷ cells) i = grind (arith, common_steps, one_present cells (i - 1))
 
 -- where each number in a row grows by one at most, and only where a cell arrives, their sum grows by no more than come
 grown : (cells : List (Option Cell)) (f g : ℕ → ℕ) (a n : ℕ) →
