@@ -1,11 +1,9 @@
--- Of whole stable runs one has these transfers. A run that goes on past a slot has moved before it what the lines
--- before the slot say. So the longer of two runs, after as many slots as the other has, is where the other ended:
--- nothing is to come and nothing waits, and it ends there too.
--- A log has one verdict. Up to where its lines say so, the fabric has no choice: the transfers of a stable run tell
--- the run. So of two faults of phases neither stands before the other, for a run that goes on past a phase has made
--- the transfers of a stable matching there, as its lines say. For the same reason no fault stands within a whole run
--- that moves what the lines say, and none behind it, for the run is over there. And two such runs are one.
--- A log has one verdict: it cannot be read, or what was read is that of a stable run or has one fault first.
+-- A log has one verdict: it cannot be read, or what was read is that of a stable run or has one fault first. Up to
+-- where its lines say so, the fabric has no choice: the transfers of a stable run tell the run. So of two faults of
+-- phases neither stands before the other, for a run that goes on past a phase has made the transfers of a stable
+-- matching there, as its lines say. For the same reason no fault stands within a whole run that moves what the lines
+-- say, and none behind it, for the run is over there. And two such runs are one: the longer of the two, after as many
+-- slots as the other has, is where the other ended; there nothing is to come and nothing waits, and it ends too.
 use Rattle.cq_audit.proofs.Terms.{common_steps, rules, ◌≡◌, ◌≢◌, ℕ, ◌⊎◌, List, length, Option, sym, ap, ◌∙◌, inl, inr, arith, Arrival, Setup, IsAuditExact, IsNo, IsReadNo, IsYes, IsLogExact, IsLogFault, AuditRefusal, Line, NoMemory, ◌<◌, ◌≤◌, [], ◌∷◌, ◌++◌, take, drop, refl, map-append, transfers_both, ◌-◌, AllByRecursion, cases_lt, take-append-drop, take-take, end_of, Transfer, Marked, arriving_from, first_slots, arriving_length, Machine, IsStable, Fabric, IsEmptyFabric, LimitedFabricRun, LimitedFabricSlot, LimitedRecord, slots_in, transfers_of_run, AfterBy, reach, run_of_whole, Reaches, StableRun, before_slot, all_weaker, suc, ⊎_elim, cases_order, Partners, one_arrival, one_departure, IsStableTold, in_phase, Begins, BeginsFirst, IsFaultAt, PhaseFault, filter_all, lt-ltb}
 use Rattle.cq_audit.proofs.LogLines.{log_is_exact}
 use Rattle.cq_audit.proofs.Following.{before_is, before_later, phase_before, phase_later, phase_now, each_moved, one_move, one_stable_run, run_later, run_within}

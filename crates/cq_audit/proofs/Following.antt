@@ -1,13 +1,11 @@
--- The lines of a log by slots and phases. Of lines of earlier slots and then later ones, those before a slot are the
--- first, and those of its phases are among the others.
--- The lines of a log, phase by phase. They are in order, so where none is of an earlier phase those of this one
--- stand at the front, in order of input, and the others are of later ones.
--- A log leaves one stable run. In a slot the transfers of the first phase stand before those of the second, so where
--- the slot's transfers are the same, so are those of each phase, and they tell the matchings
--- (`transfers_tell_the_matching`). All else follows from the state and what arrives. In a run the transfers of a
--- slot stand before those of later ones.
--- Of slots that a replay skips: no cell arrives up to the next arrival, and no line is of a slot before that of the
--- first. And a stretch of no slots leaves everything as it is.
+-- The lines of a log, by slots and phases. Of lines of earlier slots and then later ones, those before a slot are the
+-- first, and those of its phases are among the others. Lines are in order, so where none is of an earlier phase those
+-- of this one stand at the front, in order of input, and the others are of later ones. So a log leaves one stable run.
+-- In a slot the transfers of the first phase stand before those of the second: where the slot's transfers are the same,
+-- so are those of each phase, and they tell the matchings (`transfers_tell_the_matching`). All else follows from the
+-- state and what arrives. In a run the transfers of a slot stand before those of later ones. Last, slots that a replay
+-- skips: no cell arrives up to the next arrival, and no line is of a slot before that of the first. And a stretch of no
+-- slots leaves everything as it is.
 use Rattle.cq_audit.proofs.Terms.{common_steps, rules, ◌≡◌, ℕ, ◌+◌, ◌<◌, ◌≤◌, List, [], ◌∷◌, length, Option, arith, AllByRecursion, Cell, Queued, Machine, Marked, orders_of, transfers_of, Orders, IsStable, Partners, Fabric, FabricSlot, SlotRecord, LimitedFabricRun, LimitedRecord, slots_in, Transfers, transfers_in, transfers_of_run, one_arrival, one_departure, one_transfer, same_record, transfers_tell, all_weaker, in_phase, all_both, all_from_has, looked_up, Bool, true, ◌++◌, refl, ◌⊎◌, take, drop, ap, ⊎_elim, filter, position_or_len, and_left, and_parts, cases_lt, cond_both, eq-eqb, eqb-true, lt-ltb, ltb-true, ne_eqb, cases_Bool, append-nil, append_cancel_left, filter-append, Transfer, AreInOrder, IsTransferBefore, AllBehind, NoneBefore, is_at, AreParted, FirstIsLeast, before_slot, not, first_here, first_later, all_front, all_give, filter_all, filter_none, recursion_from_All, min, None, Some, slice_get, Arrival, quiet_of, HasRested, IsInStep, ReplayView, IsStill, IsStillUntil, IsQuietUntil}
 use Rattle.std.proofs.lemmas.Bool.Decides.{nat_tests}
 

@@ -1,17 +1,15 @@
--- Pairs that are told from both sides. One more pair is told from both, where its ends were free.
--- The lines of a phase, told one after another. Their inputs rise, so where a line has its turn, those before it are of
--- lesser inputs and those behind it of greater ones: it is the line of its input, and an output that is taken then is
--- taken by a lesser input's line.
--- Where no line is wrong and no pair blocks, the pairs that the lines tell are a stable matching: each is of an
--- input and the output of its first cell, so it is offered, and no output is in two of them, for the greater of two
--- inputs would have a wrong line. A pair outside it that is offered does not block, so one of its ends has a partner
--- that it prefers.
--- Where no line of a phase is wrong, the transfers of the pairs that they tell are the lines. What is noted of an
--- input is its line: its partner is the output that the line names, and its first cell for that output is the one.
--- And the lines of all inputs, in order, are the lines.
--- The lines of a phase have one verdict. Of two faults neither comes before the other. And where the lines are the
--- transfers of a stable matching, the line of an input is what is noted of it: it names the input's first cell for its
--- partner. So no line is wrong, the pairs that the lines tell are the matching, and none blocks it.
+-- The lines of a phase have one verdict. First the pairs that they tell, from both sides: one more pair is told from
+-- both, where its ends were free. The lines are told one after another. Their inputs rise, so where a line has its
+-- turn, those before it are of lesser inputs and those behind it of greater ones: it is the line of its input, and an
+-- output that is taken then is taken by a lesser input's line. Where no line is wrong and no pair blocks, the pairs
+-- that the lines tell are a stable matching: each is of an input and the output of its first cell, so it is offered,
+-- and no output is in two of them, for the greater of two inputs would have a wrong line. A pair outside it that is
+-- offered does not block, so one of its ends has a partner that it prefers. The transfers of these pairs are then the
+-- lines: what is noted of an input is its line, since its partner is the output that the line names, and its first cell
+-- for that output is the one; and the lines of all inputs, in order, are the lines. Last, of two faults neither comes
+-- before the other. And where the lines are the transfers of a stable matching, the line of an input is what is noted
+-- of it: it names the input's first cell for its partner. So no line is wrong, the pairs that the lines tell are the
+-- matching, and none blocks it.
 use Rattle.cq_audit.proofs.Terms.{common_steps, rules, ◌≡◌, ℕ, zero, suc, ◌+◌, ◌<◌, ◌≤◌, ◌⊎◌, List, length, Option, None, Some, ◌∙◌, arith, filter_map, range_with_len, cases_lt, cases_eq, ext_get_or, length-map, get_or_past, Queued, Transfer, list_of, output_order, noted, transfers_of, Partners, partner_of, offer_of, transfers_tell, IsPhaseExact, IsPhaseFault, IsStableTold, IsWrongLine, first_id, line_of_input, output_told, told, PhaseFault, ◌≢◌, [], ◌∷◌, sym, AllByRecursion, option_map, cond_both, eqb-true, Waiting, cells_of, orders_of, Orders, ports, IsOffered, HasBetterInput, HasBetterOutput, IsMatching, AreOfPhase, AreRight, IsBlocking, RiseByInput, all_weaker, get_or-map-range_with_len, length-map-range_with_len, is_output_order, outputs_at, CellId, sender, all_give, all_of_has, ◌++◌, get_or, take, drop, refl, replicate, eq-eqb, length-replicate, length-set, get_or-set_same, get_or-set_other, take-append-drop, take_more, drop_more, find-append, all_back, with_pair, IsFreeOutput, nobody, IsOf, IsFirstWrong, get_or-map, none_unless}
 use Rattle.cq_audit.specs.declared.phase.PhaseFault.TheVariants.{WrongLine, Blocking}
 use Rattle.cq_base.proofs.Having.{has_there}
@@ -34,12 +32,12 @@ joined_mirrored m w i j mirror in_m in_w free_i free_j =
 
 pub ruleset join_steps = (joined_mirrored, free_there, free_back)
 
--- the list of an input that is one
+-- ## The line of an input
+
+-- the list of an input that there is
 pub cells_at : (lists : List Waiting) (i : ℕ) (w : Waiting) → i < length lists → get_or lists i w ≡ w →
     list_of (cells_of lists) i ≡ w.cells
 cells_at lists i w inside is = search (arith, rules, get_or-map)
-
--- ## The line of an input
 
 module _ (i : ℕ) where
   pub line_is_of : (lines : List Transfer) (t : Transfer) → line_of_input i lines ≡ Some t → t.input ≡ i

@@ -1,13 +1,12 @@
--- The replay of a log, slot by slot. Before each slot the fabric has had the slots before it, with stable matchings,
--- and what was moved in them is what the lines before it say; the run is over after none of them. A slot moves what
--- its lines say, and slots that are skipped move nothing. So the lines that are left are those of this slot and of
--- later ones. At a fault of a phase all before it is known, and at the end of the run no line is left, or the first
--- that is left is not reached.
--- What each step of the loop over the slots of a replay asks for and comes to.
--- What bounds a run of a fabric with stable matchings over all cells that arrive. In a slot a list gets no more cells
--- than arrive at its input, and an output holds no more cells more than arrive for it. So no list and no output holds
--- more than arrives in all. Beside the fabric an ideal switch runs, with which it agrees. So where the whole run of
--- that one meets no tag fault, the fabric meets none, and it goes on for no more slots than that one.
+-- The replay of a log, slot by slot. First what bounds a run of a fabric with stable matchings over all cells that
+-- arrive. In a slot a list gets no more cells than arrive at its input, and an output holds no more cells more than
+-- arrive for it. So no list and no output holds more than arrives in all. Beside the fabric an ideal switch runs, with
+-- which it agrees. So where the whole run of that one meets no tag fault, the fabric meets none, and it goes on for no
+-- more slots than that one. Then what is known before each slot: the fabric has had the slots before it, with stable
+-- matchings, and what was moved in them is what the lines before it say; the run is over after none of them. A slot
+-- moves what its lines say, and slots that are skipped move nothing. So the lines that are left are those of this slot
+-- and of later ones. At a fault of a phase all before it is known, and at the end of the run no line is left, or the
+-- first that is left is not reached.
 use Rattle.cq_audit.proofs.Terms.{common_steps, rules, ◌≡◌, ℕ, ◌+◌, ◌-◌, ◌<◌, ◌≤◌, Bool, List, [], length, map, Option, Result, Err, arith, length-append, ◌*◌, zero, suc, ◌∷◌, ◌++◌, refl, append_assoc, IfErr, IsOk, OnOk, cases_lt, take_all, take-append-le, Arrival, arriving, end_of, enough, RoomView, Cell, Transfer, Machine, class_count, Marked, first_slots, arriving_from, ranking, IsStable, Fabric, IsEmptyFabric, LimitedFabricRun, empty_limited_fabric, fabric_admission, IsLimitedFault, LimitedFabricSlot, LimitedRecord, arrivals_for, refusal_of, AreInOrder, NoneBefore, CanReplay, HasRested, IsInStep, IsSlotFault, ReplayView, SlotReplayed, ports_in, IsMadeAs, IsReady, IsStill, RunEnds, Reaches, before_slot, AuditRefusal, Left, SlotFault, arriving_length, arriving_parts, quiet_limited_slots, transfers_of_run, AfterBy, run_length, first_more, quiet_slots, Ok, Some, TagFault, arrival_at, IsTraffic, is_from, is_to, number_of, count_for, whole_limited_run, empty_limited, input, reach, empty_list, empty_together, nothing_for, slots_fit, arrives_found, come_from, from_here, from_last, no_more_from, one_if, some_one, idled, all_go_on, transfers_one, quiet_transfers, limited_parts, run_fault, held_for, LimitedAgrees, LimitedRunsAlike, same_limited_fault, begin, same_limited_run, limited_lists_kept, limited_outputs_kept, come_for, for_here, for_last, no_more_to}
 use Rattle.cq_audit.proofs.Following.{before_is, phase_later, none_first, none_from, none_next, one_stable_run, all_late}
 use Rattle.cq_audit.proofs.AuditExact.{Going, Runs, all_before, moved, moved_parts}
