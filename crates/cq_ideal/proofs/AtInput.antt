@@ -23,7 +23,7 @@ pub still_stand : (a : ℕ) (marks : List Bool) (cells : List (Option Cell)) →
 still_stand a [] cells at = at
 still_stand a (mark ∷ marks) cells at = grind (arith, common_steps, still_stand (a + 1) marks)
 
--- ## In a run
+-- ## What arrives stands at its place
 
 own_place : (t a : ℕ) (cells : List (Option Cell)) (came : List Arrival) → StandAt (a + 1) cells →
     StandAt a (arriving_at came t a ∷ cells)
@@ -161,7 +161,7 @@ module _ (i c j : ℕ) where
 
 module _ {ms : List Machine} {ports : ℕ} {openings : List (List ℕ)} {came : List Arrival}
     (runs : IsRunnable ms ports openings came) where
-  -- so it is of any number, since what is no input shows nothing
+  -- the cells that come to an input are its arrivals, and so it is of any number, since what is no input shows nothing
   pub all_in_order : (i : ℕ) → cells_at i (traffic_of came) ≡ came_at i came
   unfolding found
   all_in_order i = ⊎_elim (λ inside. come_in_order i inside came runs.rise)

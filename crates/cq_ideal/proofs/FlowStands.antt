@@ -106,6 +106,8 @@ module _ (m : Machine) (laws : KeepsLaws m) (state : List ℕ) (slot input : ℕ
         (rules, filter-put, map-append, and_from, eq-eqb, cond-true, all_weaker, class_no_later, eqb-true, and_parts))
         (search (arith, rules, filter-put_other, append-nil, and_right, cond-false)) (cases_Bool (is_kind i c n))
 
+-- ## All inputs
+
 -- the cells that arrive in a slot
 abbrev pub present : List (Option Cell) → List Cell
 present [] = []
