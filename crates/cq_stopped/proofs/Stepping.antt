@@ -15,11 +15,11 @@ use Rattle.cq_stopped.proofs.Lined.{each_departs, left_has, left_more, slot_in_o
 use Rattle.cq_base.specs.Key.{is_before}
 use Rattle.cq_ideal.specs.Ranking.{keyed as with_key}
 
--- What the cells of a slot are ranked: each has the level of its class, a rank that fits, and one that is no less than
--- the floor that its class had before the slot, since no rank that is given lowers a floor. And how they queue up at an
--- output. A cell that comes has another name than each that came before it, of its flow each came in an earlier slot,
--- and each of its class that waits has the lesser key: its level and no greater rank. So of two in the order of keys
--- the one ahead goes before the other, as what left the output goes before both.
+-- First, what the cells of a slot are ranked: each has the level of its class, a rank that fits, and one that is no
+-- less than the floor that its class had before the slot, since no rank that is given lowers a floor. And how they
+-- queue up at an output. A cell that comes has another name than each that came before it, of its flow each came in an
+-- earlier slot, and each of its class that waits has the lesser key: its level and no greater rank. So of two in the
+-- order of keys the one ahead goes before the other, as what left the output goes before both.
 
 module _ (ms : List Machine) (slot : ℕ) where
   -- the rank states after a cell got its rank
