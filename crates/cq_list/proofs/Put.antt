@@ -1,5 +1,6 @@
--- A cell put into a queue whose cells rise in their keys: it goes in at the place of the first less urgent cell, and
--- the queue still rises, since a cell that has another key and is not before it is after it.
+-- A cell put into a queue whose cells rise in their keys goes in at the place of the first less urgent cell. Where no
+-- cell has its key, that is the first one that is no more urgent. What the last of some cells tells: where it is more
+-- urgent they all are, where it is not, not all of them are, and where it has the key all but it are more urgent.
 use Rattle.std.proofs.lemmas.List.Sums.{passes_at_first}
 use Rattle.cq_list.proofs.Terms.{first_inside, length-map, first_le, cases_lt, slice_get_within, get_or_from_slice_get, ◌-◌, ◌<◌, rules, ◌≡◌, ℕ, zero, suc, ◌≤◌, Bool, true, false, not, List, [], ◌∷◌, Some, refl, arith, common_steps, insert, slice_get, position_or_len, cases_Bool, not-true, Queued, Key, is_before, IsBefore, IsRising, HasOtherKey, put, key_laws, all_at, first_here, first_later, after_other, drop}
 
