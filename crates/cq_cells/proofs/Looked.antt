@@ -1,7 +1,7 @@
 -- A slot is looked up in a line. The packets of a line arrive one after another, so of all packets only the last that
--- has begun can have a cell in the slot, and that is the cell as many places on as slots have gone by since.
--- The next slot with an arrival. At one input the packets that have arrived whole before a slot stand first. Of the
--- others the first one begins first, and its cells come one a slot. So the slot itself has a cell where that packet
+-- has begun can have a cell in the slot, and that is the cell as many places on as slots have gone by since. And the
+-- next slot with an arrival is found. At one input the packets that have arrived whole before a slot stand first. Of
+-- the others the first one begins first, and its cells come one a slot. So the slot itself has a cell where that packet
 -- has begun, and else the slot in which it begins is the next one. Of several inputs the earliest counts.
 use Rattle.cq_cells.proofs.Terms.{common_steps, rules, ◌≡◌, ◌≢◌, ℕ, zero, suc, ◌+◌, ◌-◌, ◌<◌, ◌≤◌, eqb, Bool, List, length, map, slice_index_or, None, Some, refl, arith, range_with_len, find, IsNonDecreasingBy, cases_eq, cases_order, ne_eqb, get_or_default, get_or_read, Arrival, Cell, Row, AreRows, IsBegun, row_cell, row_arrivals, row_at, line_arrivals, max, [], ◌∷◌, ◌++◌, flat_map, Option, inr, AllByRecursion, cases_lt, IsEnded, ArrivesIn, IsFirstFrom, IsNextArrival, earlier, all_both, all_weaker, all_made, all_flat}
 use Rattle.cq_cells.proofs.Ranges.{find_none, find_only}

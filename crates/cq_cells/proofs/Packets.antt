@@ -1,6 +1,6 @@
 -- The packets of an input, one after another. The rows so far give the arrivals so far: their number, their end, and
--- how many are for each output.
--- A line is laid out: where its packets go, what each step of it adds, and what stands at its end.
+-- how many are for each output. So a line is laid out: where its packets go, what each step of it adds, and what stands
+-- at its end.
 use Rattle.cq_cells.proofs.Terms.{All-from_recursion, common_steps, rules, ◌≡◌, ℕ, zero, suc, ◌+◌, ◌-◌, ◌^◌, ◌<◌, ◌≤◌, max, eqb, cond, List, [], ◌∷◌, ◌++◌, length, map, flat_map, take, slice_index_or, slice_set, arith, range_with_len, sum_by, cases_eq, ne_eqb, append-nil, length-append, get_or-set_same, get_or-set_other, flat_map-append, filter-append, length-map-range_with_len, get_or-map-range_with_len, map-range_with_len_more, sum_by-cons, sum_by_more, sum_by-take-le, div-le_self, Arrival, end_of, Cell, Captured, file_length, Tables, route, Row, AreAdded, AreRows, row_at, line_arrivals, cells_of, packets_of, packet_at, stamp_slot, cells, start, cell_of, arrivals_of, arrivals_at, IsRecorded, is_to, number_of, ◌/◌, rows_from, PacketRow, AreTables, ports_of, few_kept, t0_of, sym, length-map, get_or-map, fill_by_all, route_output, packet_in}
 use Rattle.cq_cells.proofs.Looked.{piece, no_row}
 use Rattle.cq_cells.proofs.Owned.{end_of-append}
