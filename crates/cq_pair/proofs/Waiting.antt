@@ -1,9 +1,8 @@
 -- The inputs that wait, as places and pairs change. An input that gets a partner, or has no output left, is taken out
 -- of the list, and one that is parted goes back in by its number if it has an output left. The others stay as they
--- were, and all stand in order of number.
--- What the steps of a core do to what it shows. Its fields are what was shown; the free inputs that it shows are those
--- that wait by the places and the pairs, and so they are after a step that takes an input out, or puts it back, as it
--- waits.
+-- were, and all stand in order of number. So the steps of a core keep what it shows: its fields are what was shown, and
+-- the free inputs are those that wait by the places and the pairs, after a step that takes an input out, or puts it
+-- back, as before it.
 use Rattle.cq_pair.proofs.Terms.{common_steps, rules, ℕ, ◌≡◌, ◌≢◌, ◌<◌, ◌≤◌, Bool, true, false, is_none, eqb, List, [], ◌∷◌, length, set, get_or, replicate, Some, None, refl, ap, arith, filter, IsDistinct, IsNonDecreasingBy, range_with_len, AllPairs, IsDistinct-from_apart, get_or-range_with_len, cases_lt, and-true, cases_eq, cond_both, eq-eqb, ne_eqb, lt-ltb, le-ltb, and_left, and_right, get_or-set_same, get_or-set_other, filter_agree, length-range_with_len, Orders, AreOffers, ports, outputs_of, Partners, partner_of, State, start, is_free, matching_of, free_inputs, length-put, few_kept, next_place-start, nobody, partner-is, with_input, without, inputs_with_offers, is_waiting, waiting_inputs, ltb, put_is, has_kept, has_number, ltb-true, each_pair, IsPut, put_back, sym, subst, Progress, ShowsWaiting}
 use Rattle.std.proofs.lemmas.List.Kept.{AllPairs-from_increasing, IsStrictlyIncreasing-filter}
 
