@@ -2,7 +2,7 @@
 -- The map is made from the last entry to the first, so a name has the value of its first entry. Two maps
 -- that answer alike are equal, so lemmas on maps compare what they answer, by an induction on the
 -- entries: the first entry of a name is at the head, or the head has another name.
--- What calls on files in memory do. The entry of a name answers for the name in each map, since it is the
+-- Then what calls on files in memory do. The entry of a name answers for the name in each map, since it is the
 -- first. So a new value at that entry is a new value of the name and changes nothing else, and the cut and
 -- the bytes of the open name, which the code takes from its entry, are those that the meaning has.
 use Rattle.cq_space.proofs.Terms.{rules, ◌≡◌, ℕ, ◌+◌, ◌-◌, ◌<◌, ◌≤◌, min, true, false, List, [], ◌++◌, length, get_or, map, take, drop, ap, arith, unwrap_or, string_bytes, common_steps, length-map, get_or-map, get_or_past, with_items_is, length-drop, length-take, take-append-drop, drop_all, drop-drop, Option, None, Some, Vec, is_some, Global, with_items, position, option_map, get, Entry, State, Calls, IsShort, one_more, StaysBefore, MemSpace, told_space, cut_at, moved_at, Closed, Reading, Space, BeginsReading, TakesNext, ReadsOn, Appends, bytes_of, Columns, columns_of, contents_of, by_name, IsEntryOf, name_at, bytes_at, mode_of, IsInPlace, with_bytes, with_read_cut, with_write_cut, SaysTheSame, Bool, cond, ◌∷◌, set, position_or_len, is_eq-slice_cmp, bytes_eq-Decides, nat_cmp, eq_by_cmp_equiv, slice_cmp, nat_list_cmp_total, FinMap, get-empty, get-insert, get-remove, same_map, slice_cmp-IsAntisymmetric, nat_cmp-IsAntisymmetric, same_name, put, passes_at_first, length-set, get_or-set_same, get_or-set_other, length-append, add-zero, map-append, map-set, get_or_append_left, set-get_or, get_or-append_seam, map-set_same, ltb-false, eq-eqb, ne_eqb, prefix_len-le-length, position_or_len_push, position_or_len_is, told_at, position_or_len-map}
