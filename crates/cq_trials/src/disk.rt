@@ -64,8 +64,8 @@ impl Disk {
         }
     }
 
-    /// With `c.toml` alone, the configuration of a switch with so many ports, one to four, and so many workers. With any
-    /// other number of ports no trial comes out as it should.
+    /// With `c.toml` alone, the configuration of a switch with so many ports, one to four, and so many workers. With
+    /// any other number of ports no trial comes out as it should.
     pub fn of_ports(alloc: Global, ports: usize, workers: u8, keys: &Keys) -> Disk {
         let mut disk = Disk::new(alloc);
         disk.is_whole = 0 < ports && ports <= INPUTS.len();
