@@ -12,8 +12,8 @@ use cq_xbar::transfer;
 use std::alloc::Global;
 
 // The list of an input of three, with a cell of rank 0 for each of these outputs (modulo 3), that arrived one after
-// another. The first of them that is for the wanted output is there. The error is want of memory, or that no such cell is
-// there.
+// another. The first of them that is for the wanted output is there. The error is want of memory, or that no such cell
+// is there.
 fn three_waiting(
     alloc: Global,
     input: Port,
