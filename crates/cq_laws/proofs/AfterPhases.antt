@@ -17,6 +17,8 @@ use Rattle.cq_laws.proofs.Terms.{rules, ◌≡◌, ◌≢◌, ℕ, suc, ◌+◌,
 use Rattle.cq_laws.proofs.Sound.{from_first, first_at, first_of, left_at, left_or_first, among_put, rising_put, was_waiting, same_cell, Apart, Sound, one_in_order, orders_are, among_insert, insert_has, inserted_at}
 use Rattle.cq_laws.proofs.Cushions.{bit_true, cushion_cons, cushion_has, cushion_put, cushion_rises}
 
+-- ## Slacks after arrivals and after departures
+
 module _ (ms : List Machine) (slot : ℕ) (cells : List (Option Cell)) (came : List (Option Queued)) (old new : Fabric)
     (arrive : Arrives ms slot cells came old new) where
   pub arrivals_fall : EachArrivesOrFalls came old new
@@ -28,6 +30,8 @@ rest_of lists j = grind (arith, common_steps)
 pub departures_fall : (ms : List Machine) (gone : List (Option Queued)) (old new : Fabric) → Departs ms gone old new →
     EachFalls 1 old new
 departures_fall ms gone old new depart i t c at = search (arith, rules, rest_of, cushion_cons)
+
+-- ## What arrivals keep
 
 -- the cells that came have this slot, their input, and an output of the switch
 pub record Keyed (slot ports : ℕ) (came : List (Option Queued)) : Type 0 where
@@ -66,6 +70,8 @@ module _ (ms : List Machine) (slot : ℕ) (cells : List (Option Cell)) (came : L
     pub arrived_has : (j : ℕ) (c : Queued) → HasFor new j c ↔ (HasFor old j c ⊎ CameFor came j c)
     arrived_has j c = search (arith, rules, among_insert, insert_has)
 
+-- ## What departures keep
+
 pub rising_rest : (xs : List Queued) → IsRising xs → IsRising (drop 1 xs)
 rising_rest xs r = grind (arith, common_steps)
 
@@ -82,6 +88,8 @@ module _ (ms : List Machine) (gone : List (Option Queued)) (slot : ℕ) (old new
 
   pub sent_sound : Sound slot old → Sound slot new
   sent_sound sound = search (arith, rules, sent_fabric, was_crossed)
+
+-- ## Whose partner an output is
 
 pub is_partner : (x : Option ℕ) (j : ℕ) → (x ≡ Some j) ⊎ (x ≢ Some j)
 is_partner o j = search (arith, rules, cases_eq, same_Some)
@@ -128,6 +136,8 @@ better_ahead order cells p j is listed lt = grind (arith, common_steps, is.by_pl
 left_or_taken : (p : Option ℕ) (xs : List Queued) (c : Queued) → IsAmong c xs →
     IsAmong c (list_taken p xs) ⊎ ((k : ℕ) × (p ≡ Some k) × (first_for k xs ≡ Some c))
 left_or_taken p xs c h = grind (arith, common_steps, left_or_first)
+
+-- ## The transfer of a stable matching
 
 module _ (old new : Fabric) (m : Partners) (fabric : IsFabric old) (order : ListsKeepOrder old) (apart : Apart old)
     (stable : IsStable (orders_of old.inputs) m) (moves : Transfers m old new) where

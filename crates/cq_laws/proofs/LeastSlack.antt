@@ -151,6 +151,8 @@ module _ (ms : List Machine) (slot class_count : ℕ) (cells : List (Option Cell
 reduce-cons : (o : Option ℕ) (xs : List ℕ) → reduce min (cons_option o xs) ≡ either_by min o (reduce min xs)
 reduce-cons o xs = grind (arith, common_steps, reduce-append min (λ a b c. omega arith) (cons_option o []) xs)
 
+-- ## Over a run
+
 module _ (ms : List Machine) (class_count : ℕ) where
   least_run : (slot : ℕ) (traffic : List (List (Option Cell))) (f g : Fabric) (ideal : IdealState)
       (rs : List SlotRecord) (x : Figures) (i : ℕ) → Agrees slot f ideal →

@@ -84,7 +84,7 @@ pub begin : (limits : List (Option ℕ)) (ms : List Machine) (class_count ports 
     Stands limits ms class_count 0 traffic (empty_limited_fabric ports ranks) (empty_limited ports ranks)
 begin limits ms class_count ports ranks traffic come = search (rules, limited_empty_agree, traffic_for_empty)
 
--- so over any slots the ideal switch runs beside
+-- so over any slots the ideal switch runs beside the fabric
 pub limited_beside : (limits : List (Option ℕ)) (ms : List Machine) (ports class_count : ℕ) (ranks : List (List ℕ))
     (traffic : List (List (Option Cell))) (rs : List LimitedRecord) (g : Marked Fabric) →
     AllByRecursion (AreForPorts ports class_count) traffic →

@@ -81,6 +81,8 @@ module _ {S R : Type 0} (Step : ℕ → List (Option Cell) → S → R → S →
         WholeBy Step IsEmpty came start ss h → (rs ≡ ss) × (g ≡ h)
     one_whole g h rs ss w v = grind (arith, common_steps, no_longer, run_of_whole)
 
+-- ## What was sent and moved, in parts
+
 -- from any slot on
 pub departures_on : (rs ss : List SlotRecord) (first slot : ℕ) → first + length rs ≡ slot →
     departures_of first (gone_in (rs ++ ss)) ≡ departures_of first (gone_in rs) ++ departures_of slot (gone_in ss)

@@ -78,7 +78,7 @@ module _ (ports : ℕ) (ranks : List (List ℕ)) where
       AllByRecursion (AreForPorts (length (empty_fabric ports ranks).inputs) class_count) traffic
   traffic_for_empty class_count traffic h = grind (arith, common_steps, length-replicate)
 
-  -- so over any slots the ideal switch runs beside
+  -- so over any slots the ideal switch runs beside the fabric
   pub run_beside : (ms : List Machine) (class_count : ℕ) (traffic : List (List (Option Cell))) (rs : List SlotRecord)
       (g : Fabric) → AllByRecursion (AreForPorts ports class_count) traffic →
       FabricRun IsStable ms 0 traffic (empty_fabric ports ranks) rs g →
