@@ -11,12 +11,13 @@ use Rattle.cq_simulate.proofs.TakenUp.{goes_of, machines_many}
 use Rattle.cq_resume.specs.Counted.{sent_by}
 use Rattle.cq_simulate.specs.declared.fabric_run.FabricRun as kept
 
--- An output sends one cell a slot at most, and the records of a run are numbered slot by slot. So before each slot an
--- output has sent no more cells than the number of that slot, and no more than the slots so far: a slot in which it
--- sends adds one cell, and then the slots are one more than the number of that slot. What was counted before goes on
--- so, and before the first slot nothing was counted. Nor has an output of a run that goes on from a sound state sent
--- more cells than there were slots: in the state each of them has one `sent` line a slot at most, and the lines stand
--- slot by slot, so from the first of them on, the cells that it sent are no more than the slots up to the last line.
+-- First, an output sends one cell a slot at most, and the records of a run are numbered slot by slot. So before each
+-- slot an output has sent no more cells than the number of that slot, and no more than the slots so far: a slot in
+-- which it sends adds one cell, and then the slots are one more than the number of that slot. What was counted before
+-- goes on so, and before the first slot nothing was counted. Nor has an output of a run that goes on from a sound state
+-- sent more cells than there were slots: in the state each of them has one `sent` line a slot at most, and the lines
+-- stand slot by slot, so from the first of them on, the cells that it sent are no more than the slots up to the last
+-- line.
 
 -- ## The records of a run
 

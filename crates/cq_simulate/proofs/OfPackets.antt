@@ -6,9 +6,9 @@ use Rattle.cq_simulate.proofs.Terms.{get_or_past, common_steps, rules, cond, fil
 use Rattle.std.proofs.lemmas.Simd.{map-map}
 use Rattle.cq_cells.specs.Traffic.{IsInRange, IsRecorded}
 
--- How many of a list pass a test. What passes one test and then another passes both; of what is of some kinds, what is
--- of this kind is there where the kind is one of them; and of numbers in a row one alone is this one. Where each item
--- is of a kind in a row, those of each kind are together the whole list.
+-- First, how many of a list pass a test. What passes one test and then another passes both; of what is of some kinds,
+-- what is of this kind is there where the kind is one of them; and of numbers in a row one alone is this one. Where
+-- each item is of a kind in a row, those of each kind are together the whole list.
 
 -- how many pass
 abbrev pub tally : {X : Type 0} → (X → Bool) → List X → ℕ

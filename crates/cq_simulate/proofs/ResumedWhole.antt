@@ -56,10 +56,12 @@ last_is named limited n was mark (x ∷ y ∷ line) ends a has =
 
 -- ## Names that stand for those of a state
 
+-- a cell that nothing looks at
 abbrev no_cell : Cell
 no_cell =
     record { id = record { input = 0; packet = 0; index = 0 }; output = 0; class = 0; last = false; at = 0; len = 0 }
 
+-- with the key of a name of the state
 abbrev pub as_name : Named → Name
 as_name c = record { queued = record { cell = no_cell; key = key_of c }; sent = None }
 

@@ -1,4 +1,6 @@
--- What each step of the loops over slots asks for, where so many slots are left as are not yet over.
+-- What each step of the loops over slots asks for, and what is known after it. First the loop of the ideal switch; then
+-- one slot of the fabric by its numbers, and what is still to come in some slots; then the loop of the fabric, from any
+-- slot on. Before each slot it is known how many are left, and of a run to its end that these are enough.
 use Rattle.cq_simulate.proofs.Terms.{common_steps, rules, ◌≡◌, ◌↔◌, ℕ, suc, ◌+◌, ◌-◌, ◌<◌, ◌≤◌, Bool, false, List, [], ◌++◌, length, map, replicate, Option, Result, Ok, Err, refl, sym, ap, arith, zero, None, ◌∷◌, IsTrue, All, slice_index_or, cases_lt, Cell, Departure, Queued, TagFault, no_arrivals, Arrival, arriving, end_of, enough, traffic_of, RoomView, Machine, Marked, nothing_refused, admission, admitted, refused, IdealSwitch, HaveLeft, marked_state, count_for, IdealState, ideal_slot, departures_limited, LimitedSent, limited_run, limited_slot, ideal_admission, with_admission, CanCount, IsReady, waiting, counted, arriving_from, none_waits, nothing_left, all_slots, arrivals_for, for_here, from_here, some_one, come_for, come_for-traffic_of, IsQuiet, come_count, arriving_parts, departures_of, quiet_slots, length-replicate, append-nil, length-append, get_or-replicate, number_of, is_to, counts_fit, zero_fits, present, come_count-traffic_of, none_after, run_fault, each_once, waiting-empty, CanHaveSlot, HasHadSlot, IsSameSwitch, arriving_length, first_slots, departures_append, first_more, LimitedRan, come_from, ◌^◌, true, ◌*◌, sum, slice_index, and_left, leb-false, ne_eqb, arriving_at, Transfer, EngineView, HaveListRoom, IsMadeAs, IsReadyFor, SlotDone, answer_to, its_admission, marked_fabric, AreForPorts, ranking, IsEmptyFabric, Fabric, input, LimitedFabricRun, LimitedRecord, IsLimitedFault, LimitedFabricSlot, IsInputBest, class_count, none_counted, IsReadyOn, NoneCome, StopsWithin, RanTo, WentOn, to_come, arrives_found, one_if, no_more_from, no_more_to, take_all, take-append-le, transfers_of_run, range_with_len, come_count-first, arriving_here, total, total_same, stable_limited_slot, same_limited_slot, only_limited_run, fabric_held, held_for, LimitedAgrees, figures_after, agrees_of, ideal_of, is_from, found, quiet_limited_slots, limited_lists_kept, limited_outputs_kept, all_go_on, departures_one, transfers_one, most_ports, best_act_alike, kept_on, kept_with, slots_fit, run_length, ◌∙◌, kept_both, kept_quiet, fabric_listed, admission_for_ports, Some, mul-le-mul, filter_map, cons_option, length-map, nil_from_length, length-insert, length-map-range_with_len, get_or-map-range_with_len, sum_by-le, arrival_at, is_for, outputs_at, IsFabric, SlotRecord, FabricSlot, proposals_in, transfers_in, orders_of, output_order, Partners, partner_of, spent, proposals, IsMatching, came_from, first_at, Transfers, came_to, list_arrived, OutputsInRange, are_offers, outputs_at_most, has_there, sum_by-cons, Agrees, hold_as_many, empty_together, IsStable, stable_slot, same_slot, arrived, after_sent, get_or_past}
 use Rattle.cq_ideal.specs.Ideal.{its_slot}
 use Rattle.cq_ideal.specs.IdealSlot.{Sent}
@@ -44,7 +46,7 @@ of_admitted limits ms slot cells old of_slot is =
           let counts = counted ms slot (ideal_admission limits cells old).cells old.state in
           grind (arith, common_steps, all_once, each_once, counts)
 
--- ## The loop
+-- ## The loop of the ideal switch
 
 -- What is known before a slot, where so many slots are left of a run that could begin: what the slots so far came to,
 -- and what was sent in them.
@@ -317,7 +319,7 @@ pub empty_beside : (slot : ℕ) (f : Fabric) (ideal : IdealState) → Agrees slo
     IsEmptyFabric f
 empty_beside slot f ideal agrees none = search (arith, rules, empty_together slot f ideal, nothing_left, all_wait slot)
 
--- ## A slot
+-- ## A slot by its numbers
 
 module _ {ms : List Machine} {slot : ℕ} {cells : List (Option Cell)} {f g : Fabric} {r : SlotRecord}
     (step : FabricSlot IsInputBest ms slot cells f r g) where
@@ -414,7 +416,7 @@ few_come s n came =
 -- crosses once. While a cell waits one leaves in each slot, so that the slots do not end before the cells, and there
 -- are no more slots with proposals than cells; and a slot has no more than twice the number of ports squared.
 
--- ## The loop
+-- ## The loop of the fabric
 
 -- a slot by which a run from this slot on is over
 abbrev pub over_by : List Arrival → ℕ → ℕ
@@ -470,7 +472,7 @@ crossing_first whole ms came first sent note end n ready left early slots =
     let went : WentOn ms came first first sent sent note note [] = search (arith, rules, append-nil, none_counted) in
     search (arith, rules, slots, few_come first.next n came, ready.lists, ready.buffers, ready.refused)
 
--- ## A slot
+-- ## The run so far
 
 module _ {whole : Bool} {ms : List Machine} {came : List Arrival} {first : EngineView} {first_sent : RoomView Departure}
     {first_note : RoomView Transfer} {end slot n : ℕ} {now : EngineView} {sent : RoomView Departure}
