@@ -1,10 +1,10 @@
--- A relation that goes on from one to the next. Where it holds of neighbours it holds of each and each later one, so a
--- test of neighbours decides it. Items that stand in lanes. Each is compared with the last one of its lane, for which a
--- place is kept. Where the relation goes on from one to the next, that decides it for each and each later one of one
--- lane: of the earlier items of the lane each is the last one, or stands before it. The orders in which the lines of a
--- state stand go on from one to the next: those of lists, of buffers, of departures, of transfers and of names, and the
--- one in which the cells of a flow leave. Of names that stand by input, those of one flow stand in order exactly where
--- those of one lane do, by input first. And the cells of lists have slack where those of the list of each port have.
+-- Relations that go on from one to the next. Where one holds of neighbours it holds of each and each later one, so a
+-- test of neighbours decides it. And it is enough to compare an item with the last one of its lane, for which a place
+-- is kept: that decides whether the relation holds of each and each later one of one lane, since of the earlier items
+-- of the lane each is the last one, or stands before it. The orders of cells and of names are such relations, and so
+-- are those of cells in lists and of names in flows. Of cells or names that stand by input, those of one list or of one
+-- flow stand in order exactly where those of one lane do, by input first. And the cells of lists have slack where those
+-- of the list of each port have.
 use Rattle.cq_resume.proofs.Terms.{common_steps, rules, ap, ◌==◌, ◌≡◌, ℕ, ◌+◌, ◌<◌, ◌⊎◌, ◌↔◌, Bool, true, false, List, length, get_or, set, replicate, Option, None, Some, refl, inl, inr, arith, ◌*◌, IfSome, AllPairs, AllByRecursion, cases_eq, cases_lt, get_or-replicate, get_or-set_other, get_or-set_same, get_or_default, get_or_past, length-replicate, get_or_read, FlowsStand, IsNameBefore, IsBefore, Queued, Name, ne_eqb, SlackStands, slice_get-get_or, key_laws, most_classes, All-from_recursion, zero, suc, AllAdjacentBelow, all_weaker, filter, HasRoom, IsAheadInFlow, flow_of, filter_none}
 use Rattle.cq_resume.specs.Neighbours.{IsOfNeighbours}
 use Rattle.cq_base.proofs.Each.{one_there}
@@ -98,6 +98,8 @@ module _ {X : Type 0} (lane : X → ℕ) (R : X → X → Type 0) where
           follows pairs (Some y) shown =
               let it = known.some (lane here) y shown in search (arith, rules, pairs it.place n here)
 
+-- ## Orders of cells and of names
+
 pub urgent_on : (a b c : Queued) → IsBefore a b → IsBefore b c → IsBefore a c
 urgent_on a b c = key_laws.on a.key b.key c.key
 
@@ -121,10 +123,12 @@ module _ (ports : ℕ) (xs : List Name)
     (λ stand i j d lt inside. grind (arith, common_steps, ordered i j d, stand i j d, All-from_recursion _ xs each)),
   )
 
+-- cells of flows, lane by lane
 pub ruleset flow_steps = (flows_fit, flows_as_lanes, urgent_on, length-replicate)
 
 -- ## Slack
 
+-- a cell at its place
 pub ruleset room_steps = (get_or_default, slice_get-get_or)
 
 -- an input behind the last one has no list

@@ -29,8 +29,9 @@ fn may_follow<T: Laned>(last: Option<T>, item: &T) -> bool
     }
 }
 
-/// Whether of any two items of one lane the first stands before the other. Each is compared with the last one of its
-/// lane that came before it, for which there is a place; at first there is none.
+/// Whether of any two items of one lane the first stands before the other, where that goes on from one to the next.
+/// Each is compared with the last one of its lane that came before it, for which there is a place; at first there is
+/// none.
 #[tactic(auto, using(crate::proofs::Lanes::lanes_first, crate::proofs::Lanes::within))]
 pub fn lanes_in_order<T: Laned>(items: &[T], last: &mut [Option<T>]) -> bool
     requires none { last.old ≡ replicate (length last.old) None }

@@ -63,7 +63,8 @@ fn list_has_room(list: &[Queued], buffered: &[Queued]) -> bool
     true
 }
 
-/// Whether each cell of a list has slack 1 at least, where lists stand by input and buffers stand in order.
+/// Whether each cell of the lists of so many ports has slack 1 at least, where lists stand by input and buffers stand
+/// in order.
 pub fn have_slack(listed: &[Queued], buffered: &[Queued], ports: u16) -> bool
     requires lists { AllPairs IsNoLaterInput listed.now }
     requires inputs { AllByRecursion (λ q. q.key.input < ports) listed.now }
