@@ -1,6 +1,5 @@
--- The place that is found for an input in the hands is that of a hand that has it, and where none is found no hand
--- does.
--- The state of the proposal core that words and views show is the one that the proposals of the rule reach.
+-- The state of the proposal core that words and views show is the one that the proposals of the rule reach. The place
+-- that is found for an input in the hands is that of a hand that has it, and where none is found no hand does.
 use Rattle.cq_ledger.proofs.Terms.{rules, ℕ, ◌≡◌, List, [], length, drop, Option, Some, None, refl, sym, ◌∙◌, ap, arith, map, range_with_len, ext_get_or, length-drop, length-map-range_with_len, get_or-map-range_with_len, Orders, ports, outputs_of, State, next_place, IsSound, keeper, state_after, keeper-holds, keeper-from, sound-after, View, IsLedger, place_in_hands, output_of, next_shown, core_state, IsClaimed, common_steps, zero, suc, ◌∷◌, some-injective, some-ne-none, cond_both, eqb-true, eq-eqb, true≢false, place_in_hand, first_place, Sits, IsInAHand, sum-places, held_once, output_in_range, sum}
 use Rattle.cq_prefs.proofs.LeastFirst.{input_best-best}
 use Rattle.cq_prefs.proofs.Quiet.{none_passed-after}

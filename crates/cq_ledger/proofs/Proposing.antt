@@ -1,9 +1,8 @@
--- A claim that finds the input unclaimed keeps the rule, and is no event. The input has not proposed and nobody holds
--- it, so it is free where its order is not empty, and the hand takes it at its first place.
--- A claim that finds the input claimed keeps the rule: it changes only what its seat has seen.
--- A proposal keeps the rule, and is one event. The word of the output that is asked becomes the position that it
--- holds after the event. The new hand has the input that was displaced or rejected, if that is free: no other seat
--- has it, since it was held, or in this hand.
+-- Claims and proposals keep the rule. A claim that finds the input unclaimed is no event: the input has not proposed
+-- and nobody holds it, so it is free where its order is not empty, and the hand takes it at its first place. A claim
+-- that finds it claimed changes only what its seat has seen. A proposal is one event. The word of the output that is
+-- asked becomes the position that it holds after the event. The new hand has the input that was displaced or rejected,
+-- if that is free: no other seat has it, since it was held, or in this hand.
 use Rattle.cq_ledger.proofs.Terms.{⊎_elim, rules, ℕ, suc, ◌≡◌, ◌≢◌, inl, ◌<◌, min, List, ◌∷◌, get_or, set, Some, sym, ◌∙◌, ap, arith, common_steps, cases_eq, get_or-set_same, get_or-set_other, length-set, at_set, Orders, ports, position_of, IsStep, step, sound-after, State, position_held, next_place, IsFree, next_output, propose, state_after, IsSound, IsLedger, proposed, Waits, Sits, bit, claim_word, output_in_range, View, ◌⊎◌, ◌^◌, length, None, bit_or, outputs_of, hand_at, claim_taken, IsClaimedByOne, refl, claim_refused}
 use Rattle.cq_ledger.proofs.Hands.{hand_found, still_free, hand-shows, free-before, hand_at-left, hand_at-shows}
 use Rattle.cq_ledger.proofs.Views.{bits, sits_now, in_hand_still, claims_stay as same_claims, made_with, hands_with, offers_with, MayHold, by_one_still, hands_from, dealt}
