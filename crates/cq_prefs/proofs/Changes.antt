@@ -1,9 +1,9 @@
--- A number that leaves an order and goes in before the first that it comes before stands where it stood. Those ahead of
--- it come before it, so it goes past them, and it comes before the one that followed it. So of an order it is enough to
--- know what is left without the number, and whether the number is in it.
--- What an arrival and a transfer change in the offers. A cell that goes into a list, or the first cell for an output
--- that leaves it, changes neither the first cells for the other outputs nor the order in which these stand. So with the
--- pair of the input and of this output taken out, the orders are as before.
+-- What an arrival and a transfer change in the offers. First, a number that leaves an order and goes in before the
+-- first that it comes before stands where it stood. Those ahead of it come before it, so it goes past them, and it
+-- comes before the one that followed it. So of an order it is enough to know what is left without the number, and
+-- whether the number is in it. Now a cell that goes into a list, or the first cell for an output that leaves it,
+-- changes neither the first cells for the other outputs nor the order in which these stand. So with the pair of the
+-- input and of this output taken out, the orders are as before.
 use Rattle.cq_prefs.proofs.Terms.{common_steps, rules, ◌≡◌, ◌≢◌, ℕ, suc, eqb, not, cond, Bool, true, false, List, [], ◌∷◌, length, map, Option, Some, refl, sym, ap, arith, filter, insert, cond_both, cond-false, cases_eq, cases_lt, eq-eqb, ne_eqb, eqb-true, not-true, length-map, Queued, is_for, first_for, without_first, list_of, FirstKeysDiffer, without_repeats, output_order, input_order, orders_of, first_key, key_at, Partners, partner_of, without, is_partner, is_pair, AreSameWithout, kept_has, has_kept, pairs_kept, pairs_kept_with, same_pairs, eqb-false, ◌∙◌, ◌<◌, ◌≤◌, ⊎_elim, remove, IsDistinct, position_or_len, cond-true, cases_Bool, put_by, place_in, IsListed, AllByRecursion, all_of_has, Has, most_ports}
 use Rattle.cq_prefs.proofs.InputOrder.{before, key_at-first, is_input_order, outputs_at, inputs_at, no_inputs_past}
 use Rattle.cq_prefs.proofs.Members.{among, listed, Apart, place_head, place_next, Rises}

@@ -1,16 +1,15 @@
 -- No input passes its partner in any stable matching, whatever the order of the proposals.
 --
--- Say that a free input asked the partner of another input, and that the output liked the other less. The two who
--- meet are offered to each other and are no pair of the matching, and the output prefers the one who asks to its
--- partner. So stability gives the one who asks a partner at a lower place of its order, which it has asked before.
--- That output holds it or one that it likes better, and it holds none better than its partner, since nobody was
--- passed until now. So it holds the one who asks, who was not free.
--- A state in which nobody is free. Each input is held by the output that it asked last, or has asked its whole order.
--- Each output that it has asked holds it or a better one, and it likes the others less than the one that holds it: so
--- the matching is stable. In another stable matching it has no better partner, or it would have passed that one.
--- How many proposals there are. Each event moves one input on by one place, so the events are the sum of the places. No
--- order is longer than there are ports. Where nobody is free each input stands behind its partner, or at the end of its
--- order, and that is what it spent.
+-- Say that a free input asked the partner of another input, and that the output liked the other less. The two who meet
+-- are offered to each other and are no pair of the matching, and the output prefers the one who asks to its partner. So
+-- stability gives the one who asks a partner at a lower place of its order, which it has asked before. That output
+-- holds it or one that it likes better, and it holds none better than its partner, since nobody was passed until now.
+-- So it holds the one who asks, who was not free. Where nobody is free, each input is held by the output that it asked
+-- last, or has asked its whole order. Each output that it has asked holds it or a better one, and it likes the others
+-- less than the one that holds it: so the matching is stable. In another stable matching it has no better partner, or
+-- it would have passed that one. And the places tell how many proposals there are. Each event moves one input on by one
+-- place, so the events are the sum of the places. No order is longer than there are ports. Where nobody is free each
+-- input stands behind its partner, or at the end of its order, and that is what it spent.
 use Rattle.cq_prefs.proofs.Terms.{ℕ, ◌≡◌, ◌≢◌, ◌⊎◌, ◌+◌, ◌≤◌, List, length, Option, Some, None, arith, rules, cases_lt, Orders, AreOffers, outputs_of, place_of, IsOffered, Partners, partner_of, depth, IsMatching, IsStable, IsInputBest, HasBetterOutput, HasBetterInput, State, position_held, next_place, IsQuiescent, IsSound, matching_of, state_after, AreEvents, ◌<◌, [], ◌∷◌, cases_eq, position_of, start, IsFree, propose, common_steps, ◌*◌, range_with_len, sum, map, sum_by-set, sum_by-le, get_or_default, ext_get_or, length-map-range_with_len, get_or-map-range_with_len, ports, spent, proposals}
 use Rattle.std.proofs.lemmas.List.Folds.{sum_by-replicate}
 use Rattle.cq_prefs.proofs.Places.{position_of-at, place_in-le-length, output_in_range, inputs_at_most, input_in_range, outputs_at_most}

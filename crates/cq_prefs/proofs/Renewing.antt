@@ -1,13 +1,12 @@
 -- Offers made from the lists of a switch are the orders of their cells. The orders of the inputs are those read from
 -- the lists. The order of each output is that of the keys that were read, and these are the keys of the first cells.
--- Offers are renewed input by input. The orders of the inputs before the next one, and those of their partners, are as
--- they are to be. The others are so but for one port each: an input's for its partner, and an output's for the one
--- input whose partner it is. Who has no partner has had the order from the start.
--- Offers are renewed where one input changed for one output. It is the renewal of a matching of this one pair: the
--- inputs before it have no partner, and those behind it have none. So its order and that of the output are all that
--- is renewed.
--- One order that is known but for one port, which left it. Where there is no cell, what is left is the whole order.
--- Where there is one, the port goes back in at the place that its first cell tells.
+-- Then offers are renewed input by input. The orders of the inputs before the next one, and those of their partners,
+-- are as they are to be. The others are so but for one port each: an input's for its partner, and an output's for the
+-- one input whose partner it is. Who has no partner has had the order from the start. Where one input changed for one
+-- output, it is the renewal of a matching of this one pair: the inputs before it have no partner, and those behind it
+-- have none. So its order and that of the output are all that is renewed. Last, one order that is known but for one
+-- port, which left it. Where there is no cell, what is left is the whole order. Where there is one, the port goes back
+-- in at the place that its first cell tells.
 use Rattle.cq_prefs.proofs.Terms.{common_steps, rules, ◌≡◌, ◌≢◌, ℕ, ◌+◌, ◌<◌, ◌≤◌, eqb, List, [], length, get_or, set, Some, None, arith, not, replicate, map, All, IsDistinct, cases_Bool, cases_eq, cases_lt, eq-eqb, ne_eqb, eqb-true, length-map-range_with_len, get_or-map-range_with_len, length-map, length-set, get_or_past, get_or_default, get_or-set_same, get_or-set_other, ext_get_or, length-replicate, Queued, Waiting, cells_of, AreWaiting, list_of, output_order, input_order, orders_of, HasCellFor, FirstKeysDiffer, Orders, AreOffers, ports, outputs_of, inputs_of, Partners, partner_of, ArePairs, with_pair, without, is_pair, AreSameWithout, first_key, kept_has, Has, has_kept, most_ports, filter_all, all_from_has}
 use Rattle.std.proofs.lemmas.List.{get_or-map}
 use Rattle.std.proofs.lemmas.Simd.{map-map}
