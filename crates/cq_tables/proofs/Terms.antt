@@ -1,5 +1,5 @@
 -- The words of this crate's proofs that stand elsewhere, each passed on from its place.
-pub use Rattle.cq_base.proofs.Library.{All, All-push, AllByRecursion, AllPairs, Bool, Bor, IfErr, IfOk, IfSome, IsInRange, IsNumeralModel, IsUtf8, IsUtf8-from_is_utf8, Less, List, None, Ok, Option, ParsesUnsigned, Result, Some, String, [], add-one, all_ascii_digits, all_pairs_push, and_parts, ap, append-nil, append_assoc, arith, bytes_eq, bytes_eq-Decides, cases_Bool, codes, common_steps, cond, cond-true, digits_value, drop, drop-cons, drop_all, false, find, get_or, get_or-map, insert_key, is_ascii_digit, is_eq, is_eq-slice_cmp, is_some, is_utf8-from_IsUtf8, keys_of, le-leb, leb-true, length, length-map, list_all, list_any, lt-leb, ltb-true, map, map-append, nat_cmp, nat_le, nat_list_cmp_total, nat_lt, nat_tests, not, not-true, numerals_by_value, option_map, or-false, parse_digits, refl, result_ok, rules, slice_cmp, string_bytes, string_cmp, subst, suc, sym, take, take-suc, tells_all_ascii_digits, true, ℕ, ◌&&◌, ◌++◌, ◌+◌, ◌<◌, ◌||◌, ◌∙◌, ◌∷◌, ◌≡◌, ◌≢◌, ◌≤◌}
+pub use Rattle.cq_base.proofs.Library.{All, All-push, AllByRecursion, AllPairs, Bool, Bor, IfErr, IfOk, IfSome, IsInRange, IsNumeralModel, IsUtf8, IsUtf8-from_is_utf8, Less, List, None, Ok, Option, ParsesUnsigned, Result, Some, String, [], add-one, all_ascii_digits, all_pairs_push, and_parts, ap, append-nil, append_assoc, arith, bytes_eq, bytes_eq-Decides, cases_Bool, codes, common_steps, cond, cond-true, digits_value, drop, drop-cons, drop_all, false, find, get_or, get_or-map, insert_key, is_ascii_digit, is_eq, is_eq-slice_cmp, is_some, is_utf8-from_IsUtf8, keys_of, le-leb, leb-true, length, length-map, list_all, list_any, lt-leb, ltb-true, map, map-append, nat_cmp, nat_le, nat_list_cmp_total, nat_lt, nat_tests, not, not-true, numerals_by_value, option_map, or-false, parse_digits, refl, result_ok, rules, slice_cmp, string_bytes, string_cmp, suc, sym, take, take-suc, tells_all_ascii_digits, true, ℕ, ◌&&◌, ◌++◌, ◌+◌, ◌<◌, ◌||◌, ◌∙◌, ◌∷◌, ◌≡◌, ◌≢◌, ◌≤◌}
 unfoldable pub use Rattle.cq_base.proofs.Library.{IsStrictlySortedBy}
 pub use Rattle.std.proofs.lemmas.List.Folds.{list_any-append, list_any_at}
 pub use Rattle.toml.proofs.Views.{Entry}

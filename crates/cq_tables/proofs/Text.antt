@@ -1,5 +1,5 @@
 -- The document that a text is, and the verdict on it.
-use Rattle.cq_tables.proofs.Terms.{rules, arith, ◌≡◌, ℕ, nat_le, ◌<◌, ◌≤◌, List, [], ◌∷◌, ◌++◌, Some, None, Result, Ok, IfErr, length, is_some, subst, ap, ◌∙◌, sym, le-leb, common_steps, IsUtf8, cases_Bool, lt-leb, is_utf8-from_IsUtf8, IsUtf8-from_is_utf8, Members, Tables, TableRefusal, Refuses, at, first, refused, unless, NotToml, TooLong, Top, table_checks, default_checks, document, file_check, top_keys, whole, read_or_refused, IsRefusedFor, tables_of, verdict}
+use Rattle.cq_tables.proofs.Terms.{rules, arith, ◌≡◌, ℕ, nat_le, ◌<◌, ◌≤◌, List, [], ◌∷◌, ◌++◌, Some, None, Result, Ok, IfErr, length, is_some, ap, ◌∙◌, sym, le-leb, common_steps, IsUtf8, cases_Bool, lt-leb, is_utf8-from_IsUtf8, IsUtf8-from_is_utf8, Members, Tables, TableRefusal, Refuses, at, first, refused, unless, NotToml, TooLong, Top, table_checks, default_checks, document, file_check, top_keys, whole, read_or_refused, IsRefusedFor, tables_of, verdict}
 use Rattle.toml.specs.Parse.{parse_document}
 use Rattle.cq_tables.proofs.Checks.{all_in, first_all, first_here, first_none, first_on, here, here_in, later, later_in}
 
@@ -53,8 +53,7 @@ pub file_fault : {A : Type 0} (text : List ℕ) (top : Members) (t : Tables) (r 
     → first (table_checks Top (top_keys top) top ++ default_checks top) ≡ None → t ≡ tables_of top →
     IfErr r (Refuses (file_check t)) → IfErr r (IsRefusedFor (read_or_refused text))
 file_fault text top t r small is held value told =
-    let raw = subst (λ (u : Tables). IfErr r (Refuses (file_check u))) value told in
-    refused_in r text (rw (left_of text top small is) (search (arith, rules, later_in, here)))
+    refused_in r text (rw (left_of text top small is) (later_in r _ _ held (here r _ _ (rw value at told))))
 
 pub read_all : (text : List ℕ) (top : Members) (t : Tables) → length text ≤ 1048576 → document text ≡ Some top
     → first (table_checks Top (top_keys top) top ++ default_checks top) ≡ None → t ≡ tables_of top →

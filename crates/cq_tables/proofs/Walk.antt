@@ -97,10 +97,6 @@ take_macs : (vs : List Value) (i : ℕ) → map mac (rows_of address_row (take i
 take_macs (v ∷ vs) (suc i) = ap (λ t. mac_in (members (view v)) ∷ t) (take_macs vs i)
 take_macs vs i = grind (arith, common_steps)
 
-has_last : (rows : List AddressRow) (row : AddressRow) (q : List ℕ) →
-    has (map mac (rows ++ row ∷ [])) q ≡ (bytes_eq q row.mac || has (map mac rows) q)
-has_last rows row q = grind (arith, common_steps, list_any-append, map-append)
-
 others : (rows : List AddressRow) (q : List ℕ) → has (map mac rows) q ≡ false → (k : ℕ) (d : AddressRow) →
     k < length rows → (get_or rows k d).mac ≢ q
 others rows q h k d small same = search
@@ -128,7 +124,7 @@ module _ {ports : ℕ} {vs : List Value} {i : ℕ} {known : List (List ℕ)} {ro
       let walked = walked_more w.walked v small is (sym (same_at ports i vs (view v) known rows w) ∙ held) reads below
       pushed in
       let pairs = all_pairs_push (λ (a b : AddressRow). a.mac ≢ b.mac) in
-      search (arith, rules, walked, has_last, pairs, others, w.knows, not-true)
+      search (arith, rules, walked, list_any-append, map-append, pairs, others, w.knows, not-true)
 
   pub apart_stop : {B : Type 0} (r : Result B TableRefusal) (v : Value) → i < length vs → v ≡ get_or vs i v
       → IfErr r (Refuses (element_check Addresses (λ _. address_keys ports known) i (view v))) →

@@ -1,4 +1,4 @@
-use Rattle.cq_tables.proofs.Terms.{IfErr, rules, arith, table_view, Refuses, file_check}
+use Rattle.cq_tables.proofs.Terms.{rules, arith, table_view}
 use Rattle.cq_tables.proofs.Text.{file_fault, long_told, no_document}
 use Rattle.cq_tables.proofs.read.read_tables.Goals as goal
 
@@ -12,7 +12,5 @@ returns-in_err-top-clause-refused c = no_document c.args.bytes.now _ (omega arit
 pub returns-in_err-files_differ-clause-refused : goal.returns-in_err-files_differ-clause-refused
 returns-in_err-files_differ-clause-refused c =
     let told = c.in_err-files_differ.ensures {u = tt} in
-    let raw : IfErr c.from_residual-in_err-files_differ.result (Refuses (file_check c.in_ok-tables.tables)) =
-    search (rules, told.refused) in
     file_fault c.args.bytes.now (table_view c.in_ok-top.top) c.in_ok-tables.tables _ (omega arith)
-    c.in_ok-top.ensures.held c.in_ok-tables.ensures.held c.in_ok-tables.ensures.value raw
+    c.in_ok-top.ensures.held c.in_ok-tables.ensures.held c.in_ok-tables.ensures.value (search (rules, told.refused))
