@@ -119,7 +119,7 @@ module _ (w : Switch) (s : State) (in_range : IsInRange s) (shape : HasShape w s
   unfolding frozen_told fabric_told
   agrees = agrees_of next f goes.sound
 
-  -- the arrivals at an input rise, those before the slot and those from it on
+  -- the arrivals at an input, those before the slot and those from it on: they rise
   module _ (i : ℕ) where
     abbrev line : List Arrival
     line = line_at i w.came

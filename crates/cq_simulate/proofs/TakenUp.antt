@@ -160,7 +160,7 @@ module _ {t : Tables} {s : Scheduled} {first : EngineView} {sent : RoomView Depa
       s.came stop.count fault (search (arith, rules, slots_fit)))
   no_run refusal.NoMemory stop = tt
 
--- What a run says that goes on from where a run was taken up: what it kept, or the tag fault at which it stops.
+-- What a run says that goes on from where a run was taken up: what it kept.
 
 module _ (t : Tables) (s : Scheduled) (first : EngineView) (taken : Taken)
     (is : GoesOnFrom t s.came taken.frozen first) where
