@@ -33,8 +33,8 @@ impl Laned for Name {
     }
 
     fn is_ahead(&self, other: &Name) -> bool {
-        let (input, than) = (self.queued.key.input, other.queued.key.input);
-        input < than || input == than && leaves(self, other)
+        let (input, other_input) = (self.queued.key.input, other.queued.key.input);
+        input < other_input || input == other_input && leaves(self, other)
     }
 }
 

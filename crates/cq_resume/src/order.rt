@@ -1,5 +1,5 @@
 //! Whether the lines of a state stand in order.
-ghost use Rattle.std.specs.Prelude.{◌≡◌, ◌↔◌, ◌<◌, AllPairs, IsTrue, None, length, replicate};
+ghost use Rattle.std.specs.Prelude.{◌≡◌, ◌↔◌, ◌<◌, AllPairs, IsTrue, None, replicate};
 ghost use Rattle.std.specs.List.{AllByRecursion};
 ghost use Rattle.cq_resume.specs.Terms.{AreOrdered, IsBefore, BuffersStand, IsBufferedBefore, IsListedBefore, IsNoLaterInput, IsSentBefore, IsTimely, ListsStand, SentStand, IsAheadInList, most_ports, IsTransferBefore};
 
