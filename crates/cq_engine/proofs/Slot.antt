@@ -1,7 +1,7 @@
 -- A slot of the engine: that of the fabric below, with the figures that are counted of it. What each phase asks for
 -- is shown there, for any stable matchings, and input-best ones are stable.
 use Rattle.cq_engine.proofs.Terms.{slice_get_within, slice_get-get_or, common_steps, rules, ◌≡◌, ℕ, zero, suc, ◌+◌, ◌-◌, ◌≤◌, eqb, Bool, List, [], ◌∷◌, ◌++◌, length, map, Option, Some, None, refl, arith, if◌then◌else◌, min, max, slice_get, is_some, enumerate_from, list_any, position_or_len, reduce, option_map, same_Some, Cell, Queued, Transfer, InputFigures, OutputFigures, Figures, Machine, IdealState, fronts, list_of, transfers_of, Partners, IsInputBest, IsStable, Fabric, cushion_of, came_to, SlotRecord, FabricSlot, figures_after, input_after, output_after, either_by, slacks, slack_on_arrival, proposals_in, stable_slot, Queues, fabric_of, length-by_place, at-by_place, AreRanked, BuffersHaveRoom, HaveArrived, HaveMoved, HaveSent, alike, arrive, come, depart, fill, keyed, recorded, IsInStep, IsSeen, CountsFit, Look, arriving_slack, input_counted, output_counted, slack_seen, SendsAlike, by_arrivals, more_after}
-use Rattle.cq_engine.specs.Crossing.{HaveCrossed}
+use Rattle.cq_engine.specs.Crossing.{HaveMovedBest}
 use Rattle.cq_laws.specs.Records.{transfers_in}
 use Rattle.cq_engine.specs.declared.measure.Look.TheVariants as look
 
@@ -43,7 +43,7 @@ outputs_long x r = length-by_place (output_after r) x.outputs
 -- ## What is known of a slot
 
 -- the matching that crossed is stable
-pub moved_of : {m : Partners} {count : ℕ} {q q' : Queues} → HaveCrossed m count q q' → HaveMoved m q q'
+pub moved_of : {m : Partners} {count : ℕ} {q q' : Queues} → HaveMovedBest m count q q' → HaveMoved m q q'
 moved_of crossed = record { stable = crossed.best.stable; moves = crossed.moves }
 
 -- what was counted of a slot, so at each input, in which these cells left, with so many proposals
@@ -73,9 +73,9 @@ module _ {ms : List Machine} {slot : ℕ} {q0 : Queues} {ranks0 : List (List ℕ
     {classes : ℕ} {came : List (Option Queued)} {ranks1 : List (List ℕ)} (x : Figures)
     (up : IsInStep ms slot x (fabric_of q0 ranks0)) (known : AreRanked ms slot q0 ranks0 cells classes came ranks1)
     {q1 : Queues} (arrived : HaveArrived q0 came q1) (room : BuffersHaveRoom (length ms) q0 cells) where
-  module _ {m1 : Partners} {p1 : ℕ} {q2 : Queues} (crossed1 : HaveCrossed m1 p1 q1 q2) {ranks2 : List (List ℕ)}
+  module _ {m1 : Partners} {p1 : ℕ} {q2 : Queues} (crossed1 : HaveMovedBest m1 p1 q1 q2) {ranks2 : List (List ℕ)}
       {q3 : Queues} (sent : HaveSent ms q1 ranks1 q2 ranks2 q3) {m2 : Partners} {p2 : ℕ} {q4 : Queues}
-      (crossed2 : HaveCrossed m2 p2 q3 q4) where
+      (crossed2 : HaveMovedBest m2 p2 q3 q4) where
     -- what is recorded of the slot
     abbrev of_slot : SlotRecord
     of_slot = recorded known arrived room (moved_of crossed1) sent (moved_of crossed2)

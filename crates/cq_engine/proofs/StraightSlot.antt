@@ -7,7 +7,7 @@
 -- the proof alone.
 use Rattle.cq_engine.proofs.Terms.{common_steps, rules, ◌≡◌, ℕ, ◌+◌, ◌*◌, ◌<◌, ◌≤◌, List, [], ◌∷◌, ◌++◌, length, map, drop, get_or, replicate, Option, Some, None, refl, sym, ap, ◌∙◌, arith, All, IfSome, enumerate_from, filter_map, range_with_len, sum_by, option_map, cases_lt, cond_both, eq-eqb, row_fits, same_Some, append-nil, ext_get_or, get_or_past, length-map, get_or-map-range_with_len, length-map-range_with_len, sum-map, sum_by-cons, Cell, Queued, Transfer, Figures, InputFigures, Machine, all_told, fronts, rests, LimiterView, list_of, orders_of, output_order, Moves, list_taken, transfers_of, ports, IsListed, Partners, partner_of, partner_place, proposals, IsFreeOutput, IsInputBest, IsStable, slacks, came_to, HoldsFabric, Queues, fabric_of, AreRanked, BuffersHaveRoom, HaveArrived, HaveJudged, HaveSent, ListsHaveRoom, fits_lists, held_before, keyed, IsInStep, IsSeen, arriving_slack, input_counted, slack_seen, GoStraight, crossing, crossings, input_passed, Look, among, place_head, none_unless, outputs_at, kept_more, kept_few, append_assoc, length-append}
 use Rattle.std.proofs.Math.ListN.{get_or-map}
-use Rattle.cq_engine.specs.Crossing.{HaveCrossed}
+use Rattle.cq_engine.specs.Crossing.{HaveMovedBest}
 use Rattle.cq_engine.proofs.NoOffers.{none_best, none_proposed, nothing_moves, nothing_noted}
 use Rattle.cq_engine.proofs.Slot.{AreCounted, Whole, moved_of, whole_slot, by_place_same}
 
@@ -184,7 +184,7 @@ module _ {ms : List Machine} {slot : ℕ} {q : Queues} {ranks0 : List (List ℕ)
   moves : Moves pairs lists q.buffers q.inputs (map alone gone)
   moves = search (arith, rules, pair_facts, no_list, left_alone, cond_both, eq-eqb, no_buffer)
 
-  crossed : HaveCrossed pairs (length (crossings slot n came)) listed filled
+  crossed : HaveMovedBest pairs (length (crossings slot n came)) listed filled
   crossed = record { best = pairs_best; counted = all_proposed; moves = moves }
 
   sent : (ranks2 : List (List ℕ)) → ranks2 ≡ all_told ms gone ranks1 → HaveSent ms listed ranks1 filled ranks2 q
@@ -194,7 +194,7 @@ module _ {ms : List Machine} {slot : ℕ} {q : Queues} {ranks0 : List (List ℕ)
   abbrev nobody : Partners
   nobody = replicate (ports (orders_of q.inputs)) None
 
-  crossed_again : HaveCrossed nobody 0 q q
+  crossed_again : HaveMovedBest nobody 0 q q
   crossed_again = search (rules, none_best, outputs_at, no_list, none_proposed, nothing_moves)
 
   -- ## The figures

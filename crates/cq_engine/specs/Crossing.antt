@@ -16,7 +16,7 @@ pub record CanBeCrossed (count : ℕ) (q : Queues) (note : RoomView Transfer) : 
   pub room : length q.inputs ≤ note.spare
 
 -- the first cells of the pairs of the input-best matching have crossed, and there were so many proposals
-pub record HaveCrossed (m : Partners) (count : ℕ) (q q' : Queues) : Type 0 where
+pub record HaveMovedBest (m : Partners) (count : ℕ) (q q' : Queues) : Type 0 where
   pub best : IsInputBest (orders_of q.inputs) m
   pub counted : count ≡ proposals (orders_of q.inputs) m
   pub moves : Moves m q.inputs q.buffers q'.inputs q'.buffers
@@ -24,7 +24,7 @@ pub record HaveCrossed (m : Partners) (count : ℕ) (q q' : Queues) : Type 0 whe
 -- the input-best matching of the lists was transferred and noted, after so many proposals
 pub record HasCrossed (slot phase : ℕ) (q q' : Queues) (note note' : RoomView Transfer) (made : ℕ) : Type 0 where
   pub matching : Partners
-  pub crossed : HaveCrossed matching made q q'
+  pub crossed : HaveMovedBest matching made q q'
   pub few : made ≤ length q.inputs * length q.inputs
   pub from_inputs : q'.from_inputs ≡ q.from_inputs
   pub to_outputs : q'.to_outputs ≡ q.to_outputs
