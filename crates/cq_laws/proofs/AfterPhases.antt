@@ -56,7 +56,9 @@ module _ (ms : List Machine) (slot : ℕ) (cells : List (Option Cell)) (came : L
   module _ (sound : Sound slot old) (slack : HasSlack 1 old) where
     -- a cell that came has the key of no older one
     new_old : (k : ℕ) (q d : Queued) → came_to came k ≡ Some q → d.key.slot < slot → q.key ≢ d.key
-    new_old k q d e lt same = let s = keyed.slot_is k q e in let t = ap (λ (x : Key). x.slot) same in omega arith
+    new_old k q d e lt same =
+        let s = keyed.slot_is k q e in
+        let t = ap (λ (x : Key). x.slot) same in omega arith
 
     ordered : (i : ℕ) (q : Option Queued) → came_to came i ≡ q → KeepsOrder (list_arrived old q (input old i))
     ordered i None e = sound.order i

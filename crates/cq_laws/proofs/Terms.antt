@@ -41,7 +41,7 @@ unfoldable pub use Rattle.cq_laws.specs.Measures.{figures_after, figures_of, inp
 pub use Rattle.cq_laws.specs.Places.{AllBefore, Crossed, HasFor, IsMostUrgentFor, NoKeyTwice, Waiting}
 pub use Rattle.cq_laws.specs.Records.{gone_in}
 unfoldable pub use Rattle.cq_laws.specs.Records.{transfers_in, transfers_of_run}
-pub use Rattle.cq_laws.specs.Slack.{ArrivesWithSlack, EachArrivesOrFalls, EachFalls, Falls}
+pub use Rattle.cq_laws.specs.Slack.{EachArrivesOrFalls, EachFalls, Falls}
 pub use Rattle.cq_laws.specs.SlotBySlot.{AfterBy, AreAlso, GoOn, HasParts, RunBy, StopBy, WholeBy}
 pub use Rattle.cq_laws.specs.Terms.{ActAlikeFromEmptyWithoutLimits, ActAlikeWithoutLimits, Agrees, AreForPorts, Arrival, Arrives, BeginsWhole, Cell, Departs, EachArrivesOr, EachIsWhole, EachRises, EndsAlike, Fabric, FabricRun, FabricSlot, FabricStops, Figures, FirstsCanCross, FitsList, HasMoreSlack, HasSlack, IdealState, IsAmong, IsEmptyFabric, IsFabric, IsFault, IsForSwitch, IsInputBest, IsLimitedFault, IsOneRun, IsRunOfRecorded, IsStable, IsWholeFabric, LimitedEndsAlike, LimitedFabricRun, LimitedFabricSlot, LimitedFabricStops, LimitedRecord, LimitedWholeRun, ListsKeepOrder, Machine, Marked, Partners, Queued, SlotRecord, TagFault, Transfers, WholeRun, admissions_in, buffer, came_to, cushion_of, empty_fabric, empty_limited_fabric, fabric_admission, first_come_all, for_output1, from_input2, ideal_held, idled_for, input, least_slack, list_arrived, no_arrivals, passed, place_of_arrival, quiet_slots, slots_in, three, three_empty, three_slots, worked_records}
 pub use Rattle.cq_base.proofs.Putting.{length_put}

@@ -119,7 +119,9 @@ module _ (input from next : ℕ) (came : List Arrival) {names : List Name} {limi
 
   -- it may not come
   pub walk_stops : may ≡ false → None ≡ mark_on (has_name names) (has_limit limits) false all
-  walk_stops is = let on = step in let marks = known.marks in grind (arith, common_steps)
+  walk_stops is =
+      let on = step in
+      let marks = known.marks in grind (arith, common_steps)
 
   size : length (coming input from next came) ≡ suc (length rest)
   size = ap (λ (l : List Arrival). length l) splits

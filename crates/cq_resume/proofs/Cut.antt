@@ -75,7 +75,7 @@ pub ruleset named_on = (take_more, flat_map-append, append-nil, map-append)
 pub ruleset found_on = (All-from_recursion, has_at, take_all)
 
 -- what a chain of items serves, and what is asked of each item
-pub ruleset served = (serving, All-from_recursion, recursion_from_All)
+pub ruleset serving_steps = (serving, All-from_recursion, recursion_from_All)
 
 -- how many numbers a rank state has
 pub ruleset size_steps = (get_or-map, length-map)

@@ -52,7 +52,7 @@ fn is_below_floor(setup: &Setup, ranks: &[Sequence<u128>], queued: Queued) -> bo
 }
 
 /// Whether each cell is of its class's level, and its rank no greater than the floor of its class.
-#[tactic(auto, using(crate::proofs::Cut::served))]
+#[tactic(auto, using(crate::proofs::Cut::serving_steps))]
 pub fn are_below_floors(setup: &Setup, ranks: &[Sequence<u128>], cells: &[Queued]) -> bool
     requires ranks { length ranks.now ≡ length setup.now.kinds }
     requires sized { AreSized (machines_of setup.now) ranks.now }

@@ -97,7 +97,7 @@ fn figures_at_input(names: &[Name], input: usize, seen: &Seen) -> InputFigures
 }
 
 // What was seen of each input.
-#[tactic(auto, using(std::proofs::lemmas::Iterator::items_from_collect, crate::proofs::Cut::served))]
+#[tactic(auto, using(std::proofs::lemmas::Iterator::items_from_collect, crate::proofs::Cut::serving_steps))]
 fn inputs_of(alloc: Global, names: &[Name], seen: &[Seen]) -> Result<Vec<InputFigures>, AllocError>
     requires few { length seen.now ≤ most_ports }
     requires ordered { AllPairs IsNameBefore names.now }

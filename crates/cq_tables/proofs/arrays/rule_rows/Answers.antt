@@ -12,5 +12,6 @@ rules-preserved c = walked_more c.rules.invariant _ (omega arith) c.index-values
 pub returns : goal.returns
 returns c =
     let walked = c.rules.invariant in
-    let held = walk_holds _ _ _ walked.checked (omega arith) in let value = walked_read walked (omega arith) in
+    let held = walk_holds _ _ _ walked.checked (omega arith) in
+    let value = walked_read walked (omega arith) in
     search (arith, rules, walked.kept)
