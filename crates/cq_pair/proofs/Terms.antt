@@ -8,7 +8,8 @@ pub use Rattle.cq_prefs.proofs.Holding.{free_if, free_only_if, held_once, holder
 pub use Rattle.cq_prefs.proofs.Members.{Apart}
 pub use Rattle.cq_prefs.proofs.Pairs.{nobody}
 pub use Rattle.cq_prefs.proofs.Places.{get_or-place_in, input_in_range, inputs_at_most, output_in_range, outputs_at_most, place_in-get_or, same_at_place}
-pub use Rattle.cq_prefs.proofs.Changes.{IsPut, left_by, not_there, put_back, without_here, without_there}
+pub use Rattle.cq_prefs.proofs.OneOrder.{IsInOrder}
+pub use Rattle.cq_prefs.proofs.Changes.{left_by, not_there, put_back, without_here, without_there}
 pub use Rattle.cq_prefs.proofs.Steps.{IsStep, held-start, next_output-offered, next_place-start, sound-after, sound-start, sound-step, step}
 pub use Rattle.cq_prefs.specs.Orders.{AreOffers, Orders, inputs_of, inputs_with_offers, outputs_of, place_in, ports, position_of}
 pub use Rattle.cq_prefs.specs.Pairing.{IsFreeInput, IsInputBest, Partners, partner_of, proposals}

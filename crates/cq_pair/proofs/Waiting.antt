@@ -3,7 +3,7 @@
 -- were, and all stand in order of number. So the steps of a core keep what it shows: its fields are what was shown, and
 -- the free inputs are those that wait by the places and the pairs, after a step that takes an input out, or puts it
 -- back, as before it.
-use Rattle.cq_pair.proofs.Terms.{common_steps, rules, ℕ, ◌≡◌, ◌≢◌, ◌<◌, ◌≤◌, Bool, true, false, is_none, eqb, List, [], ◌∷◌, length, set, get_or, replicate, Some, None, refl, ap, arith, filter, IsDistinct, IsNonDecreasingBy, range_with_len, AllPairs, IsDistinct-from_apart, get_or-range_with_len, cases_lt, and-true, cases_eq, cond_both, eq-eqb, ne_eqb, lt-ltb, le-ltb, and_left, and_right, get_or-set_same, get_or-set_other, filter_agree, length-range_with_len, Orders, AreOffers, ports, outputs_of, Partners, partner_of, State, start, is_free, matching_of, free_inputs, length-put, few_kept, next_place-start, nobody, partner-is, with_input, without, inputs_with_offers, is_waiting, waiting_inputs, ltb, put_is, has_kept, has_number, ltb-true, each_pair, IsPut, put_back, sym, subst, Progress, ShowsWaiting}
+use Rattle.cq_pair.proofs.Terms.{common_steps, rules, ℕ, ◌≡◌, ◌≢◌, ◌<◌, ◌≤◌, Bool, true, false, is_none, eqb, List, [], ◌∷◌, length, set, get_or, replicate, Some, None, refl, ap, arith, filter, IsDistinct, IsNonDecreasingBy, range_with_len, AllPairs, IsDistinct-from_apart, get_or-range_with_len, cases_lt, and-true, cases_eq, cond_both, eq-eqb, ne_eqb, lt-ltb, le-ltb, and_left, and_right, get_or-set_same, get_or-set_other, filter_agree, length-range_with_len, Orders, AreOffers, ports, outputs_of, Partners, partner_of, State, start, is_free, matching_of, free_inputs, length-put, few_kept, next_place-start, nobody, partner-is, with_input, without, inputs_with_offers, is_waiting, waiting_inputs, ltb, put_is, Has, has_kept, has_number, ltb-true, each_pair, IsInOrder, put_back, sym, subst, Progress, ShowsWaiting}
 use Rattle.std.proofs.lemmas.List.Kept.{AllPairs-from_increasing, IsStrictlyIncreasing-filter}
 
 -- ## A test that changes at one number
@@ -26,9 +26,10 @@ kept_rise p n = search
 back_in : (p q : ℕ → Bool) (i n : ℕ) → p i ≡ false → q i ≡ true → ((k : ℕ) → k ≢ i → q k ≡ p k) → i < n →
     filter q (range_with_len 0 n) ≡ with_input i (filter p (range_with_len 0 n))
 back_in p q i n out back same inside =
-    let rises = each_pair (λ x k. ltb x k ≡ true) (filter q (range_with_len 0 n)) in
-    let put : IsPut ltb (filter q (range_with_len 0 n)) = search (arith, rules, rises, kept_rise, lt-ltb, ltb-true) in
-    search (arith, rules, put_is, put_back put i, left_out q p i out, has_kept, has_number)
+    let now : List ℕ = filter q (range_with_len 0 n) in
+    let rises = each_pair (λ x k. ltb x k ≡ true) now in
+    let order : IsInOrder (Has now) ltb now = search (arith, rules, rises, kept_rise, lt-ltb, ltb-true) in
+    search (arith, rules, put_is, put_back order i, left_out q p i out, has_kept, has_number)
 
 -- ## Who waits
 

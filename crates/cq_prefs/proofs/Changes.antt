@@ -8,7 +8,7 @@ use Rattle.cq_prefs.proofs.Terms.{common_steps, rules, ◌≡◌, ◌≢◌, ℕ
 use Rattle.cq_prefs.proofs.InputOrder.{before, key_at-first, is_input_order, outputs_at, inputs_at, no_inputs_past}
 use Rattle.cq_prefs.proofs.Members.{among, listed, Apart, place_head, place_next, Rises}
 use Rattle.cq_prefs.proofs.OutputOrder.{outputs}
-use Rattle.cq_prefs.proofs.OneOrder.{before_one_way, inputs_rise, apart}
+use Rattle.cq_prefs.proofs.OneOrder.{IsInOrder, in_keys, apart}
 use Rattle.cq_prefs.proofs.ByKey.{put_is, length-put}
 
 pub without_here : (x y : ℕ) (xs : List ℕ) → y ≡ x → without x (y ∷ xs) ≡ without x xs
@@ -49,21 +49,17 @@ module _ (b : ℕ → ℕ → Bool) (one_way : (x y : ℕ) → b x y ≡ true �
       let there = without_there x y ys in let rest = goes_back x ys r.1 in
       search (arith, rules, all_of_has, without_none, goes_first, cases_eq, cases_Bool, cond-false, without_here x y ys)
 
--- each comes before all that stand behind it, and no two come before each other
-pub record IsPut (b : ℕ → ℕ → Bool) (ys : List ℕ) : Type 0 where
-  pub rises : Rises b ys
-  pub one_way : (x y : ℕ) → b x y ≡ true → b y x ≡ true → ⊥
-
 -- an order that is known but for x, which is in it or not
-module _ {b : ℕ → ℕ → Bool} {ys : List ℕ} (put : IsPut b ys) (x : ℕ) {left : List ℕ} (known : left ≡ without x ys) where
-  pub put_back : (at : ℕ) → Has ys x → at ≡ position_or_len (b x) left → insert left at x ≡ ys
-  put_back at m place = grind (arith, common_steps, put_is, goes_back b put.one_way)
+module _ {P : ℕ → Type 0} {b : ℕ → ℕ → Bool} {ys : List ℕ} (order : IsInOrder P b ys) (x : ℕ) {left : List ℕ}
+    (known : left ≡ without x ys) where
+  pub put_back : (at : ℕ) → P x → at ≡ position_or_len (b x) left → insert left at x ≡ ys
+  put_back at own place = grind (arith, common_steps, put_is, order.has x, goes_back b order.one_way)
 
-  pub room_back : Has ys x → length ys ≤ most_ports → length left < most_ports
-  room_back m few = grind (arith, common_steps, goes_back b put.one_way, length-put)
+  pub room_back : P x → length ys ≤ most_ports → length left < most_ports
+  room_back own few = grind (arith, common_steps, order.has x, goes_back b order.one_way, length-put)
 
-  pub none_back : (Has ys x → ⊥) → left ≡ ys
-  none_back none = known ∙ without_none x ys none
+  pub none_back : (P x → ⊥) → left ≡ ys
+  none_back none = known ∙ without_none x ys (λ there. none ((order.has x).0 there))
 
 -- a port that does not stand in an order
 pub not_there : (x : ℕ) (xs : List ℕ) → (IsListed xs x → ⊥) → xs ≡ without x xs
@@ -146,14 +142,14 @@ module _ (m : Partners) (old new : List (List Queued)) (k : ℕ)
   pub same_inputs :
       filter (λ i. not (is_pair m i k)) (input_order old k) ≡ filter (λ i. not (is_pair m i k)) (input_order new k)
   same_inputs =
-      let a = is_input_order old k old_differ in let b = is_input_order new k new_differ in
-      same_pairs (λ i n. before (map (first_key k) old) i n ≡ true) (before_one_way _)
-      (filter kept (input_order old k)) (filter kept (input_order new k))
-      (pairs_kept _ kept (input_order old k) (inputs_rise old k (input_order old k) a))
+      let a = in_keys old k (input_order old k) (is_input_order old k old_differ) in
+      let b = in_keys new k (input_order new k) (is_input_order new k new_differ) in
+      same_pairs _ a.one_way (filter kept (input_order old k)) (filter kept (input_order new k))
+      (pairs_kept _ kept (input_order old k) a.rises)
       (pairs_kept_with _ (λ x y. before (map (first_key k) old) x y ≡ true) kept
-      (λ x y s t later. search (arith, rules, same_key)) (input_order new k) (inputs_rise new k (input_order new k) b))
-      (λ i s. search (arith, rules, kept_has, listed, has_kept, among, not-true))
-      (λ i s. search (arith, rules, kept_has, listed, has_kept, among, not-true))
+      (λ x y s t later. search (arith, rules, same_key)) (input_order new k) b.rises)
+      (λ i s. search (arith, rules, kept_has, a.has, b.has, has_kept, same_key))
+      (λ i s. search (arith, rules, kept_has, a.has, b.has, has_kept, same_key))
 
 -- ## All lists
 

@@ -7,17 +7,16 @@
 -- have none. So its order and that of the output are all that is renewed. Last, one order that is known but for one
 -- port, which left it. Where there is no cell, what is left is the whole order. Where there is one, the port goes back
 -- in at the place that its first cell tells.
-use Rattle.cq_prefs.proofs.Terms.{common_steps, rules, ◌≡◌, ◌≢◌, ℕ, ◌+◌, ◌<◌, ◌≤◌, eqb, List, [], length, get_or, set, Some, None, arith, not, replicate, map, All, IsDistinct, cases_Bool, cases_eq, cases_lt, eq-eqb, ne_eqb, eqb-true, length-map-range_with_len, get_or-map-range_with_len, length-map, length-set, get_or_past, get_or_default, get_or-set_same, get_or-set_other, ext_get_or, length-replicate, Queued, Waiting, cells_of, AreWaiting, list_of, output_order, input_order, orders_of, HasCellFor, FirstKeysDiffer, Orders, AreOffers, ports, outputs_of, inputs_of, Partners, partner_of, ArePairs, with_pair, without, is_pair, AreSameWithout, first_key, kept_has, Has, has_kept, most_ports, filter_all, all_from_has}
+use Rattle.cq_prefs.proofs.Terms.{common_steps, rules, ◌≡◌, ◌≢◌, ℕ, ◌+◌, ◌<◌, ◌≤◌, eqb, List, [], length, get_or, set, Some, None, arith, not, replicate, map, All, IsDistinct, cases_Bool, cases_eq, cases_lt, eq-eqb, ne_eqb, eqb-true, length-map-range_with_len, get_or-map-range_with_len, length-map, length-set, get_or_past, get_or_default, get_or-set_same, get_or-set_other, ext_get_or, length-replicate, Queued, Waiting, cells_of, AreWaiting, list_of, output_order, input_order, orders_of, Orders, AreOffers, ports, outputs_of, inputs_of, Partners, partner_of, ArePairs, with_pair, without, is_pair, AreSameWithout, kept_has, has_kept, most_ports, filter_all, all_from_has}
 use Rattle.std.proofs.lemmas.List.{get_or-map}
 use Rattle.std.proofs.lemmas.Simd.{map-map}
-use Rattle.cq_prefs.proofs.InputOrder.{OutputsInRange, before, outputs_at, inputs_at, are_offers, is_input_order}
+use Rattle.cq_prefs.proofs.InputOrder.{OutputsInRange, outputs_at, inputs_at, are_offers}
 use Rattle.cq_prefs.proofs.Members.{among, listed}
-use Rattle.cq_prefs.proofs.OneOrder.{same_orders, stands_ahead, ahead_one_way, outputs_rise, before_one_way, inputs_rise}
+use Rattle.cq_prefs.proofs.OneOrder.{same_orders}
 use Rattle.cq_prefs.proofs.OutputOrder.{is_output_order, has_output}
 use Rattle.cq_prefs.proofs.Places.{output_in_range, outputs_at_most, inputs_at_most}
 use Rattle.cq_prefs.proofs.Pairs.{nobody, no_pairs, joined_pairs}
 use Rattle.cq_prefs.proofs.ByKey.{outputs_below}
-use Rattle.cq_prefs.proofs.Changes.{IsPut}
 
 -- ## The lists
 
@@ -170,17 +169,5 @@ module _ (n j : ℕ) (lists : List Waiting) (inside : n < length lists) (within 
   pair_renewed outputs inputs row column list x at e f =
       let m = pair_of lists n j in
       search (arith, rules, next_renewed x, all_renewed m (length m), none_between m (n + 1) (length m), pair_steps)
-
--- ## The order of an input, and that of an output
-
-pub output_put : (cells : List Queued) → IsPut (stands_ahead cells) (output_order cells)
-output_put cells = search (rules, is_output_order cells, ahead_one_way, outputs_rise)
-
-pub output_there : (cells : List Queued) (j : ℕ) → HasCellFor cells j → Has (output_order cells) j
-output_there cells j has = among (output_order cells) j (((is_output_order cells).offered j).1 has)
-
-pub input_put : (lists : List (List Queued)) (j : ℕ) → FirstKeysDiffer lists →
-    IsPut (before (map (first_key j) lists)) (input_order lists j)
-input_put lists j differ = search (rules, is_input_order, before_one_way, inputs_rise)
 
 pub ruleset fill_steps = (length-set, get_or-set_same, get_or-set_other, cases_eq)
