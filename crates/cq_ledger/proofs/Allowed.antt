@@ -2,11 +2,11 @@
 -- the hand's input on the state that words and views show, and every other kind of step leaves that state as it is: the
 -- list of events behind the rule is the same, or longer by that input. A seat keeps the numbers of its view through
 -- each kind of step, and a call on a ledger finds there what it was promised of the seat.
-use Rattle.cq_ledger.proofs.Terms.{rules, ℕ, suc, ◌≡◌, ◌≢◌, ◌*◌, ◌<◌, ◌≤◌, ◌^◌, min, List, get_or, set, Some, None, arith, bit_or, common_steps, none, cases_eq, get_or-le-sum_by, set_here, set_else, set_again, Orders, ports, position_of, IsOffered, state_after, events_at_most, output_in_range, sound-after, next_output-offered, View, Seated, Ruled, proposal, IsClaim, claim, look, IsLedger, output_at, words_proposed, proposed, words_claimed, claim_taken, claim_refused, blank, joined, spent, Sits, bit, claim_word, ◌++◌, [], ◌∷◌, sym, ◌∙◌, ap, set-get_or, AreOffers, State, next_place, start, core_state, first_words, IsClaimed, IsUnclaimed, most_ports, ◌+◌, Option, Outcome, IsProposal, hand_at, hand_after, answer_of}
+use Rattle.cq_ledger.proofs.Terms.{rules, ℕ, suc, ◌≡◌, ◌*◌, ◌<◌, ◌≤◌, ◌^◌, min, List, get_or, set, Some, None, arith, bit_or, common_steps, none, cases_eq, get_or-le-sum_by, set_here, set_else, set_again, Orders, ports, position_of, IsOffered, state_after, events_at_most, output_in_range, sound-after, next_output-offered, View, Seated, Ruled, proposal, IsClaim, claim, look, IsLedger, output_at, words_proposed, proposed, words_claimed, claim_taken, claim_refused, Sits, bit, claim_word, [], ◌∙◌, ap, set-get_or, next_place, IsClaimed, ◌+◌, Option, Outcome, IsProposal, hand_at, hand_after, answer_of}
 use Rattle.atomic_table.specs.Table.{step, Allows}
 use Rattle.cq_ledger.proofs.Proposing.{propose-keeps, claim-keeps, refuse-keeps}
-use Rattle.cq_ledger.proofs.Seats.{split-keeps, join-keeps, start-keeps, longer-keeps}
-use Rattle.cq_ledger.proofs.Views.{bits, one_power, at_known, dealt}
+use Rattle.cq_ledger.proofs.Seats.{split-keeps, join-keeps}
+use Rattle.cq_ledger.proofs.Views.{bits, one_power, at_known}
 use Rattle.cq_ledger.specs.Moments.{IsEvent}
 use Rattle.cq_ledger.proofs.CoreState.{core_state-is}
 use Rattle.atomic_table.specs.Seated.{TableId}
@@ -14,59 +14,23 @@ use Rattle.cq_ledger.specs.SeatFields.{IsSeat}
 use Rattle.cq_ledger.specs.Seats.{LedgerState, SeatState, IsSeatOf}
 use Rattle.cq_ledger.proofs.Hands.{hand_at-placed, hand_after-placed}
 
-pub start-shows : (o : Orders) → AreOffers o → ports o ≤ most_ports →
-    core_state o (first_words o) (blank o ∷ []) ≡ start o
-unfolding start-keeps
-start-shows o v few = core_state-is o (first_words o) (blank o ∷ []) (start-keeps o v few)
+-- a claim that finds the input claimed leaves the words as they are
+pub words-same : (words : List ℕ) (i : ℕ) → IsClaimed words i → words_claimed words i ≡ words
+words-same words i claimed = ap (λ m. set words 0 m) (bits.again (get_or words 0 0) i claimed) ∙ set-get_or words 0 0
 
-module _ (o : Orders) (words : List ℕ) (views : List View) (k : IsLedger o words views) (id : ℕ) (v : View)
+module _ (o : Orders) (words : List ℕ) (views : List View) (k : IsLedger o words views) (id i : ℕ) (v : View)
     (at : Sits views id v) where
-  abbrev s : State
-  s = state_after o k.events
-
-  is : core_state o words views ≡ s
-  is = core_state-is o words views k
-
-  pub proposal-event : (i p : ℕ) → v.hand ≡ Some (i, p) → v.offers ≡ o → IsEvent o words views id i p v
+  pub proposal-event : (p : ℕ) → v.hand ≡ Some (i, p) → v.offers ≡ o → IsEvent o words views id i p v
   unfolding propose-keeps
-  proposal-event i p hand same_offers =
-      let here : next_place s i ≡ p = k.hands.place id i p v at hand in
+  proposal-event p hand same_offers =
+      let is = core_state-is o words views k in
+      let here : next_place (state_after o k.events) i ≡ p = k.hands.place id i p v at hand in
       let k' = propose-keeps o words views k id i v at same_offers (rw here hand) in
       search (arith, rules, is, here, core_state-is o _ _ k', output_in_range, next_output-offered, k.hands.free)
 
-  module _ (i : ℕ) where
-    pub taken-shows : i < ports o → IsUnclaimed words i → v.hand ≡ None → v.offers ≡ o →
-        core_state o (words_claimed words i) (set views id (claim_taken v i)) ≡ core_state o words views
-    unfolding claim-keeps
-    taken-shows r clear empty same_offers =
-        core_state-is o _ _ (claim-keeps o words views k id i v at same_offers r clear empty) ∙ sym is
-
-    -- a claim that finds the input claimed leaves the words as they are
-    words-same : IsClaimed words i → words_claimed words i ≡ words
-    words-same claimed = ap (λ m. set words 0 m) (bits.again (get_or words 0 0) i claimed) ∙ set-get_or words 0 0
-
-    pub refused-keeps : IsClaimed words i → v.offers ≡ o →
-        IsLedger o (words_claimed words i) (set views id (claim_refused v i))
-    refused-keeps claimed same_offers = search (rules, words-same, refuse-keeps)
-
-    pub refused-shows : IsClaimed words i → v.offers ≡ o →
-        core_state o (words_claimed words i) (set views id (claim_refused v i)) ≡ core_state o words views
-    unfolding refuse-keeps dealt
-    refused-shows claimed same_offers =
-        rw (words-same claimed)
-        (core_state-is o words _ (refuse-keeps o words views k id i v at same_offers claimed) ∙ sym is)
-
-  pub split-shows : core_state o words (set views id v ++ blank v.offers ∷ []) ≡ core_state o words views
-  unfolding longer-keeps dealt
-  split-shows = ap (λ l. core_state o words (l ++ blank v.offers ∷ [])) (set_again views id v at)
-      ∙ core_state-is o words _ (longer-keeps o words views k v.offers (search (rules, k.same id v at))) ∙ sym is
-
-  pub join-shows : (other : ℕ) (u : View) → other ≢ id → Sits views other u → v.hand ≡ None → u.hand ≡ None →
-      v.offers ≡ o → core_state o words (set (set views id (joined v u)) other spent) ≡ core_state o words views
-  unfolding join-keeps dealt
-  join-shows other u apart at_other empty empty_other same_offers =
-      core_state-is o words (set (set views id (joined v u)) other spent)
-      (join-keeps o words views k id v at other u apart at_other empty empty_other same_offers) ∙ sym is
+  pub refused-keeps : IsClaimed words i → v.offers ≡ o →
+      IsLedger o (words_claimed words i) (set views id (claim_refused v i))
+  refused-keeps claimed same_offers = search (rules, words-same, refuse-keeps)
 
 -- ## What the rule allows
 
@@ -163,5 +127,3 @@ module _ (me : Seated) (claims : ℕ) (hand : Option (ℕ × ℕ)) (made : ℕ) 
 pub ruleset seat_steps = (matched, join-keeps, set_else, split-keeps)
 
 pub ruleset keep_steps = (proposal-keeps, claim-keeps, refused-keeps, split-keeps, join-keeps)
-
-pub ruleset show_steps = (start-shows, taken-shows, refused-shows, split-shows, join-shows)

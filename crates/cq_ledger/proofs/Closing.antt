@@ -1,6 +1,6 @@
 -- A seat that has claimed every port and has nobody in its hand knows the whole phase: no other seat has a claim, so
 -- none has made a proposal or has an input in its hand. Nobody is dropped, so nobody is free.
-use Rattle.cq_ledger.proofs.Terms.{rules, ℕ, ◌≡◌, ◌≢◌, ◌<◌, List, [], ◌∷◌, None, refl, arith, sum_by, cases_eq, sum_by-cons, Orders, ports, Partners, IsInputBest, proposals, next_output-offered, sound-after, State, IsQuiescent, state_after, matching_of, IsSound, IsLedger, Sits, bit, input_in_range, Shows, events-quiet, View, common_steps, spent, at_set, suc}
+use Rattle.cq_ledger.proofs.Terms.{rules, ℕ, ◌≡◌, ◌≢◌, ◌<◌, List, [], ◌∷◌, None, refl, arith, sum_by, cases_eq, sum_by-cons, Orders, ports, IsInputBest, proposals, next_output-offered, IsQuiescent, state_after, matching_of, IsLedger, Sits, bit, input_in_range, events-quiet, View, common_steps, spent, at_set, suc}
 use Rattle.cq_prefs.proofs.Quiet.{input_best-quiet}
 use Rattle.cq_ledger.proofs.Views.{bits, same_at, made_with}
 
@@ -31,20 +31,3 @@ module _ (o : Orders) (words : List ℕ) (views : List View) (k : IsLedger o wor
       × (v.made ≡ proposals o (matching_of o (state_after o k.events)))
   closing-best =
       search (rules, input_best-quiet, closing-quiet, one_made views id v at_id, others_idle, events-quiet)
-
--- the last words show a state that proposals reach
-pub closing-shown : (key offers : Orders) → key ≡ offers → (words items : List ℕ) (views : List View) →
-    IsLedger key words views → words ≡ items → (s : State) × IsSound offers s × Shows offers items s
-closing-shown key offers same words items views k is = search (rules, sound-after)
-
--- so the matching that is read off them is the one
-pub closing-phase : (key offers : Orders) → key ≡ offers → (words items : List ℕ) (views : List View) →
-    IsLedger key words views → words ≡ items → (id : ℕ) (v : View) → Sits views id v →
-    ((i : ℕ) → i < ports offers → bit v.claims i ≡ 1) → v.hand ≡ None → (m : Partners) →
-    ((s : State) → IsSound offers s → Shows offers items s → m ≡ matching_of offers s) →
-    IsInputBest offers m × (v.made ≡ proposals offers m)
-closing-phase key offers same words items views k is id v at all empty m read =
-    let k' : IsLedger offers words views = rw same at k in
-    let e = read (state_after offers k'.events) (sound-after offers k'.offers k'.events k'.are_events)
-    (rw is at k'.positions) in
-    rw e (closing-best offers words views k' id v at all empty)

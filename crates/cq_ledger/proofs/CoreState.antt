@@ -1,6 +1,6 @@
 -- The state of the proposal core that words and views show is the one that the proposals of the rule reach. The place
 -- that is found for an input in the hands is that of a hand that has it, and where none is found no hand does.
-use Rattle.cq_ledger.proofs.Terms.{rules, ℕ, ◌≡◌, List, [], length, drop, Option, Some, None, refl, sym, ◌∙◌, ap, arith, map, range_with_len, ext_get_or, length-drop, length-map-range_with_len, get_or-map-range_with_len, Orders, ports, outputs_of, State, next_place, IsSound, keeper, state_after, keeper-holds, keeper-from, sound-after, View, IsLedger, place_in_hands, output_of, next_shown, core_state, IsClaimed, common_steps, zero, suc, ◌∷◌, some-injective, some-ne-none, cond_both, eqb-true, eq-eqb, true≢false, place_in_hand, first_place, Sits, IsInAHand, sum-places, held_once, output_in_range, sum}
+use Rattle.cq_ledger.proofs.Terms.{rules, ℕ, ◌↔◌, ◌≡◌, List, [], length, drop, Option, Some, None, refl, sym, ◌∙◌, ap, arith, map, range_with_len, ext_get_or, length-drop, length-map-range_with_len, get_or-map-range_with_len, Orders, ports, outputs_of, State, next_place, IsSound, keeper, state_after, keeper-holds, keeper-from, sound-after, View, IsLedger, place_in_hands, output_of, next_shown, core_state, IsClaimed, common_steps, zero, suc, ◌∷◌, some-injective, some-ne-none, cond_both, eqb-true, eq-eqb, true≢false, place_in_hand, first_place, Sits, IsInAHand, sum-places, held_once, output_in_range, sum}
 use Rattle.cq_prefs.proofs.LeastFirst.{input_best-best}
 use Rattle.cq_prefs.proofs.Quiet.{none_passed-after}
 use Rattle.cq_ledger.specs.Moments.{ShowsProposals}
@@ -8,11 +8,8 @@ use Rattle.cq_ledger.proofs.Views.{bits}
 
 -- ## One hand
 
-in_hand-some : (h : Option (ℕ × ℕ)) (i p : ℕ) → place_in_hand h i ≡ Some p → h ≡ Some (i, p)
-in_hand-some h i p e = grind (arith, common_steps, cond_both, eqb-true)
-
-in_hand-has : (i p : ℕ) (h : Option (ℕ × ℕ)) → h ≡ Some (i, p) → place_in_hand h i ≡ Some p
-in_hand-has i p h e = grind (arith, common_steps, cond_both, true≢false, eq-eqb)
+in_hand : (h : Option (ℕ × ℕ)) (i p : ℕ) → (place_in_hand h i ≡ Some p) ↔ (h ≡ Some (i, p))
+in_hand h i p = grind (arith, common_steps, cond_both, eqb-true, eq-eqb, true≢false)
 
 -- ## All hands
 
@@ -25,11 +22,11 @@ in_hands-some (v ∷ views) i p e = go (in_hands-some views i p) (place_in_hand 
         (h : Option ℕ) → place_in_hand v.hand i ≡ h → first_place h (place_in_hands views i) ≡ Some p →
         (a : ℕ) × (u : View) × Sits (v ∷ views) a u × (u.hand ≡ Some (i, p))
     go later None f r = let x = later r in (suc x.0, x.1, x.2, x.3)
-    go later (Some q) f r = (zero, v, refl, in_hand-some v.hand i p (f ∙ r))
+    go later (Some q) f r = (zero, v, refl, (in_hand v.hand i p).0 (f ∙ r))
 
 pub in_hands-none : (views : List View) (i : ℕ) → place_in_hands views i ≡ None → IsInAHand views i → ⊥
 in_hands-none (v ∷ views) i e (suc a, u, p, at, h) = grind (arith, common_steps, in_hands-none views i)
-in_hands-none views i e (a, u, p, at, h) = grind (arith, common_steps, in_hand-has, some-injective, some-ne-none)
+in_hands-none views i e (a, u, p, at, h) = grind (arith, common_steps, in_hand, some-injective, some-ne-none)
 
 -- ## The state
 

@@ -53,8 +53,7 @@ module _ (o : Orders) (v : AreOffers o) (s : State) (w : IsSound o s) (i : ℕ) 
 
   -- another input that was free still is, at its place
   pub still_free : (k : ℕ) → k ≢ i → IsFree o s k → IsFree o t k
-  still_free k n g =
-      search (arith, rules, st.others_stay, st.held_asked, unheld_now, g.unheld, same_at_place)
+  still_free k n g = search (arith, rules, st, unheld_now, g.unheld, same_at_place)
 
   -- the one that is displaced is free now, at the place after this output
   pub displaced_free : (k : ℕ) → Holds o s j k → position_of o j i < position_held s j →

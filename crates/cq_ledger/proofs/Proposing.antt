@@ -137,9 +137,6 @@ module _ (o : Orders) (words : List ℕ) (views : List View) (k : IsLedger o wor
     pub claims_stay : claim_word words_now ≡ claim_word words
     claims_stay = let n : 0 ≢ suc j = omega arith in get_or-set_other words (suc j) 0 _ 0 n
 
-    pub still_set : (q : ℕ) → bit (claim_word words) q ≡ 1 → bit (claim_word words_now) q ≡ 1
-    still_set q h = ap (λ n. bit n q) claims_stay ∙ h
-
     pub was_set : (q : ℕ) (n : ℕ) → bit (claim_word words_now) q ≡ n → bit (claim_word words) q ≡ n
     was_set q n h = sym (ap (λ n. bit n q) claims_stay) ∙ h
 
@@ -160,14 +157,14 @@ module _ (o : Orders) (words : List ℕ) (views : List View) (k : IsLedger o wor
         let own = k.hands.claimed id i (next_place s i) v at_id in_hand in
         let claimed : bit (claim_word words) q ≡ 1 =
         grind (arith, m.who, own, w.last q j, k.unclaimed q, bits.small (claim_word words) q) in (
-          (m.free, m.place_is, still_set q claimed),
+          search (rules, claims_stay),
           λ b r x a n g. ⊎_elim (other_hand b q r x n a g) ((k.hands.free b q r x a g).unheld j) m.who,
         )
 
     pub others : (b q p : ℕ) (u : View) → Sits views b u → b ≢ id → u.hand ≡ Some (q, p) → MayHold o t words_now q p
     others b q p u a n h =
         let free = still_free o k.offers s w i f in
-        search (rules, free, st.others_stay, still_set, k.hands.free, k.hands.place, k.hands.claimed, other_hand)
+        search (rules, free, st.others_stay, claims_stay, k.hands.free, k.hands.place, k.hands.claimed, other_hand)
 
     pub undropped_now : (q : ℕ) → IsFree o t q → Waits words_now views_now q
     undropped_now q g =

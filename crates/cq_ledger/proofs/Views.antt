@@ -1,6 +1,6 @@
 -- What is read in lists of views, and the bits of numbers; then a view in another one's place, and the rule where the
 -- words stay and the views alone change.
-use Rattle.cq_ledger.proofs.Terms.{ℕ, suc, ◌≡◌, ◌≢◌, ◌⊎◌, ◌<◌, ◌≤◌, ◌^◌, List, [], ◌∷◌, length, get_or, sym, ◌∙◌, ap, arith, bit_or, some, some-injective, some-ne-none, get_elem?, cases_eq, bit_at_or, bit_at-pow_same, bit_at-pow_other, bit_at-zero, bit_at-lt, same_from_bits, bit, common_steps, rules, ⊎_elim, ◌+◌, set, Some, None, IsFree, next_place, sum_by, sum_by-set, at_set, set_here, set_else, Orders, State, state_after, View, AreClaims, AreHands, IsLedger, IsViewOf, Sits, HasClaimed, HasSeen, IsClaimed, IsClaimedByOne, IsInAHand, Waits, claim_word, shr_and_one, eqb-true, eq-eqb, ltb-true}
+use Rattle.cq_ledger.proofs.Terms.{ℕ, suc, ◌≡◌, ◌≢◌, ◌⊎◌, ◌<◌, ◌≤◌, ◌^◌, List, [], ◌∷◌, length, get_or, sym, ◌∙◌, arith, bit_or, some, some-injective, some-ne-none, get_elem?, cases_eq, bit_at_or, bit_at-pow_same, bit_at-pow_other, bit_at-zero, bit_at-lt, same_from_bits, bit, common_steps, rules, ◌+◌, set, Some, None, IsFree, next_place, sum_by, sum_by-set, at_set, set_here, set_else, Orders, State, state_after, View, AreClaims, AreHands, IsLedger, IsViewOf, Sits, HasClaimed, HasSeen, IsClaimed, IsClaimedByOne, IsInAHand, Waits, claim_word, shr_and_one, eqb-true, eq-eqb, ltb-true}
 use Rattle.std.proofs.lemmas.Nat.Bits.{bit_at_above}
 
 -- a view that stands at a place of the list
@@ -84,11 +84,8 @@ module _ (views : List View) (id : ℕ) (v now : View) (at_id : Sits views id v)
       ((b q p : ℕ) (x : View) → Sits views b x → b ≢ id → x.hand ≡ Some (q, p) → MayHold o t words' q p) →
       ((q : ℕ) → IsFree o t q → Waits words' (set views id now) q) → AreHands o t words' (set views id now)
   hands_with o s t words words' k mine others waits =
-      let my = λ (q p : ℕ) (u : View) (e : now ≡ u) (h : u.hand ≡ Some (q, p)).
-      mine q p (ap (λ (y : View). y.hand) e ∙ h) in
       let each : (b q p : ℕ) (u : View) → Sits (set views id now) b u → u.hand ≡ Some (q, p) →
-      MayHold o t words' q p = λ b q p u a h. ⊎_elim (λ x. (my q p u x.1 h).0) (λ x. others b q p u x.1 x.0 h)
-      (at_set views id b now u a) in
+      MayHold o t words' q p = λ b q p u a h. grind (arith, at_set views id b now u a, mine q p, others b q p u) in
       record {
         free = λ b q p u a h. (each b q p u a h).0;
         place = λ b q p u a h. (each b q p u a h).1;
@@ -96,7 +93,7 @@ module _ (views : List View) (id : ℕ) (v now : View) (at_id : Sits views id v)
         apart = λ b c q p r x y ax ay hx hy.
             let one = at_set views id b now x ax in
             let other = at_set views id c now y ay in
-            grind (arith, one, other, my q p x, my q r y, k.apart b c q p r x y);
+            grind (arith, one, other, mine q p, mine q r, k.apart b c q p r x y);
         undropped = waits;
       }
 

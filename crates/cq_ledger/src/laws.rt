@@ -18,7 +18,6 @@ ghost use Rattle.cq_ledger.specs.Views.{IsClaimed, IsUnclaimed, Sits};
 /// holds. A proposal is one event of the core: the hand's input is free, the state is the one after its
 /// proposal, and the answer is what that proposal comes to. Making the first seat shows the state at the start.
 /// A claim, whether it finds the input claimed or not, a split and a join leave the state as it is.
-#[tactic(auto, using(crate::proofs::Allowed::show_steps))]
 pub fn step_is_event()
     ensures start { (o : Orders) → AreOffers o → ports o ≤ most_ports →
         core_state o (first_words o) (blank o ∷ []) ≡ start o }
