@@ -81,8 +81,8 @@ arrives_own (a ∷ came) slot input = search (rules, cond_both, and_right, eqb-t
 -- ## The places of a slot's arrivals
 
 -- no cell stands anywhere
-pub none_stand : (ports : ℕ) → StandBelow ports no_arrivals
-none_stand ports = search (rules, arrival_at-no_arrivals)
+pub none_stand : (ports : ℕ) (cells : List (Option Cell)) → cells ≡ no_arrivals → StandBelow ports cells
+none_stand ports cells e = rw e (search (rules, arrival_at-no_arrivals))
 
 -- the places of the inputs before n are filled
 pub record Filling (came : List Arrival) (slot n : ℕ) (old now : List (Option Cell)) : Type 0 where

@@ -6,8 +6,7 @@ pub piece_begins : (len cell_bytes i : ℕ) → 1 ≤ cell_bytes → i < cells_o
 unfolding cells_of
 piece_begins len cell_bytes zero some h = omega arith
 piece_begins len cell_bytes (suc i) some h =
-    let q : ℕ = len / cell_bytes + min 1 (len % cell_bytes) in
-    let below : suc (suc i) ≤ q = omega arith in
+    let below : suc (suc i) ≤ len / cell_bytes + min 1 (len % cell_bytes) = omega arith in
     search (arith, rules, mul-le-mul_right cell_bytes below, div_ceil_times len cell_bytes some)
 
 -- a packet has a cell

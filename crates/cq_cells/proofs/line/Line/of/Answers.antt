@@ -37,20 +37,18 @@ bounds-routes-k c =
     let inside = c.packets-test.true in grind (arith, common_steps, length-map)
 
 pub bounds-to_output-row : goal.bounds-to_output-row
-bounds-to_output-row c =
-    let to_port = (made (goal.at.bounds-to_output-row c).After-row_of-row).to_port in omega arith
+bounds-to_output-row c = let is = made (goal.at.bounds-to_output-row c).After-row_of-row in omega arith
 
 pub bounds-to_output-row-in-packets : goal.bounds-to_output-row-in-packets
 bounds-to_output-row-in-packets c =
-    let to_port = (made (goal.at.bounds-to_output-row-in-packets c).After-row_of-row).to_port in omega arith
+    let is = made (goal.at.bounds-to_output-row-in-packets c).After-row_of-row in omega arith
 
 pub overflow_add-free : goal.overflow_add-free
-overflow_add-free c =
-    let ends = (made (goal.at.overflow_add-free c).After-row_of-row).ends in omega (arith, c.from.ensures)
+overflow_add-free c = let is = made (goal.at.overflow_add-free c).After-row_of-row in omega (arith, c.from.ensures)
 
 pub overflow_add-cells : goal.overflow_add-cells
 overflow_add-cells c =
-    let few = (made (goal.at.overflow_add-cells c).After-row_of-row).few in omega (arith, c.from-cells.ensures)
+    let is = made (goal.at.overflow_add-cells c).After-row_of-row in omega (arith, c.from-cells.ensures)
 
 pub overflow_add-to_output : goal.overflow_add-to_output
 overflow_add-to_output c =
