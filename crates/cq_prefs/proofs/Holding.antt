@@ -1,7 +1,7 @@
 -- Who holds whom in a state that events reach. The test computes what is said, and an input is held by one output at
 -- most, the one that it asked last. So the matching of the state has exactly the pairs of an output and the input that
 -- it holds.
-use Rattle.cq_prefs.proofs.Terms.{rules, ℕ, ◌≡◌, ◌≢◌, ◌<◌, Bool, true, List, [], ◌∷◌, length, Option, Some, None, refl, sym, ◌∙◌, ap, arith, common_steps, find, is_none, range_with_len, cases_lt, cond_both, ltb-true, lt-ltb, eqb-true, eq-eqb, and_parts, and_from, true≢false, get_or_past, ext_get_or, length-map-range_with_len, get_or-map-range_with_len, Orders, AreOffers, ports, inputs_of, Partners, partner_of, IsMatching, State, Holds, IsFree, IsSound, holder, holds, position_held, keeper, is_free, matching_of, Has, has_number, find_at, passes_at_first, slice_get_within, slice_get-get_or}
+use Rattle.cq_prefs.proofs.Terms.{rules, tests, ℕ, ◌≡◌, ◌≢◌, ◌<◌, Bool, true, List, [], ◌∷◌, length, Option, Some, None, refl, sym, ◌∙◌, ap, arith, common_steps, find, is_none, range_with_len, cases_lt, cond_both, ltb-true, lt-ltb, eq-eqb, and_parts, and_from, true≢false, get_or_past, ext_get_or, length-map-range_with_len, get_or-map-range_with_len, Orders, AreOffers, ports, inputs_of, Partners, partner_of, IsMatching, State, Holds, IsFree, IsSound, holder, holds, position_held, keeper, is_free, matching_of, Has, has_number, find_at, passes_at_first, slice_get_within, slice_get-get_or}
 use Rattle.cq_prefs.proofs.Places.{same_at_place, input_in_range, output_in_range, position_of-at}
 
 -- ## The one that passes a test
@@ -16,12 +16,9 @@ found_only p (x ∷ xs) y m h only = grind (arith, common_steps, cond_both, true
 
 -- ## Who is held
 
-holds-yes : (o : Orders) (s : State) (i j : ℕ) → holds o s i j ≡ true → Holds o s j i
-holds-yes o s i j h = let parts = and_parts _ _ h in (eqb-true _ _ parts.0, ltb-true _ _ parts.1)
-
 pub keeper-holds : (o : Orders) (s : State) (i j : ℕ) → keeper o s i ≡ Some j → Holds o s j i
 unfolding keeper
-keeper-holds o s i j e = holds-yes o s i j (found_passes (holds o s i) (range_with_len 0 (ports o)) j e)
+keeper-holds o s i j e = search (arith, rules, tests, and_parts, found_passes)
 
 pub none_unless : {X : Type 0} (p : Option X) → ((x : X) → p ≡ Some x → ⊥) → p ≡ None
 none_unless p h = grind (arith, common_steps, h)
@@ -75,7 +72,7 @@ module _ (o : Orders) (v : AreOffers o) (s : State) where
     unfolding keeper
     keeper-from i j h =
         let only = found_only (holds o s i) (range_with_len 0 (ports o)) j in
-        search (arith, rules, only, has_number, and_from, eq-eqb, lt-ltb, held_once, holds-yes, output_in_range)
+        search (arith, rules, tests, only, has_number, and_from, eq-eqb, lt-ltb, held_once, and_parts, output_in_range)
 
     pub partner-from : (i j : ℕ) → Holds o s j i → partner_of (matching_of o s) i ≡ Some j
     partner-from i j h = partner-is i ∙ keeper-from i j h

@@ -4,9 +4,7 @@
 -- are as they are to be. The others are so but for one port each: an input's for its partner, and an output's for the
 -- one input whose partner it is. Who has no partner has had the order from the start. Where one input changed for one
 -- output, it is the renewal of a matching of this one pair: the inputs before it have no partner, and those behind it
--- have none. So its order and that of the output are all that is renewed. Last, one order that is known but for one
--- port, which left it. Where there is no cell, what is left is the whole order. Where there is one, the port goes back
--- in at the place that its first cell tells.
+-- have none. So its order and that of the output are all that is renewed.
 use Rattle.cq_prefs.proofs.Terms.{common_steps, rules, ◌≡◌, ◌≢◌, ℕ, ◌+◌, ◌<◌, ◌≤◌, eqb, List, [], length, get_or, set, Some, None, arith, not, replicate, map, All, IsDistinct, cases_Bool, cases_eq, cases_lt, eq-eqb, ne_eqb, eqb-true, length-map-range_with_len, get_or-map-range_with_len, length-map, length-set, get_or_past, get_or_default, get_or-set_same, get_or-set_other, ext_get_or, length-replicate, Queued, Waiting, cells_of, AreWaiting, list_of, output_order, input_order, orders_of, Orders, AreOffers, ports, outputs_of, inputs_of, Partners, partner_of, ArePairs, with_pair, without, is_pair, AreSameWithout, kept_has, has_kept, most_ports, filter_all, all_from_has}
 use Rattle.std.proofs.lemmas.List.{get_or-map}
 use Rattle.std.proofs.lemmas.Simd.{map-map}

@@ -1,5 +1,5 @@
 -- The words of this crate's proofs that stand elsewhere, each passed on from its place.
-pub use Rattle.cq_base.proofs.Library.{All, AllByRecursion, Any-from_list_any, Bool, IsPartitionPoint, IsPartitionPoint-from_clause, IsPartitionedBy, List, None, Option, Some, [], and_from, and_parts, ap, apart_from_distinct, append-nil, append_assoc, arith, cases_Bool, cases_eq, cases_lt, common_steps, cond, cond-false, cond-true, cond_both, copy_within, drop, drop-drop, drop-replicate, drop-set-lt, drop-take, drop_at, drop_more, eq-eqb, eqb, eqb-false, eqb-true, ext_get_or, false, filter, filter-append, find, find_at, get_or, get_or-map-range_with_len, get_or-replicate, get_or-set_other, get_or-set_same, get_or_default, get_or_past, inl, insert, is_none, is_some, le-leb, le-ltb, leb, leb-true, length, length-append, length-drop, length-le_from_distinct_below, length-map, length-map-range_with_len, length-paste, length-range_with_len, length-replicate, length-set, length-take-le, list_all, lt-leb, lt-ltb, ltb, ltb-false, ltb-true, map, map-id, map-range_with_len_more, map_more, min, ne_eqb, nil_from_length, not, not-true, passes_at_first, position, position_or_len, position_or_len_is, prefix_len-le-length, range_with_len, refl, remove, replicate, rules, same_Some, set, set_at, slice_get, slice_get-get_or, slice_get_within, suc, sum, sum_by-le, sum_by-set, sym, take, take-replicate, take-set-lt, take-take, take_at, take_more, take_more_set, true, true≢false, zero, ℕ, ⊎_elim, ◌*◌, ◌++◌, ◌+◌, ◌-◌, ◌<◌, ◌↔◌, ◌∙◌, ◌∷◌, ◌≡◌, ◌≢◌, ◌≤◌, ◌⊎◌}
+pub use Rattle.cq_base.proofs.Library.{All, AllByRecursion, Any-from_list_any, Bool, IsPartitionPoint, IsPartitionPoint-from_clause, IsPartitionedBy, List, None, Option, Some, [], and_from, and_parts, ap, apart_from_distinct, append-nil, append_assoc, arith, cases_Bool, cases_eq, cases_lt, common_steps, cond, cond-false, cond-true, cond_both, copy_within, drop, drop-drop, drop-replicate, drop-set-lt, drop-take, drop_at, drop_more, eq-eqb, eqb, eqb-false, eqb-true, ext_get_or, false, filter, filter-append, find, find_at, get_or, get_or-map-range_with_len, get_or-replicate, get_or-set_other, get_or-set_same, get_or_default, get_or_past, inl, insert, is_none, is_some, le-leb, le-ltb, leb, leb-true, length, length-append, length-drop, length-le_from_distinct_below, length-map, length-map-range_with_len, length-paste, length-range_with_len, length-replicate, length-set, length-take-le, list_all, lt-leb, lt-ltb, ltb, ltb-false, ltb-true, map, map-id, map-range_with_len_more, map_more, min, ne_eqb, nil_from_length, not, not-true, passes_at_first, position, position_or_len, position_or_len_is, prefix_len-le-length, range_with_len, refl, remove, replicate, rules, same_Some, set, set_at, slice_get, slice_get-get_or, slice_get_within, suc, sum, sum_by-le, sum_by-set, sym, take, take-replicate, take-set-lt, take-take, take_at, take_more, take_more_set, tests, true, true≢false, zero, ℕ, ⊎_elim, ◌*◌, ◌++◌, ◌+◌, ◌-◌, ◌<◌, ◌↔◌, ◌∙◌, ◌∷◌, ◌≡◌, ◌≢◌, ◌≤◌, ◌⊎◌}
 unfoldable pub use Rattle.cq_base.proofs.Library.{IsDistinct}
 pub use Rattle.cq_base.proofs.Keys.{key_laws}
 pub use Rattle.cq_base.proofs.Lists.{first_here, first_later, taken_none}
