@@ -42,9 +42,6 @@ module _ (o : Orders) (words : List ℕ) (views : List View) (k : IsLedger o wor
     pub not_i : (q : ℕ) → bit (claim_word words) q ≡ 1 → q ≢ i
     not_i q h e = grind (arith, common_steps)
 
-    pub stays_set : (q : ℕ) → bit (claim_word words) q ≡ 1 → bit (claim_word claimed_words) q ≡ 1
-    stays_set q h = kept q (not_i q h) ∙ h
-
     pub hand_now : taken.hand ≡ hand_at o i 0
     hand_now = ap (λ x. hand_at x i 0) same_offers
 
@@ -77,10 +74,10 @@ module _ (o : Orders) (words : List ℕ) (views : List View) (k : IsLedger o wor
           size = length-set words 0 _ ∙ k.size;
           same = offers_with o views id taken k.same (inl same_offers);
           positions = λ j l. get_or-set_other words 0 (suc j) _ 0 (omega arith) ∙ k.positions j l;
-          claims = search (rules, claims_of, now_set, stays_set, by_one_now, not_i, k.claims.in_range, kept, at_set);
+          claims = search (rules, claims_of, now_set, by_one_now, not_i, k.claims.in_range, kept, at_set);
           hands = hands_with views id v taken at_id o s s words claimed_words k.hands
               (search (arith, rules, hand_at-shows, hand_now, free_i, k.unclaimed, now_set, not_i))
-              (search (arith, rules, stays_set)) undropped_claimed;
+              (search (arith, rules, kept, not_i)) undropped_claimed;
           unclaimed = search (arith, rules, cases_eq, k.unclaimed, kept);
           made = let a = made_with views id v taken at_id in let b = k.made in omega arith;
           idle = λ b u a. grind (arith, common_steps, at_set views id b taken u a, bits.same, bits.of_zero i, k.idle b);
@@ -137,9 +134,6 @@ module _ (o : Orders) (words : List ℕ) (views : List View) (k : IsLedger o wor
     pub claims_stay : claim_word words_now ≡ claim_word words
     claims_stay = let n : 0 ≢ suc j = omega arith in get_or-set_other words (suc j) 0 _ 0 n
 
-    pub was_set : (q : ℕ) (n : ℕ) → bit (claim_word words_now) q ≡ n → bit (claim_word words) q ≡ n
-    was_set q n h = sym (ap (λ n. bit n q) claims_stay) ∙ h
-
     pub shown_now : (q : ℕ) → q < ports o → get_or words_now (suc q) 0 ≡ position_held t q
     shown_now q r =
         let same = get_or-set_same words (suc j) in let other = get_or-set_other words (suc j) (suc q) in
@@ -184,7 +178,7 @@ module _ (o : Orders) (words : List ℕ) (views : List View) (k : IsLedger o wor
           positions = shown_now;
           claims = search (rules, same_claims views id v view_now at_id, claims_stay, k.claims.seen);
           hands = hands_with views id v view_now at_id o s t words words_now k.hands mine others undropped_now;
-          unclaimed = λ q h. search (arith, rules, cases_eq, k.hands.claimed, was_set, st.others_stay, k.unclaimed);
+          unclaimed = λ q h. search (arith, rules, cases_eq, k.hands.claimed, claims_stay, st.others_stay, k.unclaimed);
           made = let a = made_with views id v view_now at_id in let b = k.made in omega arith;
           idle = search (rules, k.idle, at_set);
         }

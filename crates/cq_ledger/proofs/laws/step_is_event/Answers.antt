@@ -6,7 +6,7 @@ use Rattle.cq_ledger.proofs.Seats.{start-keeps, longer-keeps, join-keeps}
 use Rattle.cq_ledger.proofs.Views.{dealt}
 use Rattle.cq_ledger.proofs.laws.step_is_event.Goals as goal
 
--- a proposal is an event, and no other step is one
+-- a proposal is an event, and with every other step the list of events behind the rule stays as it is
 pub returns : goal.returns
 unfolding start-keeps claim-keeps refuse-keeps longer-keeps join-keeps dealt
 returns c = record {
