@@ -29,5 +29,4 @@ module _ (o : Orders) (words : List ℕ) (views : List View) (k : IsLedger o wor
   -- what the words show is the one matching that is best for the inputs, and the seat made its proposals
   pub closing-best : IsInputBest o (matching_of o (state_after o k.events))
       × (v.made ≡ proposals o (matching_of o (state_after o k.events)))
-  closing-best =
-      search (rules, input_best-quiet, closing-quiet, one_made views id v at_id, others_idle, events-quiet)
+  closing-best = search (rules, input_best-quiet, closing-quiet, one_made views id v at_id, others_idle, events-quiet)

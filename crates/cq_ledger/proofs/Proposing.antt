@@ -3,7 +3,7 @@
 -- that finds it claimed changes only what its seat has seen. A proposal is one event. The word of the output that is
 -- asked becomes the position that it holds after the event. The new hand has the input that was displaced or rejected,
 -- if that is free: no other seat has it, since it was held, or in this hand.
-use Rattle.cq_ledger.proofs.Terms.{⊎_elim, rules, ℕ, suc, ◌≡◌, ◌≢◌, inl, ◌<◌, min, List, ◌∷◌, get_or, set, Some, sym, ◌∙◌, ap, arith, common_steps, cases_eq, get_or-set_same, get_or-set_other, length-set, at_set, Orders, ports, position_of, IsStep, step, sound-after, State, position_held, next_place, IsFree, next_output, propose, state_after, IsSound, IsLedger, proposed, Waits, Sits, bit, claim_word, output_in_range, View, ◌⊎◌, ◌^◌, length, None, bit_or, outputs_of, hand_at, claim_taken, IsClaimedByOne, refl, claim_refused}
+use Rattle.cq_ledger.proofs.Terms.{⊎_elim, rules, ℕ, suc, ◌≡◌, ◌≢◌, inl, ◌<◌, min, List, ◌∷◌, get_or, set, Some, sym, ◌∙◌, ap, arith, common_steps, cases_eq, get_or-set_same, get_or-set_other, length-set, at_set, Orders, ports, position_of, IsStep, step, sound-after, State, position_held, next_place, IsFree, next_output, propose, state_after, IsSound, IsLedger, proposed, Waits, Sits, bit, claim_word, output_in_range, View, ◌⊎◌, ◌^◌, None, bit_or, claim_taken, IsClaimedByOne, refl, claim_refused}
 use Rattle.cq_ledger.proofs.Hands.{hand_found, still_free, hand-shows, free-before, hand_at-left, hand_at-shows}
 use Rattle.cq_ledger.proofs.Views.{bits, sits_now, in_hand_still, claims_stay as same_claims, made_with, hands_with, offers_with, MayHold, by_one_still, hands_from, dealt}
 
@@ -42,12 +42,6 @@ module _ (o : Orders) (words : List ℕ) (views : List View) (k : IsLedger o wor
     pub not_i : (q : ℕ) → bit (claim_word words) q ≡ 1 → q ≢ i
     not_i q h e = grind (arith, common_steps)
 
-    pub hand_now : taken.hand ≡ hand_at o i 0
-    hand_now = ap (λ x. hand_at x i 0) same_offers
-
-    pub free_i : 0 < length (outputs_of o i) → IsFree o s i
-    free_i h = grind (arith, common_steps, k.unclaimed i clear, w.last)
-
     -- who has claimed an input now is this view, or had claimed it
     pub claims_of : (b q : ℕ) (u : View) → Sits claimed_views b u → bit u.claims q ≡ 1 →
         ((b ≡ id) × (q ≡ i)) ⊎ ((x : View) × Sits views b x × (bit x.claims q ≡ 1))
@@ -60,9 +54,8 @@ module _ (o : Orders) (words : List ℕ) (views : List View) (k : IsLedger o wor
 
     pub undropped_claimed : (q : ℕ) → IsFree o s q → Waits claimed_words claimed_views q
     undropped_claimed q g =
-        let fresh = k.unclaimed i clear in
         let still = in_hand_still views id v taken at_id in
-        search (arith, rules, k.hands.undropped q g, cases_eq q i, kept q, here, hand_now, hand_at-left, fresh, still)
+        search (arith, rules, k.hands.undropped q g, cases_eq q i, kept q, here, hand_at-left, k.unclaimed, still)
 
     unfoldable pub claim-keeps : IsLedger o claimed_words claimed_views
     claim-keeps =
@@ -76,7 +69,7 @@ module _ (o : Orders) (words : List ℕ) (views : List View) (k : IsLedger o wor
           positions = λ j l. get_or-set_other words 0 (suc j) _ 0 (omega arith) ∙ k.positions j l;
           claims = search (rules, claims_of, now_set, by_one_now, not_i, k.claims.in_range, kept, at_set);
           hands = hands_with views id v taken at_id o s s words claimed_words k.hands
-              (search (arith, rules, hand_at-shows, hand_now, free_i, k.unclaimed, now_set, not_i))
+              (search (arith, rules, hand_at-shows, w.last, k.unclaimed, k.hands.claimed, now_set, not_i))
               (search (arith, rules, kept, not_i)) undropped_claimed;
           unclaimed = search (arith, rules, cases_eq, k.unclaimed, kept);
           made = let a = made_with views id v taken at_id in let b = k.made in omega arith;

@@ -57,11 +57,8 @@ abbrev pub MayHold : Orders → State → List ℕ → ℕ → ℕ → Type 0
 MayHold o s words q p = IsFree o s q × (next_place s q ≡ p) × IsClaimed words q
 
 module _ (views : List View) (id : ℕ) (v now : View) (at_id : Sits views id v) where
-  pub id_in : id < length views
-  id_in = (at_known views id v v at_id).0
-
   pub sits_now : Sits (set views id now) id now
-  sits_now = set_here views id now id_in
+  sits_now = set_here views id now (at_known views id v v at_id).0
 
   -- who stood there is that view, and who stood elsewhere still does
   pub stays : (b : ℕ) (u : View) → Sits views b u → ((b ≡ id) × (v ≡ u)) ⊎ ((b ≢ id) × Sits (set views id now) b u)
@@ -106,7 +103,7 @@ module _ (views : List View) (id : ℕ) (v now : View) (at_id : Sits views id v)
 
   pub made_with : sum_by (λ (y : View). y.made) (set views id now) + v.made
       ≡ sum_by (λ (y : View). y.made) views + now.made
-  made_with = grind (arith, common_steps, sum_by-set, id_in, at_known views id v v at_id)
+  made_with = grind (arith, common_steps, sum_by-set, at_known views id v v at_id)
 
 -- the hands, where each was in the same place before, and who waited still does
 pub hands_from : {o : Orders} {s : State} {words : List ℕ} {views now : List View} → AreHands o s words views →
