@@ -41,8 +41,7 @@ pub comes_behind : (cushion : ℕ) (c : Queued) (xs : List Queued) →
     OfferAlike xs (with_arrival cushion c xs)
 comes_behind cushion c xs before ahead =
     let first : (f : Queued) × (first_for c.cell.output xs ≡ Some f) × IsBefore f c = grind (arith, common_steps) in
-    let behind = goes_behind cushion c first.0 xs first.1 first.2 ahead in
-    behind_first c xs (place_of_arrival cushion c xs) behind.0 behind.1
+    search (rules, behind_first c xs, goes_behind cushion c first.0 xs first.1 first.2 ahead)
 
 -- ## All offers
 

@@ -19,11 +19,6 @@ quiet_if_none o v s e i f =
     let r = input_in_range o i (next_output o s i) (next_output-offered o v s i f.left) in
     search (arith, rules, found_none (is_free o s) (range_with_len 0 (ports o)) i, has_number, free_only_if)
 
-free_if_found : (o : Orders) → AreOffers o → (events : List ℕ) → AreEvents o events → (i : ℕ) →
-    least_free o (state_after o events) ≡ Some i → IsFree o (state_after o events) i
-unfolding least_free
-free_if_found o v events es i e = search (rules, free_if, sound-after, found_passes)
-
 -- what n turns come to
 record IsTurns (o : Orders) (n : ℕ) (s : State) : Type 0 where
   events : List ℕ
@@ -33,9 +28,11 @@ record IsTurns (o : Orders) (n : ℕ) (s : State) : Type 0 where
 
 one_turn : (o : Orders) → AreOffers o → (n : ℕ) (s : State) → IsTurns o n s → (p : Option ℕ) → least_free o s ≡ p →
     IsTurns o (suc n) (propose_if o s p)
+unfolding least_free
 one_turn o v n s t None e = grind (arith, common_steps, quiet_if_none)
 one_turn o v n s t (Some i) e =
-    let free = free_if_found o v t.events t.are_events i (rw t.is at e) in
+    let found : least_free o (state_after o t.events) ≡ Some i = rw t.is at e in
+    let free : IsFree o (state_after o t.events) i = search (rules, free_if, sound-after, found_passes, t.are_events) in
     record { events = i ∷ t.events; are_events = (t.are_events, free); is = cc; ended = search (arith, rules) }
 
 turns : (o : Orders) → AreOffers o → (n : ℕ) → IsTurns o n (state_at o n)

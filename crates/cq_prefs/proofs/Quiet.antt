@@ -27,13 +27,11 @@ module _ (o : Orders) (v : AreOffers o) (s : State) (w : IsSound o s) (m : Partn
   not_below p e l =
       grind (arith, common_steps, w.asked_before i, none i, f.unheld, v.shown i, stable.matching.offered i)
 
-  -- a free input never asks the partner of an input that this output likes less
-  never_ousts : (k j : ℕ) → place_of o i j ≡ next_place s i → IsOffered o i j → partner_of m k ≡ Some j →
-      position_of o j i < position_of o j k → ⊥
-  never_ousts k j to offered mk less = search (arith, rules, not_below, stable.settled, stable.matching.once)
-
+  -- so it asks no partner of an input that the partner likes less
   none_passed-step : NonePassed o (propose o s i) m
-  none_passed-step k j mk = let st = step o v s w i f in search (arith, rules, never_ousts, cases_eq, cases_lt)
+  none_passed-step k j mk =
+      let st = step o v s w i f in
+      search (arith, rules, not_below, stable.settled, stable.matching.once, cases_eq, cases_lt)
 
 pub none_passed-after : (o : Orders) → AreOffers o → (events : List ℕ) → AreEvents o events → (m : Partners) →
     IsStable o m → NonePassed o (state_after o events) m
@@ -74,9 +72,8 @@ module _ (o : Orders) (v : AreOffers o) (s : State) (w : IsSound o s) (q : IsQui
 pub input_best-quiet : (o : Orders) → AreOffers o → (events : List ℕ) → AreEvents o events →
     IsQuiescent o (state_after o events) → IsInputBest o (matching_of o (state_after o events))
 input_best-quiet o v events es q =
-    let s = state_after o events in
     let w = sound-after o v events es in
-    search (arith, rules, matching-of o v s, settled o v s w q, no_better, none_passed-after)
+    search (arith, rules, matching-of o v, settled o v _ w q, no_better o v _ w q, none_passed-after)
 
 -- ## How many proposals there are
 
