@@ -3,11 +3,11 @@
 -- are judged one after another: the marks so far, and then those of judging what is left, are those of judging all; and
 -- what the outputs hold so far, with what is still to be admitted, is what they hold at the end.
 
-use Rattle.cq_ideal.proofs.Terms.{filter-append, length-append, rules, ◌≡◌, ◌≢◌, ℕ, zero, suc, ◌+◌, ◌-◌, ◌<◌, ◌≤◌, ◌^◌, eqb, Bool, true, false, cond, List, [], ◌∷◌, ◌++◌, length, drop, get_or, set, Option, Some, None, refl, arith, common_steps, All-from_recursion, drop_all, drop_more, get_or-map, length-map, Cell, arrival_at, Refused, is_first, mark_at, refused, CanCount, HasPorts, LimiterView, where_up, cells_refused, packets_refused, refused_counts, with_cells, with_refused, take, get_or-set_same, get_or-set_other, cases_Bool, eqb-true, eq-eqb, ne_eqb, drop-set-lt, length-set, set-get_or, take_all, append-nil, admitted, mark_after, held_after, marks_after, count_for, ComeToPorts, all_weaker, most_ports, few_kept}
+use Rattle.cq_ideal.proofs.Terms.{filter-append, length-append, rules, ◌≡◌, ◌≢◌, ℕ, zero, suc, ◌+◌, ◌-◌, ◌<◌, ◌≤◌, ◌^◌, eqb, Bool, true, false, cond, List, [], ◌∷◌, ◌++◌, length, drop, get_or, set, Option, Some, None, refl, arith, common_steps, All-from_recursion, drop_all, drop_more, get_or-map, length-map, Cell, arrival_at, Refused, is_first, mark_at, refused, CanCount, HasPorts, LimiterView, where_up, cells_refused, packets_refused, refused_counts, with_cells, with_refused, take, get_or-set_same, get_or-set_other, cases_Bool, eqb-true, eq-eqb, ne_eqb, drop-set-lt, length-set, set-get_or, take_all, append-nil, admitted, mark_after, held_after, marks_after, count_for, ComeToPorts, all_weaker, most_ports, few_kept, option_to_list, append_assoc}
 use Rattle.cq_ideal.specs.Taking.{HasJudged}
 use Rattle.cq_ideal.proofs.Refusals.{zero_from}
 use Rattle.cq_ideal.proofs.Changed.{at_place, changed_to, next_place}
-use Rattle.cq_ideal.proofs.FlowCount.{cell_listed}
+use Rattle.std.proofs.lemmas.Bool.Decides.{nat_tests}
 use Rattle.cq_ideal.proofs.Came.{from_input, none_beyond}
 
 -- ## One cell
@@ -22,6 +22,13 @@ pub this_output : (r : Refused) (cell : Cell) (first : ℕ) → eqb cell.output 
     ≡ with_cells (cell ∷ []) r
 unfolding cells_refused packets_refused
 this_output r cell first same is = grind (arith, common_steps)
+
+-- the counts of another output
+pub other_output : (r : Refused) (cell : Cell) → eqb cell.output r.output ≡ false → with_cells (cell ∷ []) r ≡ r
+unfolding cells_refused packets_refused
+other_output r cell other = grind (arith, common_steps)
+
+pub ruleset with_cell_steps = (this_output, other_output, nat_tests)
 
 -- the counts that have room for so many cells more have it for these: no more are counted at an output than there are
 pub counts_fit : (cells : List Cell) (n m : ℕ) (counts : List Refused) → CanCount (n + m) counts → length cells ≤ m →
@@ -51,14 +58,6 @@ module _ (cell : Cell) (first : List Refused) (place : ℕ) (now : List Refused)
       let all = with_refused (cell ∷ []) first in
       let here : after ≡ get_or all place d = search (arith, rules, common_steps, at_place, length-map, get_or-map) in
       search (arith, rules, next_place all first place after d, length-map)
-
-  -- a count of another output stays as it is
-  pub untouched_next : (d : Refused) → (get_or now place d).output ≢ cell.output →
-      now ≡ changed_to (with_refused (cell ∷ []) first) first (place + 1)
-  unfolding cells_refused packets_refused
-  untouched_next d other = search (arith, rules, set-get_or now place d, tallied_next d, ne_eqb)
-
-pub ruleset counted_one_by_one = (can_count_here, tallied_next, untouched_next)
 
 -- ## Cells one after another
 
@@ -95,11 +94,11 @@ module _ {cells : List (Option Cell)} {first : LimiterView} {input : ℕ} {now :
     (inside : input < length first.limits) (places : length cells ≡ most_ports) where
   pub counting_next : (cell : Option Cell) (after : LimiterView) →
       cell ≡ where_up (mark_at now.marks input) (arrival_at cells input) →
-      after.refused ≡ with_refused (cell_listed cell) now.refused → after.marks ≡ now.marks →
+      after.refused ≡ with_refused (option_to_list cell) now.refused → after.marks ≡ now.marks →
       after.held ≡ now.held → after.limits ≡ now.limits → Counting cells first (input + 1) after
   counting_next cell after is counted marks held limits =
-      let left = counts_fit (cell_listed cell) (length first.limits - (input + 1)) 1 now.refused in
-      search (arith, rules, drop_more, from_input, all_counted_both (cell_listed cell), left)
+      let left = counts_fit (option_to_list cell) (length first.limits - (input + 1)) 1 now.refused in
+      search (arith, rules, drop_more, from_input, all_counted_both (option_to_list cell), left)
 
 -- ## Arrivals that are judged
 
@@ -160,3 +159,10 @@ module _ {cells : List (Option Cell)} {first : LimiterView} {input : ℕ} {now :
       HasJudged cells first now
   judged_last has come past =
       search (arith, rules, drop_all, take_all, append-nil, none_to_count, none_beyond _ input cells come.inputs past)
+
+-- what an input with no arrival changes: nothing
+pub ruleset turn_steps = (set-get_or, cases_Bool)
+
+pub ruleset judge_steps = (judged_last, one_more_fits, from_input)
+
+pub ruleset count_steps = (fewer_left, none_counted, drop_more, drop_all, append_assoc, append-nil)

@@ -9,9 +9,6 @@ use Rattle.cq_ideal.proofs.Terms.{drop_more, drop_all, common_steps, ◌≡◌, 
 abbrev pub counts_from : ℕ → List (Option ℕ) → List Cell → List Refused
 counts_from j limits cells = filter_map (λ at. option_map (refused_at cells at.0) at.1) (enumerate_from j limits)
 
--- the limits are gone through from the front
-pub ruleset from_output = (drop_more, drop_all, append_assoc, append-nil)
-
 more_from : (j : ℕ) (limits : List (Option ℕ)) (before now : List Cell) →
     counts_from j limits (before ++ now) ≡ with_refused now (counts_from j limits before)
 unfolding cells_refused packets_refused

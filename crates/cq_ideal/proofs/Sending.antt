@@ -27,16 +27,6 @@ told_next ms gone old states new j q inside so_far is now =
 
 -- ## The walk
 
--- what is put at the end of what was sent
-abbrev pub one_sent : ℕ → ℕ → Option Queued → List Departure
-one_sent slot output None = []
-one_sent slot output (Some q) = record { slot = slot; output = output; queued = q } ∷ []
-
--- an output sent this cell, or none
-pub record HasSent (slot output : ℕ) (gone : Option Queued) (before after : RoomView Departure) : Type 0 where
-  pub items : after.items ≡ before.items ++ one_sent slot output gone
-  pub spare : after.spare + length (one_sent slot output gone) ≡ before.spare
-
 pub record Sending (M : List ℕ → Machine) (slot : ℕ) (first_ranks : RanksView) (first_queues : QueuesView)
     (first_limiter : LimiterView) (first_sent : RoomView Departure) (output : ℕ) (ranks : RanksView)
     (queues : QueuesView) (limiter : LimiterView) (sent : RoomView Departure) : Type 0 where
@@ -66,15 +56,17 @@ module _ {M : List ℕ → Machine} {slot : ℕ} {first_ranks : RanksView} {firs
       ranks_new.states
       ≡ set ranks.states output (told (machine_at (map M ranks.fixed) output) (get_or ranks.states output []) gone)
       → HoldsLists queues_new.lists limiter_new → JudgesAsBefore limiter limiter_new →
-      HasSent slot output gone sent sent_new →
+      sent_new.items ≡ sent.items ++ departures_from slot output (gone ∷ []) →
+      sent_new.spare + length (departures_from slot output (gone ∷ [])) ≡ sent.spare →
       Sending M slot first_ranks first_queues first_limiter first_sent (output + 1) ranks_new queues_new limiter_new
       sent_new
   sending_next gone ranks_new queues_new limiter_new sent_new inside as_many is lists rooms fixed states holds judges
-      put =
+      items spare =
       let old = first_queues.lists in
       let none = None in
       let front = get_or-map (λ (xs : List Queued). slice_get xs 0) old output [] none inside in
       let rest = get_or-map (λ (xs : List Queued). drop 1 xs) old output [] [] inside in
-      let both : one_sent slot output gone ++ departures_from slot (output + 1) (drop (output + 1) (fronts old))
+      let both : departures_from slot output (gone ∷ [])
+      ++ departures_from slot (output + 1) (drop (output + 1) (fronts old))
       ≡ departures_from slot output (drop output (fronts old)) = grind (arith, common_steps, at_place) in
       search (arith, rules, length-append, length-set, length-map, at_place, told_next, put_next, append_assoc)

@@ -1,5 +1,5 @@
 -- The words of this crate's proofs that stand elsewhere, each passed on from its place.
-pub use Rattle.cq_base.proofs.Library.{All, All-from_recursion, All-push, All-set, AllByRecursion, Bool, Err, IfOk, IsOkAnd, IsTrue, List, None, Ok, Option, Result, Some, [], and_from, and_left, and_parts, and_right, ap, append-nil, append_assoc, arith, both_ways, cases_Bool, cases_eq, cases_lt, common_steps, cond, cond-false, cond-true, cond_both, cons_option, drop, drop-set-lt, drop_all, drop_more, enumerate_from, eq-eqb, eqb, eqb-true, err_from_is_err_and, ext_get_or, fails_before_first, fill_by_all, false, false_from_ne_true, filter, filter-append, filter_map, flat_map-append, get_or, get_or-drop, get_or-map, get_or-map-range_with_len, get_or-range_with_len, get_or-replicate, get_or-set_other, get_or-set_same, get_or_at, get_or_past, is_some, le-leb, le-ltb, leb-true, length, length-append, length-drop, length-map, length-map-range_with_len, length-range_with_len, length-replicate, length-set, length-take, length-take-le, list_all, list_all-from_AllPass, list_all-map, lt-ltb, ltb-true, map, map-append, map-set, map-set_same, map_push, max, nat_lt, ne_eqb, nil_from_length, not, on_err_weaker, on_ok_weaker, option_map, passes_at_first, position_or_len, prefix_len-le-length, range_with_len, refl, replicate, replicate_more, rules, same_Some, set, set-get_or, set_at, slice_get, slice_index_or, subst, suc, sym, take, take-append-drop, take_all, take_more, take_more_set, true, unwrap_or-slice_get, vec_capacity, vec_len, zero, ℕ, ⊎_elim, ◌&&◌, ◌++◌, ◌+◌, ◌-◌, ◌<◌, ◌==◌, ◌^◌, ◌↔◌, ◌∙◌, ◌∷◌, ◌≡◌, ◌≢◌, ◌≤◌, ◌⊎◌}
+pub use Rattle.cq_base.proofs.Library.{All, All-from_recursion, All-push, All-set, AllByRecursion, Bool, Err, IfOk, IsOkAnd, IsTrue, List, None, Ok, Option, Result, Some, [], and_from, and_left, and_parts, and_right, ap, append-nil, append_assoc, arith, both_ways, cases_Bool, cases_eq, cases_lt, common_steps, cond, cond-false, cond-true, cond_both, cons_option, drop, drop-set-lt, drop_all, drop_more, enumerate_from, eq-eqb, eqb, eqb-true, err_from_is_err_and, ext_get_or, fails_before_first, fill_by_all, false, false_from_ne_true, filter, filter-append, filter_map, flat_map-append, get_or, get_or-drop, get_or-map, get_or-map-range_with_len, get_or-range_with_len, get_or-replicate, get_or-set_other, get_or-set_same, get_or_at, get_or_past, is_some, le-leb, le-ltb, leb-true, length, length-append, length-drop, length-map, length-map-range_with_len, length-range_with_len, length-replicate, length-set, length-take, length-take-le, list_all, list_all-from_AllPass, list_all-map, lt-ltb, ltb-true, map, map-append, map-set, map-set_same, map_push, max, nat_lt, ne_eqb, nil_from_length, not, on_err_weaker, on_ok_weaker, option_map, option_to_list, passes_at_first, position_or_len, prefix_len-le-length, range_with_len, refl, replicate, replicate_more, rules, same_Some, set, set-get_or, set_at, slice_get, slice_index_or, subst, suc, sym, take, take-append-drop, take_all, take_more, take_more_set, true, unwrap_or-slice_get, vec_capacity, vec_len, zero, ℕ, ⊎_elim, ◌&&◌, ◌++◌, ◌+◌, ◌-◌, ◌<◌, ◌==◌, ◌^◌, ◌↔◌, ◌∙◌, ◌∷◌, ◌≡◌, ◌≢◌, ◌≤◌, ◌⊎◌}
 pub use Rattle.std.proofs.lemmas.List.{Elements.All-replicate, Elements.recursion_from_All}
 pub use Rattle.cq_base.proofs.Lists.{all_by, other_key_newest}
 pub use Rattle.cq_base.specs.Arriving.{Arrival, arriving_at, end_of}

@@ -2,7 +2,7 @@
 //!
 //! A packet is refused whole, by what its output holds as its first cell arrives. How many cells that is stands in a
 //! number which is kept: it rises with each cell that is admitted, and falls as the switch tells that one has left.
-ghost use Rattle.std.specs.Prelude.{◌≡◌, ◌+◌, ◌<◌, ◌≤◌, ◌^◌, ◌∷◌, ℕ, Some, None, IfOk, IfSome, [], false, length, replicate, slice_index_or, slice_set};
+ghost use Rattle.std.specs.Prelude.{◌≡◌, ◌+◌, ◌<◌, ◌≤◌, ◌^◌, ℕ, Some, None, IfOk, IfSome, [], false, length, option_to_list, replicate, slice_index_or, slice_set};
 ghost use Rattle.cq_ideal.specs.Terms.{Cell, arrival_at, admitted, held_after, is_full, mark_after, mark_at, marks_after, marks_down, refused, count_for, CanCount, ComeToPorts, HasPorts, JudgesAsBefore, held_without, where_up, refused_counts, with_refused, most_ports};
 
 use crate::Refused;
@@ -113,22 +113,25 @@ impl Limiter {
         }
     }
 
-    // A cell that arrives at an input is judged, and its output holds it if it is admitted.
-    fn turn(&mut self, input: Port, cell: Cell)
+    // What arrives at an input is judged: a cell's output holds it if it is admitted.
+    #[tactic(auto, using(crate::proofs::Counting::turn_steps))]
+    fn turn(&mut self, input: Port, cell: Option<Cell>)
         requires input { input < length self.old.marks }
-        requires output { cell.output < length self.old.limits }
-        requires few { slice_index_or self.old.held cell.output 0 + 1 < 2 ^ 64 }
+        requires output { IfSome cell (λ c. c.output < length self.old.limits) }
+        requires few { IfSome cell (λ c. slice_index_or self.old.held c.output 0 + 1 < 2 ^ 64) }
         ensures marks { self.new.marks ≡ slice_set self.old.marks input (mark_after self.old.limits self.old.held
-            (mark_at self.old.marks input) (Some cell)) }
+            (mark_at self.old.marks input) cell) }
         ensures held { self.new.held ≡ held_after (mark_after self.old.limits self.old.held (mark_at self.old.marks
-            input) (Some cell)) self.old.held (Some cell) }
+            input) cell) self.old.held cell }
         ensures limits { self.new.limits ≡ self.old.limits }
         ensures refused { self.new.refused ≡ self.old.refused }
     {
-        let up = self.mark_after(self.is_up(input), cell);
-        self.marks[input as usize] = up;
-        if !up {
-            self.held[cell.output as usize] += 1;
+        if let Some(cell) = cell {
+            let up = self.mark_after(self.is_up(input), cell);
+            self.marks[input as usize] = up;
+            if !up {
+                self.held[cell.output as usize] += 1;
+            }
         }
     }
 
@@ -143,7 +146,7 @@ impl Limiter {
 
     /// The arrivals of a slot are judged in order of input: which marks are up after it, and how many cells each
     /// output holds with those that are admitted.
-    #[tactic(auto, using(crate::proofs::Counting::judged_last, crate::proofs::Counting::one_more_fits, crate::proofs::Came::from_input))]
+    #[tactic(auto, using(crate::proofs::Counting::judge_steps))]
     pub fn judge(&mut self, arrivals: &Arrivals)
         requires few { length self.old.limits ≤ most_ports }
         requires arrivals { ComeToPorts (length self.old.limits) arrivals.now }
@@ -158,9 +161,8 @@ impl Limiter {
     {
         let ports = self.len();
         'inputs: for input in 0..ports {
-            if let Some(cell) = arrivals.at(input) {
-                self.turn(input, cell);
-            }
+            let cell = arrivals.at(input);
+            self.turn(input, cell);
         }
     }
 
@@ -177,15 +179,18 @@ impl Limiter {
         if up { None } else { cell }
     }
 
-    // A refused cell is counted.
-    fn tally(&mut self, cell: Cell)
+    // A refused cell is counted, if there is one.
+    #[tactic(auto, using(crate::proofs::Counting::none_counted))]
+    fn tally(&mut self, cell: Option<Cell>)
         requires { CanCount 1 self.old.refused }
-        ensures refused { self.new.refused ≡ with_refused (cell ∷ []) self.old.refused }
+        ensures refused { self.new.refused ≡ with_refused (option_to_list cell) self.old.refused }
         ensures marks { self.new.marks ≡ self.old.marks }
         ensures held { self.new.held ≡ self.old.held }
         ensures limits { self.new.limits ≡ self.old.limits }
     {
-        count_refused(&mut self.refused, cell);
+        if let Some(cell) = cell {
+            count_refused(&mut self.refused, cell);
+        }
     }
 
     // The cell that arrives at an input, if it is refused.
@@ -201,7 +206,7 @@ impl Limiter {
 
     /// The cells of a slot that were refused as it was judged are counted. Where no output has a limit there is nothing
     /// to count, and no arrival is looked at.
-    #[tactic(auto, using(crate::proofs::Counting::fewer_left, crate::proofs::Counting::none_counted, crate::proofs::Refusals::from_output))]
+    #[tactic(auto, using(crate::proofs::Counting::count_steps))]
     pub fn count(&mut self, arrivals: &Arrivals)
         requires few { length self.old.limits ≤ most_ports }
         requires refused { CanCount (length self.old.limits) self.old.refused }
@@ -216,9 +221,8 @@ impl Limiter {
         }
         let ports = self.len();
         'inputs: for input in 0..ports {
-            if let Some(cell) = self.refused_at(arrivals, input) {
-                self.tally(cell);
-            }
+            let cell = self.refused_at(arrivals, input);
+            self.tally(cell);
         }
     }
 

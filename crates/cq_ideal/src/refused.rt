@@ -41,14 +41,16 @@ pub fn none_refused(alloc: Global, limits: &[Option<u64>]) -> Result<Vec<Refused
     Ok(refused)
 }
 
-// The count of an output, with a refused cell for it added.
-#[tactic(auto, using(crate::proofs::Counting::this_output, std::proofs::lemmas::Bool::Decides::nat_tests))]
+// The count of an output, with a refused cell added if it is for that output.
+#[tactic(auto, using(crate::proofs::Counting::with_cell_steps))]
 fn with_cell(count: Refused, cell: Cell) -> Refused
-    requires output { count.output ≡ cell.output }
     requires packets { count.packets + 1 < 2 ^ 64 }
     requires cells { count.cells + 1 < 2 ^ 64 }
     ensures { result ≡ with_cells (cell ∷ []) count }
 {
+    if count.output != cell.output {
+        return count;
+    }
     let first = if cell.id.index == 0 { 1 } else { 0 };
     Refused {
         output: count.output,
@@ -60,14 +62,12 @@ fn with_cell(count: Refused, cell: Cell) -> Refused
 
 /// A refused cell is added to the count of its output, where that has one: it is a cell more, and a packet more where
 /// it is a first cell.
-#[tactic(auto, using(crate::proofs::Counting::counted_one_by_one))]
+#[tactic(auto, using(crate::proofs::Counting::can_count_here, crate::proofs::Counting::tallied_next))]
 pub fn count_refused(refused: &mut [Refused], cell: Cell)
     requires { CanCount 1 refused.old }
     ensures { refused.new ≡ with_refused (cell ∷ []) refused.old }
 {
     'outputs: for place in 0..refused.len() {
-        if refused[place].output == cell.output {
-            refused[place] = with_cell(refused[place], cell);
-        }
+        refused[place] = with_cell(refused[place], cell);
     }
 }

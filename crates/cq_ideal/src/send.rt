@@ -1,12 +1,28 @@
 //! How the outputs of an ideal switch send.
-ghost use Rattle.std.specs.Prelude.{◌≤◌, length, map};
+ghost use Rattle.std.specs.Prelude.{◌≡◌, ◌+◌, ◌<◌, ◌≤◌, ◌++◌, ◌∷◌, IfSome, [], length, map};
+ghost use Rattle.cq_ideal.specs.IdealSlot.{departures_from};
 ghost use Rattle.cq_ideal.specs.Terms.{HaveLeft, fronts, HoldsLists, JudgesAsBefore, AreTold, FirstsHaveLeft, FitTogether};
 
 use crate::limiter::Limiter;
 use crate::queues::Queues;
 use crate::ranks::Ranks;
-use cq_base::{Departure, Room, Slot};
+use cq_base::{Departure, Port, Queued, Room, Slot};
 use cq_rank::Rank;
+
+// The departure of a cell from an output is put at the end of what was sent, if it sent one.
+fn depart(slot: Slot, output: Port, gone: Option<Queued>, sent: &mut Room<Departure>)
+    requires { IfSome gone (λ _. 0 < sent.old.spare) }
+    ensures items { sent.new.items ≡ sent.old.items ++ departures_from slot output (gone ∷ []) }
+    ensures spare { sent.new.spare + length (departures_from slot output (gone ∷ [])) ≡ sent.old.spare }
+{
+    if let Some(queued) = gone {
+        sent.push(Departure {
+            slot,
+            output,
+            queued,
+        });
+    }
+}
 
 /// Each output sends the first cell of its list, or is idle, and its machine is told. It holds that cell no longer.
 #[tactic(auto, unfolding(crate::specs::IdealSlot::departures_in))]
@@ -32,12 +48,6 @@ pub fn send<R: Rank>(
         let gone = queues.pop(output);
         ranks.told(output, gone);
         limiter.sent(output, gone);
-        if let Some(queued) = gone {
-            sent.push(Departure {
-                slot,
-                output,
-                queued,
-            });
-        }
+        depart(slot, output, gone, sent);
     }
 }
