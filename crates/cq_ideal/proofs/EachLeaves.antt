@@ -5,7 +5,7 @@
 use Rattle.cq_ideal.proofs.Terms.{rules, ◌≡◌, ℕ, ◌+◌, Bool, not, true, List, [], ◌∷◌, Option, None, Ok, ap, ⊎_elim, arith, common_steps, ◌==◌, slice_index_or, AllByRecursion, cases_lt, eq-eqb, eqb-true, ne_eqb, Cell, Arrival, Admission, admission, held_after, is_first, mark_after, marks_after, refused, departures_of, IsRunnable, LimitedRan, whole_limited_run, empty_limited, cells_refused, refused_in, AreJudged, AreOfPackets, came_at, all_weaker, filter_none, all_both, Has, all_from_has, all_of_has, has_kept, kept_has, image_has, pair_of_has, each_pair, Machine, ◌⊎◌, length}
 use Rattle.cq_ideal.specs.EachOnce.{EachLeavesOrIsRefused, KeepTheirOutput, LeaveOrAreRefused, RefusesNoneElsewhere}
 use Rattle.cq_ideal.proofs.AtInput.{all_in_order, of_input}
-use Rattle.cq_ideal.proofs.FlowOn.{in_packets}
+use Rattle.cq_ideal.proofs.FlowLaw.{in_packets}
 use Rattle.cq_ideal.proofs.LimitedEnds.{limited_not_more, settled}
 use Rattle.cq_ideal.proofs.Parted.{all_slots}
 use Rattle.cq_ideal.proofs.LimitedRuns.{judged}

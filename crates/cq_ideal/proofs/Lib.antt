@@ -1,6 +1,5 @@
 mod Terms
 pub mod Counting
-pub mod Holding
 pub mod Came
 pub mod Admitted
 pub mod LimitedRuns
@@ -21,6 +20,4 @@ pub mod LastSlot
 pub mod Resting
 pub mod LimitedParts
 pub mod LimitedEnds
-pub mod LimitedLast
 pub mod EachLeaves
-pub mod FlowOn

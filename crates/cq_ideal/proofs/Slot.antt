@@ -5,9 +5,8 @@ use Rattle.cq_ideal.specs.OneSlot.{CanHaveSlot}
 use Rattle.cq_ideal.specs.Taking.{CanTakeIn, HasJudged, HasTakenIn}
 use Rattle.cq_ideal.proofs.Admitted.{admitted_for_ports}
 use Rattle.cq_ideal.proofs.Came.{came_to_ports, arrived_next, own_keys, fit_same}
-use Rattle.cq_ideal.proofs.Holding.{holds_filled}
+use Rattle.cq_ideal.proofs.Waiting.{holds_filled, came_for, counted, length-filled}
 use Rattle.cq_ideal.proofs.Refusals.{each_once}
-use Rattle.cq_ideal.proofs.Waiting.{came_for, counted, length-filled}
 
 -- what a slot leaves once the cells are in the lists
 abbrev pub sent_from : List Machine → IdealState → Sent

@@ -1,8 +1,9 @@
 -- One slot of the ideal switch by its numbers of cells. Each arriving cell is put into one list, so all lists
 -- together get as many cells as arrive, and each list as many as arrive for its output. A list that is not empty
 -- sends one cell. So what waits and what is sent are together what waited and what arrived, and unless nothing waits
--- after the slot fewer cells wait than waited and arrived.
-use Rattle.cq_ideal.proofs.Terms.{common_steps, rules, ◌≡◌, ◌≢◌, ℕ, zero, suc, ◌+◌, ◌-◌, ◌<◌, ◌≤◌, cond, List, [], ◌∷◌, length, map, Option, Some, None, Result, Ok, refl, arith, is_some, slice_index_or, cases_eq, length-map, ext_get_or, get_or-map-range_with_len, length-map-range_with_len, Cell, Queued, TagFault, put, is_for, Machine, count_for, Ranking, ranking, count_to, IdealState, Sent, put_all, filled, fronts, rests, all_told, ideal_sends, ideal_slot, departures_from, departures_in, length_put, set, with_cell, with_came, list_at, cases_Bool, eqb-true, eq-eqb, get_or-set_same, get_or-set_other, length-set}
+-- after the slot fewer cells wait than waited and arrived. The number of cells that an output holds is the length of
+-- its list, and stays that as cells are put into the lists.
+use Rattle.cq_ideal.proofs.Terms.{common_steps, rules, ◌≡◌, ◌≢◌, ℕ, zero, suc, ◌+◌, ◌-◌, ◌<◌, ◌≤◌, cond, List, [], ◌∷◌, length, map, Option, Some, None, Result, Ok, refl, arith, is_some, slice_index_or, cases_eq, length-map, ext_get_or, get_or-map-range_with_len, length-map-range_with_len, Cell, Queued, TagFault, put, is_for, Machine, count_for, Ranking, ranking, count_to, IdealState, Sent, put_all, filled, fronts, rests, all_told, ideal_sends, ideal_slot, departures_from, departures_in, length_put, set, with_cell, with_came, list_at, cases_Bool, eqb-true, eq-eqb, get_or-set_same, get_or-set_other, length-set, get_or, get_or-map, HoldsLists, LimiterView}
 use Rattle.cq_ideal.proofs.FlowStands.{after_input_ok, fits_ok, only_ok, present}
 
 -- ## Numbers that are added over a range
@@ -181,3 +182,13 @@ pub counted : (ms : List Machine) (slot : ℕ) (cells : List (Option Cell)) (old
     ideal_slot ms slot cells old ≡ Ok sent → Counted slot cells old sent
 unfolding ideal_slot
 counted ms slot cells old sent h = search (arith, rules, sends_ok (Counted slot cells old), counted_sent, ranked_cells)
+
+-- the lists with the cells that came, where each output holds as many more as were admitted for it
+pub holds_filled : (came : List (Option Queued)) (cells : List (Option Cell)) (lists lists' : List (List Queued))
+    (first now : LimiterView) → HoldsLists lists first → lists' ≡ filled came lists → now.limits ≡ first.limits →
+    length now.held ≡ length first.limits →
+    ((j : ℕ) → j < length first.limits → get_or now.held j 0 ≡ get_or first.held j 0 + count_for j cells) →
+    ((j : ℕ) → count_to j came ≡ count_for j cells) → HoldsLists lists' now
+holds_filled came cells lists lists' first now holds full limits long more same =
+    let same_at = ext_get_or 0 now.held (map length lists') in
+    search (arith, rules, length-map, same_at, get_or-map, filled_long came lists, length-filled)

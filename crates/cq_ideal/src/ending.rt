@@ -14,7 +14,7 @@ pub fn ideal_run_ends()
 
 /// In the last slot of a run a cell departs. So a run has one slot more than the number of the slot of its last
 /// departure, and none where no cell arrives.
-#[tactic(auto, using(crate::proofs::LimitedLast::last_departs))]
+#[tactic(auto, using(crate::proofs::LastSlot::last_departs))]
 pub fn last_slot_departs()
     ensures { (ms : List Machine) (ports : ℕ) (ranks : List (List ℕ)) (came : List Arrival) (ran : Ran) →
         AllByRecursion (IsForSwitch ms ports) came → whole_ideal_run ms came (empty_ideal ports ranks) ≡ Ok ran →

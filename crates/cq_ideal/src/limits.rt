@@ -38,7 +38,7 @@ pub fn limited_run_is_whole()
 
 /// The cells of one input and class for one output leave it in the order in which they came, and none is lost
 /// but those of the packets that were refused whole, in every run that ends without a tag fault.
-#[tactic(auto, using(crate::proofs::FlowOn::flows_leave_in_packets))]
+#[tactic(auto, using(crate::proofs::FlowLaw::flows_leave_in_packets))]
 pub fn flows_leave_in_packets()
     ensures { FlowsLeaveInPackets }
 {}
