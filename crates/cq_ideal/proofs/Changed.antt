@@ -113,4 +113,8 @@ pub machine_seen : {R : Type 0} (F S : R → List ℕ) (items : List R) (o : ℕ
 machine_seen F S items o {r} {v} inside is view_is M =
     grind (arith, common_steps, get_or-map F items o r (F r), get_or-map M v.fixed o (F r) (first_come []), item_inside)
 
+pub ruleset queue_steps = (seen_at, within_rooms, item_steps)
+
+pub ruleset put_steps = (put_next, at_end, list_steps)
+
 pub ruleset machine_steps = (machine_seen, seen_at, put_next, at_end, item_steps)

@@ -77,3 +77,5 @@ refuses_none_elsewhere limits ms ports openings came ran j runs keep packets is 
     let its = kept_has others (came_at i came) cell (search (arith, rules, has_kept, eq-eqb)) in
     let first = first_of 0 (came_at i came) cell of_packets its.0 in
     search (arith, rules, has_kept others (came_at i came), kept_has, all_of_has, one_output)))))
+
+pub ruleset leave_or_refuse_steps = (each_leaves_or_is_refused, refuses_none_elsewhere)

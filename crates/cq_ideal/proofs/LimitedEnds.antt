@@ -222,4 +222,6 @@ module _ (ms : List Machine) (ports : ℕ) (ranks : List (List ℕ)) (came : Lis
       let all = same_runs [] ms ports ranks came no_limit (enough came) in
       search (arith, rules, common_steps, all_slots came, limited_same_sent [] ms ports ranks)
 
-pub ruleset limited_slots_more = (limited_not_more, limited_whole_fault, limited_same_sent)
+pub ruleset more_slots_steps = (not_more, whole_fault, same_sent)
+
+pub ruleset more_limited_slots_steps = (limited_not_more, limited_whole_fault, limited_same_sent)

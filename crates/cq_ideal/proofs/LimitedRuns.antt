@@ -105,4 +105,4 @@ pub rest_refuses_none : (limits : List (Option ℕ)) (ms : List Machine) (slots 
 rest_refuses_none limits ms slots slot ports marks s after ran =
     search (rules, run_of_none limits ms marks slot _ s (none_in limits marks slots), map-replicate)
 
-pub ruleset where_none_is_refused = (no_limits_refuse_none, no_arrivals_refuse_none, run_of_all, none_refused_in)
+pub ruleset refuse_none_steps = (no_limits_refuse_none, no_arrivals_refuse_none, run_of_all, none_refused_in)

@@ -23,7 +23,7 @@ pub fn last_slot_departs()
 
 /// A run over as many slots as are enough is the whole run, and then slots that send nothing. A tag fault that
 /// is met in any number of slots is the whole run's.
-#[tactic(auto, using(crate::proofs::LimitedEnds::not_more, crate::proofs::LimitedEnds::whole_fault, crate::proofs::LimitedEnds::same_sent))]
+#[tactic(auto, using(crate::proofs::LimitedEnds::more_slots_steps))]
 pub fn more_slots_send_nothing()
     ensures enough { (ms : List Machine) (ports : ℕ) (ranks : List (List ℕ)) (came : List Arrival) →
         slots_of_run ms came (empty_ideal ports ranks) ≤ enough came }

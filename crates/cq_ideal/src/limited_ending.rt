@@ -34,7 +34,7 @@ pub fn limited_run_ends()
 
 /// A run over as many slots as are enough is the whole run, and then slots that send nothing. A tag fault that is met
 /// in any number of slots is the whole run's.
-#[tactic(auto, using(crate::proofs::LimitedEnds::limited_slots_more))]
+#[tactic(auto, using(crate::proofs::LimitedEnds::more_limited_slots_steps))]
 pub fn more_limited_slots_send_nothing()
     ensures enough { (limits : List (Option ℕ)) (ms : List Machine) (ports : ℕ) (ranks : List (List ℕ))
         (came : List Arrival) →

@@ -23,7 +23,7 @@ pub fn whole_packets_are_admitted()
 /// Every packet leaves or is refused, once, in a whole run without a tag fault: of the cells that come to an input
 /// those of some packets leave their outputs, and those of the others are refused, with none left over. And what is
 /// refused is for outputs that have limits.
-#[tactic(auto, using(crate::proofs::EachLeaves::each_leaves_or_is_refused, crate::proofs::EachLeaves::refuses_none_elsewhere))]
+#[tactic(auto, using(crate::proofs::EachLeaves::leave_or_refuse_steps))]
 pub fn each_packet_leaves_or_is_refused()
     ensures each { EachLeavesOrIsRefused }
     ensures nowhere_else { RefusesNoneElsewhere }
@@ -45,7 +45,7 @@ pub fn flows_leave_in_packets()
 
 /// Where no output has a limit and no mark is up nothing is refused, nor where no cell arrives. So a run in
 /// which no output has a limit is the run that it was before there were limits.
-#[tactic(auto, using(crate::proofs::LimitedRuns::where_none_is_refused))]
+#[tactic(auto, using(crate::proofs::LimitedRuns::refuse_none_steps))]
 pub fn nothing_is_refused_without_limits()
     ensures no_limits { (limits : List (Option ℕ)) (ports : ℕ) (cells : List (Option Cell)) →
         NoLimits limits → RefusesNone limits (marks_down ports) cells }

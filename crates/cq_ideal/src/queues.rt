@@ -36,7 +36,7 @@ fn none_wait(queues: &[Queue]) -> bool
     queues.iter().all(|queue| queue.is_empty())
 }
 
-#[tactic(auto, using(crate::proofs::Changed::seen_at, crate::proofs::Changed::within_rooms, crate::proofs::Changed::item_steps))]
+#[tactic(auto, using(crate::proofs::Changed::queue_steps))]
 impl Queues {
     /// No cell waits, and the list of each output can hold so many. The error is want of memory.
     pub fn new(alloc: Global, rooms: &[u64]) -> Result<Queues, NoMemory>

@@ -60,7 +60,7 @@ fn numbers_of<R: Rank>(alloc: Global, rank: &R) -> Result<Sequence<u128>, NoMemo
 }
 
 // These become the numbers of a machine's state.
-#[tactic(auto, using(crate::proofs::Changed::put_next, crate::proofs::Changed::at_end, crate::proofs::Changed::list_steps))]
+#[tactic(auto, using(crate::proofs::Changed::put_steps))]
 fn put_numbers<R: Rank>(rank: &mut R, numbers: &[u128])
     requires { length numbers.now ≡ (R.machine (R.fixed rank.old)).size }
     ensures fixed { R.fixed rank.new ≡ R.fixed rank.old }
