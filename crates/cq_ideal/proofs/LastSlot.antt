@@ -59,15 +59,7 @@ counted_in ports came slot c = search (arith, rules, counted_at, is_shown c.inpu
 
 -- ## One slot
 
--- where a cell waits or comes one departs
-one_departs : (ms : List Machine) (slot j : ℕ) (cells : List (Option Cell)) (traffic : List (List (Option Cell)))
-    (s : IdealState) (ran : Ran) → ideal_run ms slot (cells ∷ traffic) s ≡ Ok ran → j < length s.lists →
-    0 < length (slice_index_or s.lists j []) + count_for j cells → slot + 1 ≤ slots_of (departures_of slot ran.gone)
-unfolding departures_of departures_in
-one_departs ms slot j cells traffic s ran is inside some =
-    let p = first_slot ms slot cells traffic s ran is in
-    search (arith, rules, slots_of-append, slots_in slot 0, (counted ms slot cells s p.sent p.ran_slot).departs j)
-
+-- where a cell waits one departs
 one_of_waiting : (ms : List Machine) (slot : ℕ) (traffic : List (List (Option Cell))) (s : IdealState) (ran : Ran) →
     0 < length ran.gone → 0 < waiting s.lists → ideal_run ms slot traffic s ≡ Ok ran →
     slot + 1 ≤ slots_of (departures_of slot ran.gone)
@@ -113,15 +105,15 @@ module _ (ms : List Machine) (ports : ℕ) (came : List Arrival) (all : AllByRec
   departs_at_end : (n k slot : ℕ) (s : IdealState) (ran : Ran) → length s.lists ≡ ports → end_of came ≡ slot + k + 1 →
       k < n → ideal_run ms slot (arriving_from came slot n) s ≡ Ok ran →
       end_of came ≤ slots_of (departures_of slot ran.gone)
-  unfolding departures_of
+  unfolding departures_of departures_in arriving_from
   departs_at_end zero k slot s ran many e lt is = absurd (omega arith)
   departs_at_end (suc n) k slot s ran many e lt is =
-      let run = ap (λ l. ideal_run ms slot l s) (sym (arriving_here came slot n)) ∙ is in
-      let p = first_slot ms slot (arriving came slot) (arriving_from came (slot + 1) n) s ran run in
+      let p = first_slot ms slot (arriving came slot) (arriving_from came (slot + 1) n) s ran is in
       let count = counted ms slot (arriving came slot) s p.sent p.ran_slot in
       ⊎_elim (λ some. search (arith, rules, departs_at_end n (k - 1) (slot + 1) p.sent.after p.second, slots_of-append))
       (λ now. let c = comes ms ports came slot all (omega arith) in
-      search (arith, rules, one_departs ms slot c.cell.output, counted_in ports came slot c)) (cases_lt 0 k)
+      search (arith, rules, slots_of-append, slots_in slot 0, count.departs c.cell.output, counted_in ports came slot c))
+      (cases_lt 0 k)
 
 pub last_departs : (ms : List Machine) (ports : ℕ) (ranks : List (List ℕ)) (came : List Arrival) →
     AllByRecursion (IsForSwitch ms ports) came → (ran : Ran) →

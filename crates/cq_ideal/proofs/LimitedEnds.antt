@@ -1,11 +1,11 @@
 -- Where the run of the ideal switch ends, where outputs have limits: as many slots as are enough end with empty lists,
 -- so there is a least number of slots after which no cell is to come and none waits, and from there on the slots send
 -- nothing. A switch without limits is one with limits that refuses nothing, so its run ends where that one's does.
-use Rattle.cq_ideal.proofs.Terms.{rules, ◌≡◌, ℕ, ◌+◌, ◌-◌, ◌<◌, ◌≤◌, Bool, true, false, List, [], ◌++◌, length, Option, Result, Ok, Err, refl, sym, ap, ◌∙◌, arith, common_steps, flat_map-append, IsOkAnd, position_or_len, range_with_len, cases_lt, append-nil, get_or-range_with_len, length-range_with_len, fails_before_first, passes_at_first, prefix_len-le-length, Arrival, Cell, end_of, enough, traffic_of, TagFault, Machine, Marked, NoLimits, marked, marks_down, IdealEnds, arriving_from, first_slots, is_over, slots_of_run, whole_ideal_run, IsEmptyIdeal, Ran, departures_of, departures_ran, empty_ideal, ideal_run, IdealState, LimitedIdealEnds, departures_limited, slots_of_limited_run, whole_limited_run, LimitedRan, empty_limited, limited_run, unlimited, refused_in, and_from, le-leb, list_all-from_AllPass, eq-eqb}
-use Rattle.cq_ideal.proofs.Parted.{all_slots, none_waits, over_from_test, arriving_length, arriving_parts, departures_append, sends_long}
-use Rattle.cq_ideal.proofs.EnoughSlots.{no_more, limited_empty_at_end}
+use Rattle.cq_ideal.proofs.Terms.{rules, ◌≡◌, ℕ, ◌+◌, ◌-◌, ◌<◌, ◌≤◌, Bool, true, false, List, [], ◌∷◌, ◌++◌, length, Option, Result, Ok, Err, refl, sym, ap, ◌∙◌, arith, common_steps, flat_map-append, IsOkAnd, position_or_len, range_with_len, cases_lt, append-nil, get_or-range_with_len, length-range_with_len, fails_before_first, passes_at_first, prefix_len-le-length, Arrival, Cell, end_of, enough, traffic_of, TagFault, Machine, Marked, NoLimits, marked, marks_down, IdealEnds, arriving_from, first_slots, is_over, slots_of_run, whole_ideal_run, IsEmptyIdeal, Ran, departures_of, departures_ran, empty_ideal, ideal_run, IdealState, LimitedIdealEnds, departures_limited, slots_of_limited_run, whole_limited_run, LimitedRan, empty_limited, limited_run, unlimited, refused_in, and_from, le-leb, list_all-from_AllPass, eq-eqb}
+use Rattle.cq_ideal.proofs.Parted.{all_slots, none_waits, over_from_test, arriving_length, arriving_parts, departures_append}
+use Rattle.cq_ideal.proofs.EnoughSlots.{limited_empty_at_end}
 use Rattle.cq_ideal.proofs.LimitedParts.{limited_going_on, limited_parts, limited_stays_empty}
-use Rattle.cq_ideal.proofs.LimitedRuns.{as_limited, is_run_of, judged, none_refused_in, none_refused_ran, run_of_all, run_of_none}
+use Rattle.cq_ideal.proofs.LimitedRuns.{as_limited, none_refused_in, none_refused_ran, run_of_all, run_of_none}
 
 -- the run without what is said of limits
 abbrev pub state_ran : LimitedRan → Ran
@@ -24,9 +24,9 @@ ran_from fault s e = grind (arith, common_steps)
 pub gone_long : (limits : List (Option ℕ)) (ms : List Machine) (slot : ℕ) (traffic : List (List (Option Cell)))
     (old : Marked IdealState) (ran : LimitedRan) → limited_run limits ms slot traffic old ≡ Ok ran →
     length ran.gone ≡ length traffic
-gone_long limits ms slot traffic old ran is =
-    let many = no_more limits old.marks traffic ran.admissions (judged limits ms slot traffic old ran is) 0 in
-    search (arith, rules, sends_long, is_run_of limits ms slot traffic old ran is, many)
+unfolding limited_run
+gone_long limits ms slot [] old ran is = grind (arith, common_steps)
+gone_long limits ms slot (cells ∷ traffic) old ran is = search (arith, rules, gone_long limits ms (slot + 1) traffic)
 
 module _ (limits : List (Option ℕ)) (ms : List Machine) (ports : ℕ) (ranks : List (List ℕ)) (came : List Arrival) where
   -- the run over the first n slots

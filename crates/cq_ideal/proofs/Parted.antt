@@ -62,13 +62,6 @@ abbrev pub next_slot : List Machine → ℕ → List (List (Option Cell)) → Re
 next_slot ms slot traffic x =
     elim x [ Ok sent ↦ then_ran sent.gone (ideal_run ms slot traffic sent.after) | Err fault ↦ Err fault ]
 
--- a run sends in as many slots as it has
-pub sends_long : (ms : List Machine) (slot : ℕ) (traffic : List (List (Option Cell))) (s : IdealState) (ran : Ran) →
-    ideal_run ms slot traffic s ≡ Ok ran → length ran.gone ≡ length traffic
-unfolding ideal_run
-sends_long ms slot [] s ran e = grind (arith, common_steps, only_ok)
-sends_long ms slot (cells ∷ traffic) s ran e = search (arith, rules, first_slot, sends_long ms (slot + 1) traffic)
-
 -- ## What is sent
 
 pub departures_append : (slot b : ℕ) (xs ys : List (List (Option Queued))) → b ≡ slot + length xs →

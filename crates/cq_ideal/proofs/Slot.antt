@@ -36,12 +36,6 @@ seen ranks queues limiter next stopped =
       stopped = stopped;
     }
 
--- what a slot leaves once the cells are in the lists
-abbrev pub limited_sent_from : List Bool → List (Option Cell) → List Machine → IdealState → LimitedSent
-limited_sent_from marks cells ms s =
-    let sent = sent_from ms s in
-    record { admission = by_marks marks cells; gone = sent.gone; after = marked marks sent.after }
-
 -- ## What is known where a slot begins
 
 pub record Begun (M : List ℕ → Machine) (slot : ℕ) (cells : List (Option Cell)) (v : IdealSwitch) (ranks : RanksView)
@@ -62,7 +56,8 @@ pub record Placed (M : List ℕ → Machine) (slot : ℕ) (cells : List (Option 
   pub holds : HoldsLists queues_new.lists judged
   pub arrived : AllArrivedBefore (slot + 1) (rests queues_new.lists)
   pub limited_ok : limited_slot v.limits (map M v.fixed) slot cells (marked_state v)
-      ≡ Ok (limited_sent_from judged.marks cells (map M ranks_new.fixed) (state_of ranks_new queues_new))
+      ≡ with_admission (by_marks judged.marks cells)
+      (Ok (sent_from (map M ranks_new.fixed) (state_of ranks_new queues_new)))
   pub spare : (new : IdealSwitch) → AreWithinRooms queues → new.rooms ≡ queues.rooms →
       new.state ≡ (sent_from (map M ranks_new.fixed) (state_of ranks_new queues_new)).after →
       SpareFollows (admitted judged.marks cells) (fronts queues_new.lists) v new
