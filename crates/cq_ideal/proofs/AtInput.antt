@@ -4,9 +4,9 @@
 -- the arrivals at one input rise in their slots, so where the first is taken off the list every later slot shows the
 -- same: from a slot on the cells that come to an input are its arrivals of these slots in their order. And all cells
 -- of a flow stand at the place of its input, so what comes of a flow is what was to come of it, in its order.
-use Rattle.cq_ideal.proofs.Terms.{◌-◌, cond, cond-false, filter_all, all_from_has, le-ltb, rules, common_steps, ◌≡◌, ℕ, zero, suc, ◌+◌, ◌<◌, List, [], ◌∷◌, Option, refl, ⊎_elim, arith, AllByRecursion, cases_lt, get_or_past, unwrap_or-slice_get, Cell, Arrival, enough, traffic_of, arrival_at, RiseByInput, came_in_flow, came_at, cells_at, most_ports, all_weaker, IsRunnable, IsForSwitch, Machine, ◌≤◌, not, ◌++◌, Bool, None, map, ◌==◌, nat_lt, filter, cond_both, cases_eq, eq-eqb, lt-ltb, get_or-map-range_with_len, arriving, arriving_at, end_of, all_by, arriving_from, all_made, Some, range_with_len, and_parts, eqb-true, cond-true, filter-append, Admission, admitted, mark_at, refused, where_up, refused_in, AreJudged}
+use Rattle.cq_ideal.proofs.Terms.{◌-◌, option_to_list, cond, cond-false, filter_all, all_from_has, le-ltb, rules, common_steps, ◌≡◌, ℕ, zero, suc, ◌+◌, ◌<◌, List, [], ◌∷◌, Option, refl, ⊎_elim, arith, AllByRecursion, cases_lt, get_or_past, unwrap_or-slice_get, Cell, Arrival, enough, traffic_of, arrival_at, RiseByInput, came_in_flow, came_at, cells_at, most_ports, all_weaker, IsRunnable, IsForSwitch, Machine, ◌≤◌, not, ◌++◌, Bool, None, map, ◌==◌, nat_lt, filter, cond_both, cases_eq, eq-eqb, lt-ltb, get_or-map-range_with_len, arriving, arriving_at, end_of, all_by, arriving_from, all_made, Some, range_with_len, and_parts, eqb-true, cond-true, filter-append, Admission, admitted, mark_at, refused, where_up, refused_in, AreJudged}
 use Rattle.cq_ideal.proofs.Parted.{all_slots}
-use Rattle.cq_ideal.proofs.FlowCount.{cell_listed, found, found_none, length-arriving, listed_same, before_end, found_here, listed, other_input, other_slot}
+use Rattle.cq_ideal.proofs.FlowCount.{found, found_none, length-arriving, listed_same, before_end, found_here, listed, other_input, other_slot}
 use Rattle.cq_ideal.proofs.FlowStands.{present, is_of_flow, of_flow}
 use Rattle.cq_ideal.proofs.FlowRun.{flow_came}
 use Rattle.cq_ideal.proofs.Admitted.{its_marks}
@@ -52,7 +52,7 @@ module _ (i : ℕ) where
   -- what is refused of it from this input on is the cell at its place, and nothing where that place is before
   refused_at_place : (a : ℕ) (marks : List Bool) (cells : List (Option Cell)) → StandAt a cells →
       of_input (refused marks cells)
-      ≡ cond (nat_lt i a) [] (cell_listed (where_up (mark_at marks (i - a)) (arrival_at cells (i - a))))
+      ≡ cond (nat_lt i a) [] (option_to_list (where_up (mark_at marks (i - a)) (arrival_at cells (i - a))))
   refused_at_place a (mark ∷ marks) (cell ∷ cells) at =
       search (arith, rules, cond-true, cond-false, of_input, refused, eq-eqb, refused_at_place (a + 1) marks)
   refused_at_place a marks cells at = search (arith, rules)
@@ -117,7 +117,7 @@ pub comes_shown : (i : ℕ) (came : List Arrival) → IsShown came i → (from s
 unfolding arriving_from found
 comes_shown i came shown from zero rise all = grind (arith, common_steps, all_past i, before_end came, all_weaker)
 comes_shown i came shown from (suc n) rise all =
-    search (arith, rules, found_first, listed, cell_listed, comes_shown i came shown (from + 1) n rise)
+    search (arith, rules, found_first, listed, option_to_list, comes_shown i came shown (from + 1) n rise)
 
 pub comes_from : (i : ℕ) → i < most_ports → (came : List Arrival) (from slots : ℕ) → RiseByInput came →
     end_of came ≤ from + slots → cells_at i (arriving_from came from slots) ≡ cells_of (rest_of from (line_at i came))
@@ -140,7 +140,7 @@ come_in_order i inside came rise = all_shown i came (is_shown i inside came) ris
 module _ (i c j : ℕ) where
   -- what comes of it from this input on stands at the place of its input, and is nothing where that place is before
   at_place : (a : ℕ) (cells : List (Option Cell)) → StandAt a cells → of_flow i c j (present cells)
-      ≡ cond (nat_lt i a) [] (of_flow i c j (cell_listed (arrival_at cells (i - a))))
+      ≡ cond (nat_lt i a) [] (of_flow i c j (option_to_list (arrival_at cells (i - a))))
   unfolding of_flow
   at_place a [] at = grind (arith, common_steps)
   at_place a (cell ∷ cells) at = grind (arith, common_steps, is_of_flow, at_place (a + 1) cells)

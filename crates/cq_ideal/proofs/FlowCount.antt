@@ -4,26 +4,21 @@
 -- at its inputs, so each arrival adds its cell at most to what comes, and what comes weighs no more than the
 -- arrivals, whatever a cell weighs. From the end of the arrivals on none comes. So a run of as many slots as are
 -- enough has one slot for each cell after the last of them came.
-use Rattle.cq_ideal.proofs.Terms.{None, and_left, ne_eqb, cond-false, replicate, length-replicate, fill_by_all, rules, ◌≡◌, ℕ, zero, suc, ◌+◌, ◌<◌, ◌≤◌, List, [], ◌∷◌, length, map, drop, refl, sym, ap, arith, common_steps, AllByRecursion, range_with_len, length-map-range_with_len, Arrival, arriving_at, arriving, end_of, enough, traffic_of, all_weaker, Cell, Option, ◌∙◌, most_ports, ◌++◌, Some, cons_option, eq-eqb, and_from, and_right, cond-true, none_had, all_of_has}
+use Rattle.cq_ideal.proofs.Terms.{None, option_to_list, and_left, ne_eqb, cond-false, replicate, length-replicate, fill_by_all, rules, ◌≡◌, ℕ, zero, suc, ◌+◌, ◌<◌, ◌≤◌, List, [], ◌∷◌, length, map, drop, refl, sym, ap, arith, common_steps, AllByRecursion, range_with_len, length-map-range_with_len, Arrival, arriving_at, arriving, end_of, enough, traffic_of, all_weaker, Cell, Option, ◌∙◌, most_ports, ◌++◌, cons_option, eq-eqb, and_from, and_right, cond-true, none_had, all_of_has}
 use Rattle.cq_ideal.proofs.Changed.{same_at}
 use Rattle.cq_ideal.proofs.FlowStands.{present}
 use Rattle.cq_ideal.proofs.FlowRun.{come_count}
 use Rattle.cq_ideal.proofs.Waiting.{total, total_more, total_none, total_same}
 
--- the cell, as a list
-abbrev pub cell_listed : Option Cell → List Cell
-cell_listed None = []
-cell_listed (Some cell) = cell ∷ []
-
-pub listed : (o : Option Cell) (cells : List Cell) → cons_option o cells ≡ cell_listed o ++ cells
+pub listed : (o : Option Cell) (cells : List Cell) → cons_option o cells ≡ option_to_list o ++ cells
 listed cell cells = grind (arith, common_steps)
 
-pub listed_same : (o p : Option Cell) → cell_listed o ≡ cell_listed p → o ≡ p
+pub listed_same : (o p : Option Cell) → option_to_list o ≡ option_to_list p → o ≡ p
 listed_same cell other e = grind (arith, common_steps)
 
 -- the cell that arrives in a slot at an input, if one does
 unfoldable pub found : List Arrival → ℕ → ℕ → List Cell
-found came t k = cell_listed (arriving_at came t k)
+found came t k = option_to_list (arriving_at came t k)
 
 pub found_here : (a : Arrival) (came : List Arrival) (t k : ℕ) → a.slot ≡ t → a.cell.id.input ≡ k →
     found (a ∷ came) t k ≡ a.cell ∷ []
@@ -76,7 +71,7 @@ all_present came t P a (suc n) f = search (rules, f a, all_present came t P (a +
 -- the cells of a slot weigh what they weigh one by one, and arrivals no less than their cells
 module _ (of : List Cell → ℕ) (here : List (Option Cell) → ℕ) (bound : List Arrival → ℕ) (none : of [] ≡ 0)
     (empty : here [] ≡ 0)
-    (more : (o : Option Cell) (cells : List (Option Cell)) → here (o ∷ cells) ≡ of (cell_listed o) + here cells)
+    (more : (o : Option Cell) (cells : List (Option Cell)) → here (o ∷ cells) ≡ of (option_to_list o) + here cells)
     (adds : (a : Arrival) (came : List Arrival) → bound came + of (a.cell ∷ []) ≤ bound (a ∷ came)) where
   in_places : (came : List Arrival) (t a n : ℕ) →
       here (map (arriving_at came t) (range_with_len a n)) ≡ total (λ k. of (found came t k)) a n
