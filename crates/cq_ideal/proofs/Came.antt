@@ -1,9 +1,8 @@
 -- What ranking gives, and how it is taken in. Each cell that came has the slot, the input at which it came, and is the
--- one that arrived there. So keys are apart: what waits arrived before the next slot, and no cell that comes has the
--- key of one that waits, nor that of another that comes; and what is left when the outputs have sent arrived before
--- the slot that follows. Where cells are ranked one after another, what came so far stands in front of the ranking of
--- the others. The definition puts them all into the lists; the code puts one after another: putting the first cell,
--- and then the others, is putting them all, and where a list has room for all of them it has for each in turn.
+-- one that arrived there. So what is left when the outputs have sent arrived before the slot that follows. Where cells
+-- are ranked one after another, what came so far stands in front of the ranking of the others. The definition puts
+-- them all into the lists; the code puts one after another: putting the first cell, and then the others, is putting
+-- them all, and where a list has room for all of them it has for each in turn.
 use Rattle.cq_ideal.proofs.Terms.{rules, ◌≡◌, ℕ, zero, suc, ◌+◌, List, [], ◌∷◌, length, get_or, Option, Some, None, Result, Ok, arith, length-set, common_steps, same_Some, Cell, Queued, TagFault, arrival_at, Machine, CameToPorts, Ranking, ranking, after_input, AreForPorts, ◌≤◌, replicate, refl, ◌<◌, AllByRecursion, append_assoc, cond_both, cases_lt, other_key_newest, filled, put_all, rests, AllArrivedBefore, HaveOwnKeys, all_put, get_or-map, get_or_past, ◌++◌, map, set, take, drop, Err, get_or-set_other, ext_get_or, get_or-drop, length-drop, length-replicate, take-append-drop, take_more_set, unwrap_or-slice_get, RanksView, after_inputs, length-map, drop_more, CanPut, QueuesView, FitTogether, HaveRoomFor, with_came, length_put, all_weaker, most_ports}
 use Rattle.cq_ideal.proofs.FlowStands.{after_input_ok, fits_ok}
 use Rattle.cq_ideal.proofs.Waiting.{filled_at, filled_next, length-filled, filled_none, one_put}
@@ -29,21 +28,11 @@ ranks_kept ms slot i [] ranks r h = grind (arith, common_steps)
 ranks_kept ms slot i (cell ∷ cells) ranks r h =
     search (arith, rules, after_input_ok, fits_ok, ranks_kept ms slot (i + 1) cells, length-set)
 
--- so they come to the ports that they arrive at, for the ports that they are for
-pub came_to_ports : (ms : List Machine) (slot ports class_count : ℕ) (cells : List (Option Cell))
-    (ranks : List (List ℕ)) (r : Ranking) → ranking ms slot 0 cells ranks ≡ Ok r →
-    AreForPorts ports class_count cells → length r.came ≡ most_ports → CameToPorts ports r.came
-came_to_ports ms slot ports class_count cells ranks r h are places =
-    grind (arith, common_steps, are.inputs, came_from ms slot 0 cells ranks r h, are.outputs)
-
--- ## Keys that are apart
+-- ## Before the next slot
 
 module _ (ms : List Machine) (slot : ℕ) (cells : List (Option Cell)) (ranks : List (List ℕ)) (r : Ranking)
     (ok : ranking ms slot 0 cells ranks ≡ Ok r) (lists : List (List Queued))
     (arrived : AllArrivedBefore slot lists) where
-  pub own_keys : HaveOwnKeys r.came lists
-  own_keys = search (arith, rules, other_key_newest, came_from ms slot 0 cells ranks r ok)
-
   all_put_all : (P : Queued → Type 0) (j : ℕ) (came : List (Option Queued)) (xs : List Queued) →
       ((k : ℕ) (q : Queued) → get_or came k None ≡ Some q → P q) → AllByRecursion P xs →
       AllByRecursion P (put_all j came xs)

@@ -1,10 +1,10 @@
 -- A slot is what the parts do one after the other: the arrivals are judged, those that are admitted are ranked and go
 -- into the lists, and then the outputs send.
-use Rattle.cq_ideal.proofs.Terms.{◌≡◌, ℕ, ◌+◌, ◌<◌, ◌^◌, Bool, false, List, length, map, get_or, Option, Ok, refl, ap, ◌∙◌, arith, common_steps, get_or-map, Cell, Queued, Departure, RoomView, Machine, class_count, Admission, admission, admitted, marked, refused, IdealSwitch, SpareFollows, marked_state, IdealState, Sent, ideal_slot, ideal_sends, filled, fronts, rests, all_told, LimitedSent, limited_slot, with_admission, HoldsLists, LimiterView, AreParts, AreWithinRooms, CameToPorts, FitTogether, RanksView, QueuesView, AllArrivedBefore, HaveOwnKeys, HaveRoomFor, state_of, AreForPorts, Ranking, ranking, rules}
+use Rattle.cq_ideal.proofs.Terms.{◌≡◌, ℕ, ◌+◌, ◌<◌, ◌^◌, Bool, false, List, length, map, get_or, Option, Ok, refl, ap, ◌∙◌, arith, common_steps, get_or-map, Cell, Queued, Departure, RoomView, Machine, class_count, Admission, admission, admitted, marked, refused, IdealSwitch, SpareFollows, marked_state, IdealState, Sent, ideal_slot, ideal_sends, filled, fronts, rests, all_told, LimitedSent, limited_slot, with_admission, HoldsLists, LimiterView, AreParts, AreWithinRooms, CameToPorts, FitTogether, RanksView, QueuesView, AllArrivedBefore, HaveOwnKeys, HaveRoomFor, state_of, AreForPorts, Ranking, ranking, rules, other_key_newest}
 use Rattle.cq_ideal.specs.OneSlot.{CanHaveSlot}
 use Rattle.cq_ideal.specs.Taking.{CanTakeIn, HasJudged, HasTakenIn}
 use Rattle.cq_ideal.proofs.Admitted.{admitted_for_ports}
-use Rattle.cq_ideal.proofs.Came.{came_to_ports, arrived_next, own_keys, fit_same}
+use Rattle.cq_ideal.proofs.Came.{came_from, arrived_next, fit_same}
 use Rattle.cq_ideal.proofs.Waiting.{holds_filled, came_for, counted, length-filled}
 use Rattle.cq_ideal.proofs.Refusals.{each_once}
 
@@ -96,19 +96,17 @@ module _ {M : List ℕ → Machine} {slot : ℕ} {cells : List (Option Cell)} {v
       abbrev r : Ranking
       r = record { came = came; ranks = ranks_new.states }
 
-      -- the cells come to the ports, the lists have room for them, and each has its own key
-      pub come_to_ports : CameToPorts (length queues.lists) came
-      come_to_ports =
-          came_to_ports (map M ranks.fixed) slot _ (class_count (map M ranks.fixed)) (admitted judged.marks cells) _ r
-          taken.ranked (admitted_for_ports _ _ judged.marks cells (rw known.parts.fit.lists comes)) taken.long
-
-      pub have_room : HaveRoomFor came queues
-      have_room j inside =
-          let count = came_for (map M ranks.fixed) slot (admitted judged.marks cells) ranks.states r taken.ranked j in
-          search (arith, rules, each_once, lists_are)
-
-      pub have_keys : HaveOwnKeys came queues.lists
-      have_keys = search (arith, rules, own_keys (map M ranks.fixed) slot (admitted judged.marks cells) ranks.states r)
+      -- The cells come to the ports, the lists have room for them, and each has its own key: what waits arrived in an
+      -- earlier slot, and no other cell comes at its input.
+      pub can_arrive : CameToPorts (length queues.lists) came × HaveRoomFor came queues × HaveOwnKeys came queues.lists
+      can_arrive =
+          let for = admitted_for_ports _ _ judged.marks cells comes in
+          let from = came_from (map M ranks.fixed) slot 0 (admitted judged.marks cells) ranks.states r taken.ranked in
+          let count = came_for (map M ranks.fixed) slot (admitted judged.marks cells) ranks.states r taken.ranked in (
+            grind (arith, common_steps, known.parts.fit.lists, for.inputs, from, for.outputs),
+            λ j inside. search (arith, rules, each_once, lists_are, count j),
+            search (arith, rules, other_key_newest, from, known.parts.arrived),
+          )
 
       pub placed : (queues_new : QueuesView) → queues_new.lists ≡ filled came queues.lists →
           queues_new.rooms ≡ queues.rooms → ranks_new.fixed ≡ ranks.fixed →

@@ -1,5 +1,5 @@
 use Rattle.cq_ideal.proofs.Terms.{rules, ◌+◌, arith}
-use Rattle.cq_ideal.proofs.Slot.{Begun, can_take_in, come_to_ports, have_keys, have_room, ideal_is, judged_slot, placed, seen}
+use Rattle.cq_ideal.proofs.Slot.{Begun, can_arrive, can_take_in, ideal_is, judged_slot, placed, seen}
 use Rattle.cq_ideal.proofs.ideal.Ideal.slot.Given as given
 use Rattle.cq_ideal.proofs.ideal.Ideal.slot.Goals as goal
 use Rattle.cq_ideal.proofs.ideal.Ideal.slot.Goals.{After-self}
@@ -16,10 +16,7 @@ take_in-requires g c = search (arith, rules, can_take_in, known g (goal.at.take_
 pub arrive-requires : goal.arrive-requires
 arrive-requires g c =
     let begins = known g (goal.at.arrive-requires g c).After-self in
-    let judged = c.take_in.ensures.judged in
-    let taken = c.in_default.ensures.taken in
-    let room = have_room begins judged taken in
-    search (arith, rules, come_to_ports begins judged taken, room, have_keys begins judged taken)
+    search (arith, rules, can_arrive begins c.take_in.ensures.judged c.in_default.ensures.taken)
 
 pub send-requires : goal.send-requires
 send-requires g c =
