@@ -98,14 +98,6 @@ module _ (limits : List (Option ℕ)) (ms : List Machine) (ports : ℕ) (ranks :
     pub sent : departures_of 0 all.gone ≡ departures_of 0 ran.gone
     pub refused : refused_in all.admissions ≡ refused_in ran.admissions
 
-  -- once it is over a run goes on, and sends and refuses nothing
-  more : (n k m : ℕ) (ran : LimitedRan) → m ≡ n + k → run_to n ≡ Ok ran → end_of came ≤ n →
-      IsEmptyIdeal ran.after.state → SameSlots m ran
-  more n k m ran e is le empty =
-      let quiet = limited_stays_empty limits ms came k n ran.after le (none_waits ran.after.state.lists empty) in
-      let many = gone_long limits ms 0 (first_slots came n) _ ran is ∙ arriving_length came 0 n in
-      search (arith, rules, goes_on n k m, departures_append, append-nil (departures_of 0 ran.gone), flat_map-append)
-
   pub limited_found_end : (n : ℕ) (end : Marked IdealState) →
       LimitedIdealEnds limits ms came (empty_limited ports ranks) n end → last ≡ n
   limited_found_end n end y =
@@ -119,8 +111,16 @@ module _ (limits : List (Option ℕ)) (ms : List Machine) (ports : ℕ) (ranks :
   Settled m (Ok ran) = SameSlots m ran
   Settled m (Err fault) = run_to m ≡ Err fault
 
+  -- once it is over a run goes on, and sends and refuses nothing
   pub settled : (m : ℕ) (x : Result LimitedRan TagFault) → last ≤ m → run_to last ≡ x → Settled m x
-  settled m x le is = search (arith, rules, limited_over_at_end, more last (m - last) m, goes_on last (m - last) m)
+  settled m (Err fault) le is = search (arith, rules, goes_on last (m - last) m)
+  settled m (Ok ran) le is =
+      let over = limited_over_at_end ran is in
+      let none = none_waits ran.after.state.lists over.1 in
+      let quiet = limited_stays_empty limits ms came (m - last) last ran.after over.0 none in
+      let many = gone_long limits ms 0 (first_slots came last) _ ran is ∙ arriving_length came 0 last in
+      let on = goes_on last (m - last) m (omega arith) in
+      search (arith, rules, on, departures_append, append-nil (departures_of 0 ran.gone), flat_map-append)
 
   -- a fault in some slots is one of the whole run
   pub limited_whole_fault : (n : ℕ) (fault : TagFault) →
