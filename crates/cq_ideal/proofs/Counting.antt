@@ -1,14 +1,45 @@
--- The walks of a limiter over the inputs. Refused cells are counted one after another: what is counted so far, with
+-- Counts of what is refused. A count over two lists is the sum of the counts over each, so counts add up slot by
+-- slot, output by output. And an arriving cell is admitted or refused by the mark of its input, so it is counted
+-- once. A limiter walks over the inputs. Refused cells are counted one after another: what is counted so far, with
 -- those that are still to be counted, is what is counted in all; and a count grows by one at most with each. Arrivals
 -- are judged one after another: the marks so far, and then those of judging what is left, are those of judging all; and
 -- what the outputs hold so far, with what is still to be admitted, is what they hold at the end.
-
-use Rattle.cq_ideal.proofs.Terms.{filter-append, length-append, rules, ◌≡◌, ◌≢◌, ℕ, zero, suc, ◌+◌, ◌-◌, ◌<◌, ◌≤◌, ◌^◌, eqb, Bool, true, false, cond, List, [], ◌∷◌, ◌++◌, length, drop, get_or, set, Option, Some, None, refl, arith, common_steps, All-from_recursion, drop_all, drop_more, get_or-map, length-map, Cell, arrival_at, Refused, is_first, mark_at, refused, CanCount, HasPorts, LimiterView, where_up, cells_refused, packets_refused, refused_counts, with_cells, with_refused, take, get_or-set_same, get_or-set_other, cases_Bool, eqb-true, eq-eqb, ne_eqb, drop-set-lt, length-set, set-get_or, take_all, append-nil, admitted, mark_after, held_after, marks_after, count_for, ComeToPorts, all_weaker, most_ports, few_kept, option_to_list, append_assoc}
+use Rattle.cq_ideal.proofs.Terms.{drop_more, drop_all, common_steps, ◌≡◌, ℕ, ◌+◌, Bool, List, [], ◌∷◌, ◌++◌, Option, refl, ◌∙◌, append_assoc, arith, enumerate_from, filter_map, option_map, append-nil, length-append, filter-append, Cell, Refused, admitted, refused, count_for, AreAllZero, cells_refused, packets_refused, refused_at, refused_counts, with_refused, rules, ◌≢◌, zero, suc, ◌-◌, ◌<◌, ◌≤◌, ◌^◌, eqb, true, false, cond, length, drop, get_or, set, Some, None, All-from_recursion, get_or-map, length-map, arrival_at, is_first, mark_at, CanCount, HasPorts, LimiterView, where_up, with_cells, take, get_or-set_same, get_or-set_other, cases_Bool, eqb-true, eq-eqb, ne_eqb, drop-set-lt, length-set, set-get_or, take_all, mark_after, held_after, marks_after, ComeToPorts, all_weaker, most_ports, few_kept, option_to_list}
 use Rattle.cq_ideal.specs.Taking.{HasJudged}
-use Rattle.cq_ideal.proofs.Refusals.{zero_from}
 use Rattle.cq_ideal.proofs.Changed.{at_place, changed_to, next_place}
 use Rattle.std.proofs.lemmas.Bool.Decides.{nat_tests}
 use Rattle.cq_ideal.proofs.Came.{from_input, none_beyond}
+
+-- ## Two lists of refused cells
+
+-- the counts from output j on
+abbrev pub counts_from : ℕ → List (Option ℕ) → List Cell → List Refused
+counts_from j limits cells = filter_map (λ at. option_map (refused_at cells at.0) at.1) (enumerate_from j limits)
+
+more_from : (j : ℕ) (limits : List (Option ℕ)) (before now : List Cell) →
+    counts_from j limits (before ++ now) ≡ with_refused now (counts_from j limits before)
+unfolding cells_refused packets_refused
+more_from j [] before now = refl
+more_from j (o ∷ limits) before now =
+    grind (arith, common_steps, filter-append, length-append, more_from (j + 1) limits before now)
+
+pub counts_more : (limits : List (Option ℕ)) (before now : List Cell) →
+    refused_counts limits (before ++ now) ≡ with_refused now (refused_counts limits before)
+unfolding refused_counts
+counts_more limits before now = more_from 0 limits before now
+
+pub zero_from : (j : ℕ) (limits : List (Option ℕ)) → AreAllZero (counts_from j limits [])
+unfolding cells_refused packets_refused
+zero_from j [] = tt
+zero_from j (o ∷ limits) = grind (arith, common_steps, zero_from (j + 1) limits)
+
+-- ## Each cell once
+
+pub each_once : (j : ℕ) (marks : List Bool) (cells : List (Option Cell)) →
+    count_for j cells ≡ count_for j (admitted marks cells) + cells_refused j (refused marks cells)
+unfolding cells_refused
+each_once j (mark ∷ marks) (cell ∷ cells) = grind (arith, common_steps, each_once j marks cells)
+each_once j marks cells = omega arith
 
 -- ## One cell
 

@@ -10,7 +10,6 @@ pub mod FlowLaw
 pub mod FlowRun
 pub mod FlowStands
 pub mod AtInput
-pub mod Refusals
 pub mod Changed
 pub mod Sending
 pub mod Slot

@@ -6,7 +6,7 @@ use Rattle.cq_ideal.specs.Taking.{CanTakeIn, HasJudged, HasTakenIn}
 use Rattle.cq_ideal.proofs.Admitted.{admitted_for_ports}
 use Rattle.cq_ideal.proofs.Came.{came_from, arrived_next, fit_same}
 use Rattle.cq_ideal.proofs.Waiting.{holds_filled, came_for, counted, length-filled}
-use Rattle.cq_ideal.proofs.Refusals.{each_once}
+use Rattle.cq_ideal.proofs.Counting.{each_once}
 
 -- what a slot leaves once the cells are in the lists
 abbrev pub sent_from : List Machine → IdealState → Sent
