@@ -59,7 +59,7 @@ pub other_output : (r : Refused) (cell : Cell) → eqb cell.output r.output ≡ 
 unfolding cells_refused packets_refused
 other_output r cell other = grind (arith, common_steps)
 
-pub ruleset with_cell_steps = (this_output, other_output, nat_tests)
+pub ruleset add_cell_steps = (this_output, other_output, nat_tests)
 
 -- the counts that have room for so many cells more have it for these: no more are counted at an output than there are
 pub counts_fit : (cells : List Cell) (n m : ℕ) (counts : List Refused) → CanCount (n + m) counts → length cells ≤ m →

@@ -44,6 +44,7 @@ impl Model for Limiter {
 }
 
 // Whether an output with this limit, or with none, is full when it holds so many cells.
+#[tactic(auto, using(std::proofs::lemmas::Bool::Decides::nat_tests))]
 fn full(limit: Option<u64>, held: u64) -> bool
     ensures { result ≡ is_full limit held }
 {

@@ -164,7 +164,8 @@ impl<R: Rank> Ranks<R> {
         self.ranks[output as usize].rank(class)
     }
 
-    // What arrives at an input gets its key: a cell's level, and the rank that the output's machine gives it.
+    // A cell that arrives at an input, if one does, gets its key by its level and the rank that the output's machine
+    // gives it.
     fn keyed(
         &mut self,
         slot: Slot,

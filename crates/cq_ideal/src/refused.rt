@@ -41,23 +41,18 @@ pub fn none_refused(alloc: Global, limits: &[Option<u64>]) -> Result<Vec<Refused
     Ok(refused)
 }
 
-// The count of an output, with a refused cell added if it is for that output.
-#[tactic(auto, using(crate::proofs::Counting::with_cell_steps))]
-fn with_cell(count: Refused, cell: Cell) -> Refused
-    requires packets { count.packets + 1 < 2 ^ 64 }
-    requires cells { count.cells + 1 < 2 ^ 64 }
-    ensures { result ≡ with_cells (cell ∷ []) count }
+// A refused cell is added to the count of an output, if it is for that output.
+#[tactic(auto, using(crate::proofs::Counting::add_cell_steps))]
+fn add_cell(count: &mut Refused, cell: Cell)
+    requires packets { count.old.packets + 1 < 2 ^ 64 }
+    requires cells { count.old.cells + 1 < 2 ^ 64 }
+    ensures { count.new ≡ with_cells (cell ∷ []) count.old }
 {
     if count.output != cell.output {
-        return count;
+        return;
     }
-    let first = if cell.id.index == 0 { 1 } else { 0 };
-    Refused {
-        output: count.output,
-        limit: count.limit,
-        packets: count.packets + first,
-        cells: count.cells + 1,
-    }
+    count.packets += if cell.id.index == 0 { 1 } else { 0 };
+    count.cells += 1;
 }
 
 /// A refused cell is added to the count of its output, where that has one: it is a cell more, and a packet more where
@@ -68,6 +63,6 @@ pub fn count_refused(refused: &mut [Refused], cell: Cell)
     ensures { refused.new ≡ with_refused (cell ∷ []) refused.old }
 {
     'outputs: for place in 0..refused.len() {
-        refused[place] = with_cell(refused[place], cell);
+        add_cell(&mut refused[place], cell);
     }
 }
