@@ -4,7 +4,7 @@
 -- those that are still to be counted, is what is counted in all; and a count grows by one at most with each. Arrivals
 -- are judged one after another: the marks so far, and then those of judging what is left, are those of judging all; and
 -- what the outputs hold so far, with what is still to be admitted, is what they hold at the end.
-use Rattle.cq_ideal.proofs.Terms.{drop_more, drop_all, common_steps, ◌≡◌, ℕ, ◌+◌, Bool, List, [], ◌∷◌, ◌++◌, Option, refl, ◌∙◌, append_assoc, arith, enumerate_from, filter_map, option_map, append-nil, length-append, filter-append, Cell, Refused, admitted, refused, count_for, AreAllZero, cells_refused, packets_refused, refused_at, refused_counts, with_refused, rules, ◌≢◌, zero, suc, ◌-◌, ◌<◌, ◌≤◌, ◌^◌, eqb, true, false, cond, length, drop, get_or, set, Some, None, All-from_recursion, get_or-map, length-map, arrival_at, is_first, mark_at, CanCount, HasPorts, LimiterView, where_up, with_cells, take, get_or-set_same, get_or-set_other, cases_Bool, eqb-true, eq-eqb, ne_eqb, drop-set-lt, length-set, set-get_or, take_all, mark_after, held_after, marks_after, ComeToPorts, all_weaker, most_ports, few_kept, option_to_list}
+use Rattle.cq_ideal.proofs.Terms.{drop_more, drop_all, common_steps, ◌≡◌, ℕ, ◌+◌, Bool, List, [], ◌∷◌, ◌++◌, Option, refl, ◌∙◌, append_assoc, arith, enumerate_from, filter_map, option_map, append-nil, length-append, filter-append, Cell, Refused, admitted, refused, count_for, AreAllZero, cells_refused, packets_refused, refused_at, refused_counts, with_refused, rules, ◌≢◌, zero, suc, ◌-◌, ◌<◌, ◌≤◌, ◌^◌, eqb, true, false, cond, length, drop, get_or, set, Some, None, All-from_recursion, get_or-map, length-map, arrival_at, is_first, mark_at, CanCount, HasPorts, LimiterView, where_up, with_cells, take, get_or-set_same, get_or-set_other, cases_Bool, eqb-true, eq-eqb, ne_eqb, drop-set-lt, length-set, set-get_or, take_all, mark_after, held_after, marks_after, ComeToPorts, all_weaker, most_ports, few_kept, option_to_list, take_more_set}
 use Rattle.cq_ideal.specs.Taking.{HasJudged}
 use Rattle.cq_ideal.proofs.Changed.{at_place, changed_to, next_place}
 use Rattle.std.proofs.lemmas.Bool.Decides.{nat_tests}
@@ -150,16 +150,6 @@ pub record Judging (cells : List (Option Cell)) (first : LimiterView) (input : �
   pub few : (j : ℕ) →
       get_or now.held j 0 + count_for j (drop input cells) ≤ get_or first.held j 0 + count_for j cells
 
-one_more : (limits : List (Option ℕ)) (held : List ℕ) (input : ℕ) (marks : List Bool) (cell : Option Cell)
-    (rest : List (Option Cell)) (up : Bool) → up ≡ mark_after limits held (get_or marks input false) cell →
-    input < length marks →
-    take (suc input) (set marks input up) ++ marks_after limits (held_after up held cell)
-    (drop (suc input) (set marks input up)) rest ≡ take input marks ++ marks_after limits held (drop input marks)
-    (cell ∷ rest)
-one_more limits held input [] cell rest up e lt = absurd (omega arith)
-one_more limits held input (mark ∷ marks) cell rest up e lt =
-    grind (arith, common_steps, one_more limits held input marks)
-
 -- what an output holds grows by one where the cell is for it
 raised : (held : List ℕ) (o j : ℕ) → o < length held →
     get_or (set held o (get_or held o 0 + 1)) j 0 ≡ get_or held j 0 + one_if (eqb o j)
@@ -178,7 +168,7 @@ module _ {cells : List (Option Cell)} {first : LimiterView} {input : ℕ} {now :
       after.held ≡ held_after up now.held cell → after.limits ≡ now.limits → after.refused ≡ now.refused →
       Judging cells first (input + 1) after
   judged_next after cell up lt here inside turned marks held limits refused =
-      search (arith, rules, drop-set-lt, drop_more, one_more, length-set, raised)
+      search (arith, rules, drop-set-lt, drop_more, take_more_set, append_assoc, length-set, raised)
 
   -- there is a number to spare for a cell that arrives
   pub one_more_fits : (c : Cell) (most : ℕ) → drop input cells ≡ Some c ∷ drop (input + 1) cells →
