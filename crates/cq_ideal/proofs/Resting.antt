@@ -40,22 +40,16 @@ module _ (ms : List Machine) (n : ℕ) where
       let none = nobody_left (replicate most_ports None) (replicate n []) (λ k q at. cc (none_at most_ports k, at)) in
       cc (ranked_none ms slot 0 most_ports ranks, none, nobody_sends n, nothing_left n)
 
+  -- So many slots end in some rank states: in those of one slot, where a second one changes nothing.
   pub idle_run : (count slot : ℕ) (ranks : List (List ℕ)) → (rested : List (List ℕ))
       × (ideal_run ms slot (replicate count no_arrivals) (empty_ideal n ranks)
       ≡ Ok (nothing_sent count n (empty_ideal n rested)))
+      × ((r : List (List ℕ)) → idled ms n r ≡ r → (0 < count → r ≡ idled ms n ranks) → (count ≡ 0 → r ≡ ranks) →
+      rested ≡ r)
   unfolding ideal_run
-  idle_run zero slot ranks = (ranks, refl)
-  idle_run (suc count) slot ranks = search (rules, next_slot, quiet_slot, idle_run count (slot + 1) (idled ms n ranks))
-
-  -- so many slots are as one, where a second one changes nothing
-  pub rested_run : (count slot : ℕ) (ranks rested : List (List ℕ)) → 0 < count → rested ≡ idled ms n ranks →
-      idled ms n rested ≡ rested →
-      ideal_run ms slot (replicate count no_arrivals) (empty_ideal n ranks)
-      ≡ Ok (nothing_sent count n (empty_ideal n rested))
-  unfolding ideal_run
-  rested_run zero slot ranks rested some is again = absurd (omega arith)
-  rested_run (suc count) slot ranks rested some is again =
-      search (arith, rules, next_slot, quiet_slot, cases_lt 0 count, rested_run count (slot + 1) rested rested)
+  idle_run zero slot ranks = (ranks, refl, λ r again some none. sym (none refl))
+  idle_run (suc count) slot ranks =
+      search (arith, rules, next_slot, quiet_slot, idle_run count (slot + 1) (idled ms n ranks), cases_lt 0 count)
 
 -- ## The machines
 
@@ -111,4 +105,6 @@ pub rested : (M : List ℕ → Machine) (ranks new : RanksView) (queues : Queues
     ideal_run (map M switch.fixed) switch.next (replicate (to - switch.next) no_arrivals) switch.state
     ≡ Ok (nothing_sent (to - switch.next) (length switch.fixed) (state_of new queues))
 rested M ranks new queues switch to fixed state fit empty later states again =
-    grind (arith, common_steps, all_empty switch.state (length switch.fixed), rested_run (map M switch.fixed))
+    let slots = to - switch.next in
+    let idle = idle_run (map M switch.fixed) (length switch.fixed) slots switch.next switch.state.ranks in
+    let is = idle.2 new.states in grind (arith, common_steps, all_empty switch.state (length switch.fixed))
