@@ -8,7 +8,7 @@ use Rattle.cq_ideal.proofs.AtInput.{is_shown}
 use Rattle.cq_ideal.proofs.FlowCount.{found, found_here, listed_same, other_slot}
 use Rattle.cq_ideal.proofs.Parted.{nothing_left, arriving_here, arriving_length, departures_append, first_slot}
 use Rattle.cq_ideal.proofs.FlowStands.{only_ok}
-use Rattle.cq_ideal.proofs.LimitedEnds.{at_ok, cut_at, gone_long, limited_over_at_end, limited_test, not_before, run_to, slots_as_before, state_ran, whole_as}
+use Rattle.cq_ideal.proofs.LimitedEnds.{at_ok, cut_at, gone_long, limited_over_at_end, limited_test, not_before, run_to, slots_as_before, whole_as}
 use Rattle.cq_ideal.proofs.LimitedRuns.{is_run_of}
 use Rattle.cq_ideal.proofs.Waiting.{counted, waiting}
 
@@ -87,8 +87,8 @@ module _ (limits : List (Option ℕ)) (ms : List Machine) (ports : ℕ) (ranks :
       let cut = cut_at limits ms ports ranks came slot slots ran (omega arith) whole in
       let long = gone_long limits ms 0 _ _ cut.first cut.ran_first ∙ arriving_length came 0 slot in
       let more = gone_long limits ms slot _ _ cut.second cut.ran_second ∙ arriving_length came slot (slots - slot) in
-      let here = one_of_waiting ms slot (admitted_in cut.second.admissions) cut.first.after.state (state_ran cut.second)
-      (omega arith) (one_waits slot cut.first (omega arith) le cut.ran_first) (search (arith, rules, is_run_of)) in
+      let waits = one_waits slot cut.first (omega arith) le cut.ran_first in
+      let here = one_of_waiting ms slot _ _ _ (omega arith) waits (is_run_of limits ms slot _ _ _ cut.ran_second) in
       search (arith, rules, departures_append, slots_of-append (departures_of 0 cut.first.gone))
 
   pub limited_slots : slots ≡ max (end_of came) (slots_of (departures_of 0 ran.gone))

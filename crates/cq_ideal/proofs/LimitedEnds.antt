@@ -5,11 +5,7 @@ use Rattle.cq_ideal.proofs.Terms.{rules, ◌≡◌, ℕ, ◌+◌, ◌-◌, ◌<�
 use Rattle.cq_ideal.proofs.Parted.{all_slots, none_waits, over_from_test, arriving_length, arriving_parts, departures_append}
 use Rattle.cq_ideal.proofs.EnoughSlots.{limited_empty_at_end}
 use Rattle.cq_ideal.proofs.LimitedParts.{limited_going_on, limited_parts, limited_stays_empty}
-use Rattle.cq_ideal.proofs.LimitedRuns.{as_limited, none_refused_in, none_refused_ran, run_of_all, run_of_none}
-
--- the run without what is said of limits
-abbrev pub state_ran : LimitedRan → Ran
-state_ran ran = record { gone = ran.gone; after = ran.after.state }
+use Rattle.cq_ideal.proofs.LimitedRuns.{as_limited, none_refused_in, none_refused_ran, run_of_none}
 
 pub limited_test : (came : List Arrival) (n : ℕ) (x : Result LimitedRan TagFault) (s : Marked IdealState) →
     IsOkAnd x (λ ran. ran.after ≡ s) → end_of came ≤ n → IsEmptyIdeal s.state → is_over came n (unlimited x) ≡ true
@@ -52,20 +48,17 @@ module _ (limits : List (Option ℕ)) (ms : List Machine) (ports : ℕ) (ranks :
   least : (m : ℕ) → over m ≡ true → last ≤ m
   least m is = grind (arith, common_steps, cases_lt m last, not_before m)
 
-  over_at_last : last < enough came → over last ≡ true
-  unfolding slots_of_limited_run
-  over_at_last lt =
-      let passes = passes_at_first over (range_with_len 0 (enough came)) 0 in
-      search (arith, rules, length-range_with_len, passes, get_or-range_with_len)
-
   -- what is known where the run of so many slots meets no fault
   pub limited_over_at_end : (ran : LimitedRan) → run_to last ≡ Ok ran →
       (end_of came ≤ last) × IsEmptyIdeal ran.after.state
-  unfolding enough
+  unfolding enough slots_of_limited_run
   limited_over_at_end ran is =
       let all = limited_empty_at_end limits ms ports ranks came in
       let same = all_slots came in
-      grind (arith, common_steps, over_from_test came last (state_ran ran), over_at_last, limited_not_more)
+      let passes = passes_at_first over (range_with_len 0 (enough came)) 0 in
+      let at = get_or-range_with_len 0 (enough came) last 0 in
+      let long = length-range_with_len 0 (enough came) in
+      grind (arith, common_steps, over_from_test came last ran, limited_not_more)
 
   pub at_ok : (x : Result LimitedRan TagFault) (ran : LimitedRan) → x ≡ Ok ran → IsOkAnd x (λ r. r.after ≡ ran.after)
   at_ok x ran is = grind (arith, common_steps)
@@ -142,7 +135,7 @@ module _ (limits : List (Option ℕ)) (ms : List Machine) (ports : ℕ) (ranks :
     (none : NoLimits limits) where
   same_runs : (n : ℕ) → unlimited (limited_run limits ms 0 (first_slots came n) (empty_limited ports ranks))
       ≡ ideal_run ms 0 (first_slots came n) (empty_ideal ports ranks)
-  same_runs n = grind (arith, common_steps, run_of_all, none_refused_in)
+  same_runs n = grind (arith, common_steps, run_of_none, none_refused_in)
 
   pub slots_as_before : slots_of_limited_run limits ms came (empty_limited ports ranks)
       ≡ slots_of_run ms came (empty_ideal ports ranks)

@@ -81,11 +81,6 @@ module _ (limits : List (Option ℕ)) (ms : List Machine) where
     run_of_none slot [] s none = refl
     run_of_none slot (cells ∷ traffic) s none = search (arith, rules, run_of_none (slot + 1) traffic)
 
-    pub run_of_all : (slot : ℕ) (traffic : List (List (Option Cell))) (s : IdealState) →
-        AllByRecursion (RefusesNone limits marks) traffic →
-        unlimited (limited_run limits ms slot traffic (marked marks s)) ≡ ideal_run ms slot traffic s
-    run_of_all slot traffic s none = grind (arith, common_steps, run_of_none slot traffic s none)
-
   pub none_refused_in : (ports : ℕ) (traffic : List (List (Option Cell))) → NoLimits limits →
       AllByRecursion (RefusesNone limits (marks_down ports)) traffic
   none_refused_in ports traffic none = search (arith, rules, all_from_has, no_limits_refuse_none)
@@ -105,4 +100,4 @@ pub rest_refuses_none : (limits : List (Option ℕ)) (ms : List Machine) (slots 
 rest_refuses_none limits ms slots slot ports marks s after ran =
     search (rules, run_of_none limits ms marks slot _ s (none_in limits marks slots), map-replicate)
 
-pub ruleset refuse_none_steps = (no_limits_refuse_none, no_arrivals_refuse_none, run_of_all, none_refused_in)
+pub ruleset refuse_none_steps = (no_limits_refuse_none, no_arrivals_refuse_none, run_of_none, none_refused_in, common_steps)
