@@ -3,7 +3,7 @@
 -- are ranked one after another, what came so far stands in front of the ranking of the others. The definition puts
 -- them all into the lists; the code puts one after another: putting the first cell, and then the others, is putting
 -- them all, and where a list has room for all of them it has for each in turn.
-use Rattle.cq_ideal.proofs.Terms.{rules, ◌≡◌, ℕ, zero, suc, ◌+◌, List, [], ◌∷◌, length, get_or, Option, Some, None, Result, Ok, arith, length-set, common_steps, same_Some, Cell, Queued, TagFault, arrival_at, Machine, CameToPorts, Ranking, ranking, after_input, AreForPorts, ◌≤◌, replicate, refl, ◌<◌, AllByRecursion, append_assoc, cond_both, cases_lt, other_key_newest, filled, put_all, rests, AllArrivedBefore, HaveOwnKeys, all_put, get_or-map, get_or_past, ◌++◌, map, set, take, drop, Err, get_or-set_other, ext_get_or, get_or-drop, length-drop, length-replicate, take-append-drop, take_more_set, unwrap_or-slice_get, RanksView, after_inputs, length-map, drop_more, CanPut, QueuesView, FitTogether, HaveRoomFor, with_came, length_put, all_weaker, most_ports}
+use Rattle.cq_ideal.proofs.Terms.{rules, ◌≡◌, ℕ, zero, suc, ◌+◌, List, [], ◌∷◌, length, get_or, Option, Some, None, Result, Ok, arith, length-set, common_steps, same_Some, Cell, Queued, TagFault, arrival_at, Machine, CameToPorts, Ranking, ranking, after_input, AreForPorts, ◌≤◌, replicate, refl, ◌<◌, AllByRecursion, append_assoc, cond_both, cases_lt, filled, put_all, rests, AllArrivedBefore, ArrivedBefore, list_at, HaveOwnKeys, all_put, get_or-map, get_or_past, ◌++◌, map, set, take, drop, Err, get_or-set_other, ext_get_or, get_or-drop, length-drop, length-replicate, take-append-drop, take_more_set, unwrap_or-slice_get, RanksView, after_inputs, length-map, drop_more, CanPut, QueuesView, FitTogether, HaveRoomFor, with_came, length_put, all_weaker, most_ports}
 use Rattle.cq_ideal.proofs.FlowStands.{after_input_ok, fits_ok}
 use Rattle.cq_ideal.proofs.Waiting.{filled_at, filled_next, length-filled, filled_none, one_put}
 use Rattle.cq_ideal.proofs.Changed.{same_at}
@@ -40,13 +40,12 @@ module _ (ms : List Machine) (slot : ℕ) (cells : List (Option Cell)) (ranks : 
   all_put_all P j (o ∷ came) xs each all =
       grind (arith, common_steps, cond_both, all_put P, each zero, all_put_all P j came, λ (k : ℕ). each (suc k))
 
-  arrived_filled : AllArrivedBefore (slot + 1) (filled r.came lists)
-  arrived_filled j =
-      let each = came_from ms slot 0 cells ranks r ok in
-      search (arith, rules, cases_lt j, filled_at, all_put_all, each, length-filled, get_or_past, all_weaker)
-
   pub arrived_next : AllArrivedBefore (slot + 1) (rests (filled r.came lists))
-  arrived_next j = search (arith, rules, arrived_filled j, get_or-map, get_or_past, length-map, cases_lt j)
+  arrived_next j =
+      let each = came_from ms slot 0 cells ranks r ok in
+      let arrived : ArrivedBefore (slot + 1) (list_at (filled r.came lists) j) =
+      search (arith, rules, cases_lt j, filled_at, all_put_all, each, length-filled, get_or_past, all_weaker) in
+      search (arith, rules, arrived, get_or-map, get_or_past, length-map, cases_lt j)
 
 -- ## Cells that are ranked one after another
 

@@ -4,7 +4,7 @@
 -- those that are still to be counted, is what is counted in all; and a count grows by one at most with each. Arrivals
 -- are judged one after another: the marks so far, and then those of judging what is left, are those of judging all; and
 -- what the outputs hold so far, with what is still to be admitted, is what they hold at the end.
-use Rattle.cq_ideal.proofs.Terms.{drop_more, drop_all, common_steps, ◌≡◌, ℕ, ◌+◌, Bool, List, [], ◌∷◌, ◌++◌, Option, refl, ◌∙◌, append_assoc, arith, enumerate_from, filter_map, option_map, append-nil, length-append, filter-append, Cell, Refused, admitted, refused, count_for, AreAllZero, cells_refused, packets_refused, refused_at, refused_counts, with_refused, rules, ◌≢◌, zero, suc, ◌-◌, ◌<◌, ◌≤◌, ◌^◌, eqb, true, false, cond, length, drop, get_or, set, Some, None, All-from_recursion, get_or-map, length-map, arrival_at, is_first, mark_at, CanCount, HasPorts, LimiterView, where_up, with_cells, take, get_or-set_same, get_or-set_other, cases_Bool, eqb-true, eq-eqb, ne_eqb, drop-set-lt, length-set, set-get_or, take_all, mark_after, held_after, marks_after, ComeToPorts, all_weaker, most_ports, few_kept, option_to_list, take_more_set}
+use Rattle.cq_ideal.proofs.Terms.{drop_more, drop_all, common_steps, ◌≡◌, ℕ, ◌+◌, Bool, List, [], ◌∷◌, ◌++◌, Option, refl, append_assoc, arith, enumerate_from, filter_map, option_map, append-nil, length-append, filter-append, Cell, Refused, admitted, refused, count_for, AreAllZero, cells_refused, packets_refused, refused_at, refused_counts, with_refused, rules, zero, suc, ◌-◌, ◌<◌, ◌≤◌, ◌^◌, eqb, true, false, cond, length, drop, get_or, set, Some, None, All-from_recursion, get_or-map, length-map, arrival_at, is_first, mark_at, CanCount, HasPorts, LimiterView, where_up, with_cells, take, get_or-set_same, get_or-set_other, cases_Bool, eqb-true, eq-eqb, drop-set-lt, length-set, set-get_or, take_all, mark_after, held_after, marks_after, ComeToPorts, all_weaker, most_ports, few_kept, option_to_list, take_more_set}
 use Rattle.cq_ideal.specs.Taking.{HasJudged}
 use Rattle.cq_ideal.proofs.Changed.{at_place, changed_to, next_place}
 use Rattle.std.proofs.lemmas.Bool.Decides.{nat_tests}

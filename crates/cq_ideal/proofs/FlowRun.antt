@@ -3,7 +3,7 @@
 -- what it showed of a flow, and then what arrived of it, is what the output sent of it, and then what the list shows
 -- afterwards. So it is over a run: what the list shows of a flow, and then what is still to come of it, is what the
 -- output still sends of it, and then what its list shows at the end. What is no port sends nothing.
-use Rattle.cq_ideal.proofs.Terms.{rules, option_to_list, ◌≡◌, ℕ, ◌+◌, ◌<◌, ◌≤◌, List, [], ◌∷◌, ◌++◌, length, Option, None, Ok, refl, arith, common_steps, slice_index_or, AllByRecursion, filter, eq-eqb, ne_eqb, and_left, cond-false, append-nil, append_assoc, map-append, get_or_past, filter-append, Cell, Departure, Queued, Machine, KeepsLaws, machine_at, IdealState, Sent, ideal_slot, departures_from, departures_in, Ran, ideal_run, departures_of, leaves_in_flow, left_in_flow, Some, get_or-map, length-map, Ranking, ranking, put_all, all_weaker}
+use Rattle.cq_ideal.proofs.Terms.{rules, option_to_list, ◌≡◌, ℕ, ◌+◌, ◌<◌, ◌≤◌, List, [], ◌∷◌, ◌++◌, length, Option, None, Ok, refl, arith, common_steps, slice_index_or, AllByRecursion, filter, eq-eqb, ne_eqb, and_left, cond-false, append-nil, append_assoc, map-append, get_or_past, filter-append, Cell, Departure, Queued, Machine, KeepsLaws, machine_at, IdealState, Sent, ideal_slot, departures_from, departures_in, Ran, ideal_run, departures_of, leaves_in_flow, left_in_flow, get_or-map, length-map, Ranking, ranking, put_all, all_weaker}
 use Rattle.cq_ideal.proofs.FlowStands.{Stands, is_kind, shown, of_flow, present, only_ok, AreOfClasses, Filled, filled_from}
 use Rattle.cq_ideal.proofs.Sending.{length-told, told_at}
 use Rattle.cq_ideal.proofs.Waiting.{sent_by, filled_at, length-filled, sends_ok}
@@ -18,7 +18,8 @@ module _ (ms : List Machine) (j slot : ℕ) (laws : KeepsLaws (machine_at ms j))
     pub states : length sent.after.ranks ≡ length old.ranks
     pub ports : length sent.after.lists ≡ length old.lists
     pub shows : shown i c (slice_index_or old.lists j []) ++ of_flow i c j come
-        ≡ shown i c (option_to_list (slice_index_or sent.gone j None)) ++ shown i c (slice_index_or sent.after.lists j [])
+        ≡ shown i c (option_to_list (slice_index_or sent.gone j None))
+        ++ shown i c (slice_index_or sent.after.lists j [])
 
   served_from : (come : List Cell) (old : IdealState) (r : Ranking) → j < length old.lists → j < length old.ranks →
       Filled ms j slot laws i c come (slice_index_or old.lists j [])
@@ -96,7 +97,8 @@ module _ (ms : List Machine) (j : ℕ) (laws : KeepsLaws (machine_at ms j)) (i c
   passed (cells ∷ traffic) slot state ran h in_lists in_ranks stands are =
       let p = first_slot ms slot cells traffic state ran h in
       let s = served ms j slot laws i c cells state p.sent p.ran_slot in_lists in_ranks stands are.0 in
-      search (arith, rules, shown, of_flow, present, option_to_list, append_assoc, left_later, passed traffic (slot + 1))
+      let later = passed traffic (slot + 1) in
+      search (arith, rules, shown, of_flow, present, option_to_list, append_assoc, left_later, later)
 
 -- where there is no such port nothing leaves it
 pub no_port : (ms : List Machine) (i c j : ℕ) (traffic : List (List (Option Cell))) (slot : ℕ) (state : IdealState)

@@ -3,12 +3,12 @@
 -- Behind the last arrival the run goes on only while a cell waits. So a cell waits as the last such slot begins, and
 -- one departs in it. Without limits a cell departs in the slot of the last arrival too, so the last departure is in the
 -- last slot.
-use Rattle.cq_ideal.proofs.Terms.{rules, ◌≡◌, ℕ, ◌+◌, ◌<◌, ◌≤◌, List, [], ◌∷◌, ◌++◌, length, Option, Some, ⊎_elim, arith, common_steps, max, AllByRecursion, cases_eq, cases_lt, eq-eqb, Arrival, arriving, end_of, Cell, Departure, Queued, Machine, slots_of, IsForSwitch, count_for, departures_of, departures_from, departures_in, arrival_at, most_ports, zero, suc, ◌-◌, Ok, sym, ap, ◌∙◌, slice_index_or, length-replicate, admitted_in, arriving_from, first_slots, slots_of_run, whole_ideal_run, Ran, empty_ideal, ideal_run, IdealState, slots_of_limited_run, whole_limited_run, LimitedRan, empty_limited}
+use Rattle.cq_ideal.proofs.Terms.{rules, ◌≡◌, ℕ, ◌+◌, ◌<◌, ◌≤◌, List, [], ◌∷◌, ◌++◌, length, Option, Some, ⊎_elim, arith, common_steps, max, AllByRecursion, cases_eq, cases_lt, eq-eqb, Arrival, arriving, end_of, Cell, Departure, Queued, Machine, slots_of, IsForSwitch, count_for, departures_of, departures_from, departures_in, arrival_at, most_ports, zero, suc, ◌-◌, Ok, ◌∙◌, length-replicate, arriving_from, first_slots, slots_of_run, whole_ideal_run, Ran, empty_ideal, ideal_run, IdealState, slots_of_limited_run, whole_limited_run, LimitedRan, empty_limited}
 use Rattle.cq_ideal.proofs.AtInput.{is_shown}
 use Rattle.cq_ideal.proofs.FlowCount.{found, found_here, listed_same, other_slot}
-use Rattle.cq_ideal.proofs.Parted.{nothing_left, arriving_here, arriving_length, departures_append, first_slot}
+use Rattle.cq_ideal.proofs.Parted.{nothing_left, arriving_length, departures_append, first_slot}
 use Rattle.cq_ideal.proofs.FlowStands.{only_ok}
-use Rattle.cq_ideal.proofs.LimitedEnds.{at_ok, cut_at, gone_long, limited_over_at_end, limited_test, not_before, run_to, slots_as_before, whole_as}
+use Rattle.cq_ideal.proofs.LimitedEnds.{at_ok, cut_at, gone_long, limited_over_at_end, limited_test, least, run_to, slots_as_before, whole_as}
 use Rattle.cq_ideal.proofs.LimitedRuns.{is_run_of}
 use Rattle.cq_ideal.proofs.Waiting.{counted, waiting}
 
@@ -79,7 +79,9 @@ module _ (limits : List (Option ℕ)) (ms : List Machine) (ports : ℕ) (ranks :
   one_waits : (slot : ℕ) (first : LimitedRan) → slot < slots → end_of came ≤ slot →
       run_to limits ms ports ranks came slot ≡ Ok first → 0 < waiting first.after.state.lists
   one_waits slot first lt le is =
-      grind (arith, common_steps, at_ok, nothing_left first.after.state.lists, not_before limits, limited_test came)
+      let over = limited_test came slot _ first.after (at_ok limits ms ports ranks came _ first is) le in
+      let least = least limits ms ports ranks came slot in
+      grind (arith, common_steps, nothing_left first.after.state.lists)
 
   late : (slot : ℕ) → slots ≡ slot + 1 → end_of came ≤ slot → slot + 1 ≤ slots_of (departures_of 0 ran.gone)
   unfolding whole_limited_run
@@ -112,7 +114,8 @@ module _ (ms : List Machine) (ports : ℕ) (came : List Arrival) (all : AllByRec
       let count = counted ms slot (arriving came slot) s p.sent p.ran_slot in
       ⊎_elim (λ some. search (arith, rules, departs_at_end n (k - 1) (slot + 1) p.sent.after p.second, slots_of-append))
       (λ now. let c = comes ms ports came slot all (omega arith) in
-      search (arith, rules, slots_of-append, slots_in slot 0, count.departs c.cell.output, counted_in ports came slot c))
+      let some = counted_in ports came slot c in
+      search (arith, rules, slots_of-append, slots_in slot 0, count.departs c.cell.output, some))
       (cases_lt 0 k)
 
 pub last_departs : (ms : List Machine) (ports : ℕ) (ranks : List (List ℕ)) (came : List Arrival) →

@@ -1,7 +1,7 @@
 -- Where the run of the ideal switch ends, where outputs have limits: as many slots as are enough end with empty lists,
 -- so there is a least number of slots after which no cell is to come and none waits, and from there on the slots send
 -- nothing. A switch without limits is one with limits that refuses nothing, so its run ends where that one's does.
-use Rattle.cq_ideal.proofs.Terms.{rules, ◌≡◌, ℕ, ◌+◌, ◌-◌, ◌<◌, ◌≤◌, Bool, true, false, List, [], ◌∷◌, ◌++◌, length, Option, Result, Ok, Err, refl, sym, ap, ◌∙◌, arith, common_steps, flat_map-append, IsOkAnd, position_or_len, range_with_len, cases_lt, append-nil, get_or-range_with_len, length-range_with_len, fails_before_first, passes_at_first, prefix_len-le-length, Arrival, Cell, end_of, enough, traffic_of, TagFault, Machine, Marked, NoLimits, marked, marks_down, IdealEnds, arriving_from, first_slots, is_over, slots_of_run, whole_ideal_run, IsEmptyIdeal, Ran, departures_of, departures_ran, empty_ideal, ideal_run, IdealState, LimitedIdealEnds, departures_limited, slots_of_limited_run, whole_limited_run, LimitedRan, empty_limited, limited_run, unlimited, refused_in, and_from, le-leb, list_all-from_AllPass, eq-eqb}
+use Rattle.cq_ideal.proofs.Terms.{rules, ◌≡◌, ℕ, ◌+◌, ◌-◌, ◌≤◌, Bool, true, List, [], ◌∷◌, ◌++◌, length, Option, Result, Ok, Err, refl, sym, ap, ◌∙◌, arith, common_steps, flat_map-append, IsOkAnd, position_or_len, range_with_len, cases_lt, append-nil, get_or-range_with_len, length-range_with_len, fails_before_first, passes_at_first, prefix_len-le-length, Arrival, Cell, end_of, enough, traffic_of, TagFault, Machine, Marked, NoLimits, marked, marks_down, IdealEnds, arriving_from, first_slots, is_over, slots_of_run, whole_ideal_run, IsEmptyIdeal, Ran, departures_of, departures_ran, empty_ideal, ideal_run, IdealState, LimitedIdealEnds, departures_limited, slots_of_limited_run, whole_limited_run, LimitedRan, empty_limited, limited_run, unlimited, refused_in, and_from, le-leb, list_all-from_AllPass, eq-eqb}
 use Rattle.cq_ideal.proofs.Parted.{all_slots, none_waits, over_from_test, arriving_length, arriving_parts, departures_append}
 use Rattle.cq_ideal.proofs.EnoughSlots.{limited_empty_at_end}
 use Rattle.cq_ideal.proofs.LimitedParts.{limited_going_on, limited_parts, limited_stays_empty}
@@ -39,14 +39,11 @@ module _ (limits : List (Option ℕ)) (ms : List Machine) (ports : ℕ) (ranks :
   unfolding slots_of_limited_run
   limited_not_more = grind (arith, common_steps, prefix_len-le-length, length-range_with_len)
 
-  pub not_before : (m : ℕ) → m < last → over m ≡ false
+  pub least : (m : ℕ) → over m ≡ true → last ≤ m
   unfolding slots_of_limited_run
-  not_before m lt =
+  least m is =
       let at = get_or-range_with_len 0 (enough came) m 0 in
-      grind (arith, common_steps, limited_not_more, at, fails_before_first over)
-
-  least : (m : ℕ) → over m ≡ true → last ≤ m
-  least m is = grind (arith, common_steps, cases_lt m last, not_before m)
+      grind (arith, common_steps, cases_lt m last, limited_not_more, at, fails_before_first over)
 
   -- what is known where the run of so many slots meets no fault
   pub limited_over_at_end : (ran : LimitedRan) → run_to last ≡ Ok ran →

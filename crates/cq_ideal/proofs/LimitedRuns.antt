@@ -100,4 +100,5 @@ pub rest_refuses_none : (limits : List (Option ℕ)) (ms : List Machine) (slots 
 rest_refuses_none limits ms slots slot ports marks s after ran =
     search (rules, run_of_none limits ms marks slot _ s (none_in limits marks slots), map-replicate)
 
-pub ruleset refuse_none_steps = (no_limits_refuse_none, no_arrivals_refuse_none, run_of_none, none_refused_in, common_steps)
+pub ruleset refuse_none_steps =
+    (no_limits_refuse_none, no_arrivals_refuse_none, run_of_none, none_refused_in, common_steps)

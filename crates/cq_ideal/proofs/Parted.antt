@@ -1,8 +1,7 @@
 -- A run of the ideal switch in parts: what arrives in some slots and in those behind them, and what is sent in
 -- these. And when it is over: no cell is to come, and none waits.
-use Rattle.cq_ideal.proofs.Terms.{rules, ◌≡◌, ℕ, zero, suc, ◌+◌, ◌≤◌, List, [], ◌∷◌, ◌++◌, length, replicate, Option, Result, Ok, Err, refl, ap, arith, append_assoc, common_steps, length-map-range_with_len, Arrival, arriving, end_of, no_arrivals, Cell, Queued, TagFault, Machine, arriving_from, Ran, departures_of, ideal_run, then_ran, IdealState, Sent, true, All, and_parts, eqb-true, leb-true, nil_from_length, enough, traffic_of, first_slots, is_over, IsEmptyIdeal, LimitedRan, unlimited}
+use Rattle.cq_ideal.proofs.Terms.{rules, ◌≡◌, ℕ, zero, suc, ◌+◌, ◌≤◌, List, [], ◌∷◌, ◌++◌, length, replicate, Option, Result, Ok, Err, refl, ap, arith, append_assoc, common_steps, length-map-range_with_len, Arrival, arriving, end_of, no_arrivals, Cell, Queued, TagFault, Machine, arriving_from, Ran, departures_of, ideal_run, then_ran, Sent, true, All, and_parts, eqb-true, leb-true, nil_from_length, enough, traffic_of, first_slots, is_over, IsEmptyIdeal, LimitedRan, unlimited}
 use Rattle.cq_ideal.proofs.FlowCount.{none_arrive}
-use Rattle.cq_ideal.proofs.FlowStands.{only_ok}
 pub use Rattle.cq_ideal.proofs.FlowRun.{FirstSlot, first_slot}
 use Rattle.cq_ideal.proofs.Waiting.{waiting}
 

@@ -1,7 +1,7 @@
 -- The walk over the outputs. Behind this output all is as the slot leaves it, and from it on as the slot found it:
 -- that is so for the lists and for the states of the machines. What is sent so far, and then the departures of the
 -- outputs from this one on, are all departures of the slot. Each output that sends a cell holds it no longer.
-use Rattle.cq_ideal.proofs.Terms.{rules, ◌≡◌, ℕ, ◌+◌, ◌<◌, ◌≤◌, List, [], ◌∷◌, ◌++◌, length, map, get_or, set, drop, Option, Some, None, arith, append_assoc, length-append, length-set, common_steps, slice_get, get_or-map, length-map, get_or-map-range_with_len, length-map-range_with_len, Departure, Queued, RoomView, Machine, machine_at, told, all_told, fronts, rests, departures_from, departures_in, RanksView, QueuesView, list_at, HoldsLists, JudgesAsBefore, LimiterView}
+use Rattle.cq_ideal.proofs.Terms.{rules, ◌≡◌, ℕ, ◌+◌, ◌<◌, ◌≤◌, List, [], ◌∷◌, ◌++◌, length, map, get_or, set, drop, Option, None, arith, append_assoc, length-append, length-set, common_steps, slice_get, get_or-map, length-map, get_or-map-range_with_len, length-map-range_with_len, Departure, Queued, RoomView, Machine, machine_at, told, all_told, fronts, rests, departures_from, departures_in, RanksView, QueuesView, list_at, HoldsLists, JudgesAsBefore, LimiterView}
 use Rattle.cq_ideal.proofs.Changed.{at_place, changed_to, put_next}
 
 -- ## The machines

@@ -1,20 +1,12 @@
 -- A slot is what the parts do one after the other: the arrivals are judged, those that are admitted are ranked and go
 -- into the lists, and then the outputs send.
-use Rattle.cq_ideal.proofs.Terms.{◌≡◌, ℕ, ◌+◌, ◌<◌, ◌^◌, Bool, false, List, length, map, get_or, Option, Ok, refl, ap, ◌∙◌, arith, common_steps, get_or-map, Cell, Queued, Departure, RoomView, Machine, class_count, Admission, admission, admitted, marked, refused, IdealSwitch, SpareFollows, marked_state, IdealState, Sent, ideal_slot, ideal_sends, filled, fronts, rests, all_told, LimitedSent, limited_slot, with_admission, HoldsLists, LimiterView, AreParts, AreWithinRooms, CameToPorts, FitTogether, RanksView, QueuesView, AllArrivedBefore, HaveOwnKeys, HaveRoomFor, state_of, AreForPorts, Ranking, ranking, rules, other_key_newest}
+use Rattle.cq_ideal.proofs.Terms.{◌≡◌, ℕ, ◌+◌, ◌<◌, ◌^◌, Bool, false, List, length, map, get_or, Option, Ok, refl, ap, ◌∙◌, arith, common_steps, get_or-map, Cell, Queued, Departure, RoomView, Machine, class_count, Admission, admission, admitted, refused, IdealSwitch, SpareFollows, marked_state, IdealState, ideal_slot, ideal_sends, filled, fronts, rests, limited_slot, with_admission, HoldsLists, LimiterView, AreParts, AreWithinRooms, CameToPorts, FitTogether, RanksView, QueuesView, AllArrivedBefore, HaveOwnKeys, HaveRoomFor, state_of, AreForPorts, Ranking, ranking, rules, other_key_newest}
 use Rattle.cq_ideal.specs.OneSlot.{CanHaveSlot}
 use Rattle.cq_ideal.specs.Taking.{CanTakeIn, HasJudged, HasTakenIn}
 use Rattle.cq_ideal.proofs.Admitted.{admitted_for_ports}
 use Rattle.cq_ideal.proofs.Came.{came_from, arrived_next, fit_same}
-use Rattle.cq_ideal.proofs.Waiting.{holds_filled, came_for, counted, length-filled}
+use Rattle.cq_ideal.proofs.Waiting.{holds_filled, came_for, counted, length-filled, sent_from}
 use Rattle.cq_ideal.proofs.Counting.{each_once}
-
--- what a slot leaves once the cells are in the lists
-abbrev pub sent_from : List Machine → IdealState → Sent
-sent_from ms s =
-    record {
-      gone = fronts s.lists;
-      after = record { lists = rests s.lists; ranks = all_told ms (fronts s.lists) s.ranks };
-    }
 
 -- ## Slots with limits
 

@@ -4,7 +4,7 @@ pub use Rattle.std.proofs.lemmas.List.{Elements.All-replicate, Elements.recursio
 pub use Rattle.cq_base.proofs.Lists.{all_by, other_key_newest}
 pub use Rattle.cq_base.specs.Arriving.{Arrival, arriving_at, end_of}
 unfoldable pub use Rattle.cq_base.specs.Arriving.{arriving, enough, traffic_of}
-pub use Rattle.cq_base.specs.Cells.{is_for, put}
+pub use Rattle.cq_base.specs.Cells.{ArrivedBefore, is_for, put}
 pub use Rattle.cq_base.specs.Items.{EachPair, Has}
 unfoldable pub use Rattle.cq_base.specs.Key.{is_before}
 pub use Rattle.cq_base.specs.Limits.{most_ports}

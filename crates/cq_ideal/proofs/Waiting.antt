@@ -151,11 +151,17 @@ pub filled_long : (came : List (Option Queued)) (lists : List (List Queued)) (j 
     length (slice_index_or (filled came lists) j []) ≡ length (slice_index_or lists j []) + count_to j came
 filled_long came lists j inside = grind (arith, common_steps, filled_at, length-put_all)
 
+-- what a slot leaves once the cells are in the lists
+abbrev pub sent_from : List Machine → IdealState → Sent
+sent_from ms s =
+    record {
+      gone = fronts s.lists;
+      after = record { lists = rests s.lists; ranks = all_told ms (fronts s.lists) s.ranks };
+    }
+
 -- what is sent once the cells are ranked so
 abbrev pub sent_by : List Machine → IdealState → Ranking → Sent
-sent_by ms old r =
-    let lists = filled r.came old.lists in
-    record { gone = fronts lists; after = record { lists = rests lists; ranks = all_told ms (fronts lists) r.ranks } }
+sent_by ms old r = sent_from ms (record { lists = filled r.came old.lists; ranks = r.ranks })
 
 left_of : (cells : List (Option Cell)) (old : IdealState) (r : Ranking) → map cell_here r.came ≡ cells → (j : ℕ) →
     j < length old.lists →
