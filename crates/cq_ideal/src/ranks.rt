@@ -25,6 +25,7 @@ impl<R: Rank> Model for Ranks<R> {
 }
 
 // What a machine is told at the end of a slot.
+#[tactic(auto, using(std::proofs::lemmas::Grind::common_steps))]
 fn tell<R: Rank>(rank: &mut R, gone: Option<Queued>)
     ensures fixed { R.fixed rank.new ≡ R.fixed rank.old }
     ensures state { R.state rank.new ≡ told (R.machine (R.fixed rank.old)) (R.state rank.old) gone }
