@@ -1,5 +1,5 @@
 -- The words of this crate's proofs that stand elsewhere, each passed on from its place.
-pub use Rattle.cq_base.proofs.Library.{AllByRecursion, IfErr, IsTrue, List, None, Option, Result, Some, YieldsList-from_map, YieldsList-from_slice, [], add-zero, ap, append-nil, append_assoc, arith, common_steps, cond, drop, eqb-true, false, flat_map, flat_map-append, fill_by_all, get_or, inl, inr, items_from_extend, length, length-append, length-map, length-take, lit≤, ltb, map, on_ok_weaker, range_with_len, refl, rules, subst, subst, suc, sym, take, take-append-drop, take_more, unwrap_or, ℕ, ⊎_elim, ⊤, ◌++◌, ◌+◌, ◌-◌, ◌<◌, ◌^◌, ◌∙◌, ◌∷◌, ◌≡◌, ◌≢◌, ◌≤◌, ◌⊎◌}
+pub use Rattle.cq_base.proofs.Library.{AllByRecursion, IfErr, IsTrue, List, None, Option, Result, Some, YieldsList-from_map, YieldsList-from_slice, [], add-zero, ap, append-nil, append_assoc, arith, common_steps, cond, drop, drop_more, drop_all, eqb-true, false, flat_map, flat_map-append, fill_by_all, get_or, inl, inr, items_from_extend, length, length-append, length-map, lit≤, ltb, map, on_ok_weaker, range_with_len, refl, rules, subst, suc, sym, take, take-append-drop, take_more, unwrap_or, ℕ, ⊎_elim, ⊤, ◌++◌, ◌+◌, ◌-◌, ◌<◌, ◌^◌, ◌∷◌, ◌≡◌, ◌≢◌, ◌≤◌, ◌⊎◌}
 pub use Rattle.cq_base.specs.declared.cell.Transfer.{Transfer}
 pub use Rattle.cq_lines.proofs.Going.{SoFar, one_line_more}
 pub use Rattle.cq_lines.specs.Ranges.{InRange, Within, any_number}

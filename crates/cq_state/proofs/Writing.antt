@@ -1,7 +1,7 @@
--- Writing a state's text part by part. A part is put line by line. Parts that are put one after another are one
--- text, which is seen from the end back: what is put last stands behind what was put before it. And where the text is
--- too long with a part, all of it is.
-use Rattle.cq_state.proofs.Terms.{◌≡◌, ℕ, ◌+◌, ◌<◌, ◌≤◌, List, [], ◌∷◌, ◌++◌, length, take, get_or, Result, IfErr, ap, sym, arith, append_assoc, length-take, common_steps, flat_map, append-nil, take_more, take-append-drop, length-append, flat_map-append, State, state_lines, state_text, head_lines, numbered, Line, spelled, IsTooLong, drop, parts}
+-- Writing a state's text part by part. A part is put line by line, and what is put, with the lines that are still to
+-- come, is all of it. Parts that are put one after another are one text, which is seen from the end back: what is put
+-- last stands behind what was put before it. And where what is put is too long, all of it is.
+use Rattle.cq_state.proofs.Terms.{◌≡◌, ℕ, ◌+◌, ◌<◌, ◌≤◌, List, [], ◌++◌, length, take, get_or, Result, IfErr, arith, append_assoc, common_steps, flat_map, append-nil, drop_all, drop_more, take_more, take-append-drop, length-append, flat_map-append, State, state_lines, state_text, head_lines, numbered, Line, spelled, IsTooLong, drop, parts}
 use Rattle.cq_state.specs.declared.write.StateLong.{StateLong}
 
 abbrev text : List Line → List ℕ
@@ -12,30 +12,16 @@ pub put_behind : (old now new : List ℕ) (xs ys : List Line) → now ≡ old ++
     new ≡ old ++ text (xs ++ ys)
 put_behind old now new xs ys e f = grind (arith, common_steps, append_assoc, flat_map-append)
 
-numbered_parts : {X : Type 0} (line : ℕ → X → Line) (n : ℕ) (xs ys : List X) →
-    numbered line n (xs ++ ys) ≡ numbered line n xs ++ numbered line (n + length xs) ys
-numbered_parts line n [] ys = let e : n + 0 ≡ n = omega arith in ap (λ m. numbered line m ys) (sym e)
-numbered_parts line n (y ∷ xs) ys = grind (arith, common_steps, numbered_parts line (n + 1) xs ys)
+-- one line more is put, and is not to come any more: the text is the same with what is still to come
+pub line_put : {X : Type 0} (line : ℕ → X → Line) (xs : List X) (i : ℕ) (d : X) (x : Line) (now new all : List ℕ) →
+    i < length xs → now ++ text (numbered line i (drop i xs)) ≡ all → x ≡ line i (get_or xs i d) →
+    new ≡ now ++ spelled x → new ++ text (numbered line (i + 1) (drop (i + 1) xs)) ≡ all
+line_put line xs i d x now new all inside e is f = grind (arith, common_steps, drop_more xs i d, append_assoc)
 
 -- a text is too long that is as long as one that is
 long_on : {A : Type 0} (r : Result A StateLong) (now all : List ℕ) → length now ≤ length all →
     IfErr r (IsTooLong now) → IfErr r (IsTooLong all)
 long_on r now all le long = grind (arith, common_steps)
-
--- the items of a list, a line each, as far as they are put
-module _ {X : Type 0} (xs : List X) (old : List ℕ) (line : ℕ → X → Line) (i : ℕ) where
-  pub line_put : (d : X) (x : Line) (now new : List ℕ) → i < length xs →
-      now ≡ old ++ text (numbered line 0 (take i xs)) → x ≡ line i (get_or xs i d) → new ≡ now ++ spelled x →
-      new ≡ old ++ text (numbered line 0 (take (i + 1) xs))
-  line_put d x now new inside e is f =
-      grind (arith, common_steps, numbered_parts, length-take, put_behind, append-nil, take_more)
-
-  -- where the first of them are too long, so are all
-  pub lines_long : {A : Type 0} (r : Result A StateLong) (now : List ℕ) →
-      now ≡ old ++ text (numbered line 0 (take i xs)) → IfErr r (IsTooLong now) →
-      IfErr r (IsTooLong (old ++ text (numbered line 0 xs)))
-  lines_long r now e long =
-      grind (arith, common_steps, long_on r now, take-append-drop i xs, numbered_parts, flat_map-append, length-append)
 
 -- where it is too long with one of the parts behind the head, all of it is
 part_fits : (head : List Line) (ps : List (List Line)) (k : ℕ) (t0 t1 now : List ℕ) → k < length ps →
@@ -50,3 +36,5 @@ pub long_with : {A : Type 0} (r : Result A StateLong) (s : State) (k : ℕ) (t0 
 unfolding state_lines
 long_with r s k t0 t1 now inside long head e =
     long_on r _ _ (part_fits (head_lines s.head) (drop 1 (parts s)) k t0 t1 now inside head e) long
+
+pub ruleset put_steps = (drop_all, append-nil)

@@ -97,7 +97,7 @@ fn put_head(text: &mut Vec<u8>, head: Head) -> Result<(), NoMemory>
     put_numbers(text, Kind::Sum, &sum)
 }
 
-#[tactic(auto, using(std::proofs::lemmas::List::take_all))]
+#[tactic(auto, using(crate::proofs::Writing::put_steps))]
 fn put_inputs(text: &mut Vec<u8>, inputs: &[Seen]) -> Result<(), NoMemory>
     ensures { OnOk result (text.new.items ≡ text.old.items ++ flat_map spelled (numbered input_line 0 inputs.now)) }
 {
@@ -117,7 +117,7 @@ fn input_fields(input: usize, seen: Seen) -> [Option<u128>; 3]
     ]
 }
 
-#[tactic(auto, using(std::proofs::lemmas::List::take_all))]
+#[tactic(auto, using(crate::proofs::Writing::put_steps))]
 fn put_ranks(alloc: Global, text: &mut Vec<u8>, ranks: &[Sequence<u128>]) -> Result<(), NoMemory>
     ensures { OnOk result (text.new.items ≡ text.old.items ++ flat_map spelled (numbered rank_line 0 ranks.now)) }
 {
@@ -162,7 +162,7 @@ trait Told {
 }
 
 // Puts the lines of this kind, one for each of these things, up to the first with which the text is too long.
-#[tactic(auto, using(crate::proofs::Written::map_numbered, std::proofs::lemmas::List::take_all))]
+#[tactic(auto, using(crate::proofs::Writing::put_steps))]
 fn put_each<T: Told>(text: &mut Vec<u8>, kind: Kind, items: &[T]) -> Result<(), StateLong>
     ensures lines { OnOk result (text.new.items
         ≡ text.old.items ++ flat_map spelled (map (line_by kind T.fields) items.now)) }

@@ -5,5 +5,5 @@ use Rattle.cq_state.specs.declared.kind.Kind.TheVariants as kind
 use Rattle.cq_state.proofs.write.put_inputs.Goals as goal
 
 pub inputs-preserved : goal.inputs-preserved
-inputs-preserved c = line_put c.args.inputs.now c.args.text.now.items input_line c.inputs.input _ _ _ _
-    c.inputs-test.true c.inputs.invariant (ap (line_of kind.Input) c.input_fields.ensures) c.in_ok-put_numbers.ensures
+inputs-preserved c = line_put input_line c.args.inputs.now c.inputs.input _ _ _ _ _ c.inputs-test.true
+    c.inputs.invariant (ap (line_of kind.Input) c.input_fields.ensures) c.in_ok-put_numbers.ensures

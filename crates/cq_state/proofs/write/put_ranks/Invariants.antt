@@ -1,5 +1,7 @@
-use Rattle.cq_state.proofs.Terms.{◌≡◌, ◌++◌, take, flat_map, numbered, rank_line, spelled}
+use Rattle.cq_state.proofs.Terms.{◌≡◌, ◌++◌, drop, flat_map, numbered, rank_line, spelled}
 use Rattle.cq_state.proofs.write.put_ranks.Given as goal
 
+-- what is put, with the lines that are still to come, is all
 abbrev pub invariant-outputs : goal.invariant-outputs
-invariant-outputs l = l.text.items ≡ l.fn.text.items ++ flat_map spelled (numbered rank_line 0 (take l.output l.ranks))
+invariant-outputs l = l.text.items ++ flat_map spelled (numbered rank_line l.output (drop l.output l.ranks))
+    ≡ l.fn.text.items ++ flat_map spelled (numbered rank_line 0 l.ranks)
