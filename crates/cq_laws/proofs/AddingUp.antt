@@ -64,4 +64,4 @@ fold_from ports rs (s ∷ ss) = search (rules, append_assoc, figures_more, fold_
 pub figures_fold : (ports : ℕ) (rs : List SlotRecord) → figures_of ports rs ≡ fold figures_after (no_figures ports) rs
 figures_fold ports rs = fold_from ports [] rs ∙ ap (λ (x : Figures). fold figures_after x rs) (figures_none ports)
 
-pub ruleset figures_added = (figures_none, figures_more, figures_fold)
+pub ruleset figure_steps = (figures_none, figures_more, figures_fold)

@@ -118,16 +118,10 @@ not_left j xs f order is h =
     grind (arith, common_steps, first_at (is_for j) xs f is, left_at j xs r.0 f r.1, one_in_order xs)
 
 -- where a cell that stays stood before: no sooner, and behind a cell that was taken one place later
-record Stayed (p : Option ℕ) (xs : List Queued) (t : ℕ) (c : Queued) : Type 0 where
-  place : ℕ
-  at : slice_get xs place ≡ Some c
-  no_sooner : t ≤ place
-  behind : (k : ℕ) → p ≡ Some k → place_for k xs ≤ place → place ≡ suc t
-
 stayed : (p : Option ℕ) (xs : List Queued) (t : ℕ) (c : Queued) → slice_get (list_taken p xs) t ≡ Some c →
-    Stayed p xs t c
-stayed None xs t c h = record { place = t; at = h; no_sooner = omega arith; behind = λ k e. cc }
-stayed (Some l) xs t c h = let st = left_at l xs t c h in search (arith, rules, same_Some)
+    (place : ℕ) × (slice_get xs place ≡ Some c) × (t ≤ place)
+    × ((k : ℕ) → p ≡ Some k → place_for k xs ≤ place → place ≡ suc t)
+stayed p xs t c h = grind (arith, common_steps, left_at)
 
 -- a partner that is preferred has its first cell ahead
 better_ahead : (order : List ℕ) (cells : List Queued) (p : Option ℕ) (j : ℕ) → IsOutputOrder cells order →
@@ -170,11 +164,11 @@ module _ (old new : Fabric) (m : Partners) (fabric : IsFabric old) (order : List
       let j = c.cell.output in
       let xs = input old i in
       let st = stayed (partner_of m i) xs t c (ap (λ l. slice_get l t) (sym (moves.moves.taken i)) ∙ at) in
-      let le = first_le (is_for j) xs st.place c st.at (eq-eqb j j refl) in
-      let first = first_of (is_for j) xs c (has_there xs st.place c st.at) (eq-eqb j j refl) in
+      let le = first_le (is_for j) xs st.0 c st.1 (eq-eqb j j refl) in
+      let first = first_of (is_for j) xs c (has_there xs st.0 c st.1) (eq-eqb j j refl) in
       let offered = ((are.outputs i).offered j).1 first in
       let better = better_ahead (outputs_of (orders_of old.inputs) i) xs (partner_of m i) j (are.outputs i) offered in
-      search (arith, rules, is_partner, cushion_gained i st.place c st.at, same_or_got, cushion_put)
+      search (arith, rules, is_partner, cushion_gained i st.0 c st.1, same_or_got, cushion_put)
 
   pub slack_risen : (n : ℕ) → HasSlack n old → HasSlack (1 + n) new
   slack_risen n slack i t c at = grind (arith, common_steps, matching_rises i t c at)

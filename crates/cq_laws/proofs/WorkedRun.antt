@@ -1,6 +1,6 @@
 -- That the worked records are the run with input-best matchings: each matching is the one in which the proposals of
 -- its offers end, which is computed, and so is what its transfer moves.
-use Rattle.cq_laws.proofs.Terms.{rules, ◌≡◌, ℕ, zero, suc, ◌<◌, List, [], ◌∷◌, length, Some, None, refl, arith, set, ◌≢◌, common_steps, replicate, length-replicate, get_or-set_same, get_or-set_other, Queued, first_come_all, Fabric, input, buffer, empty_fabric, came_to, list_arrived, Transfers, SlotRecord, FabricSlot, FabricRun, from_input2, for_output1, three_slots, three, three_empty, worked_records, put, first_for, without_first, is_before, all_told, place_in, ports, with_pair, partner_of, orders_of, list_of, none_at, AllByRecursion, input_best-best, are_offers, all_of_has, Partners, IsInputBest}
+use Rattle.cq_laws.proofs.Terms.{rules, ◌≡◌, ℕ, suc, ◌<◌, List, [], ◌∷◌, length, Some, None, refl, arith, set, ◌≢◌, common_steps, replicate, length-replicate, get_or-set_same, get_or-set_other, Queued, first_come_all, Fabric, input, buffer, empty_fabric, came_to, list_arrived, Transfers, SlotRecord, FabricSlot, FabricRun, from_input2, for_output1, three_slots, three, three_empty, worked_records, put, first_for, without_first, is_before, all_told, place_in, ports, with_pair, partner_of, orders_of, list_of, none_at, AllByRecursion, input_best-best, are_offers, all_of_has, Partners, IsInputBest}
 use Rattle.cq_laws.specs.Example.{lone_cell, from_input0, from_input1, slot0, slot1, slot2}
 use Rattle.cq_laws.proofs.QuietSlots.{nobody_best, nothing_moves}
 use Rattle.cq_prefs.specs.LeastFirst.{best, least_free}
@@ -32,8 +32,8 @@ AreFor ports lists = AllByRecursion (AllByRecursion (λ (c : Queued). c.cell.out
 first_in_range : (ports : ℕ) (lists : List (List Queued)) (i j : ℕ) (c : Queued) → AreFor ports lists →
     first_for j (list_of lists i) ≡ Some c → j < ports
 first_in_range ports [] i j c are is = absurd (let P : ⊥ = cc in P)
-first_in_range ports (cells ∷ lists) zero j c are is = search (arith, rules, from_first j cells c is, all_of_has)
-first_in_range ports (cells ∷ lists) (suc i) j c are is = first_in_range ports lists i j c are.1 is
+first_in_range ports (cells ∷ lists) i j c are is =
+    grind (arith, common_steps, from_first j (list_of (cells ∷ lists) i) c is, all_of_has, first_in_range ports lists)
 
 -- a cell crosses
 crosses : (f : Fabric) (i j : ℕ) (c : Queued) → AreFor (length f.inputs) f.inputs →

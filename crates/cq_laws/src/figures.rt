@@ -3,7 +3,7 @@ ghost use Rattle.std.specs.Prelude.{◌≡◌, ℕ, List, [], ◌∷◌, ◌++�
 ghost use Rattle.cq_laws.specs.Terms.{SlotRecord, figures_of, figures_after, no_figures};
 
 /// The figures of a run are those before its first slot, with the record of each slot added in turn.
-#[tactic(auto, using(crate::proofs::AddingUp::figures_added))]
+#[tactic(auto, using(crate::proofs::AddingUp::figure_steps))]
 pub fn figures_add_up()
     ensures none { (ports : ℕ) → figures_of ports [] ≡ no_figures ports }
     ensures one_more { (ports : ℕ) (rs : List SlotRecord) (r : SlotRecord) →
