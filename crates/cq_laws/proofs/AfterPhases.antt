@@ -13,9 +13,10 @@
 -- cell for an output is never left: it would have slack 1, so a cushion, so a more urgent cell for the same output.
 -- Each cell is where it was or has crossed to its output, and the first cell for an output that a list gave is in it
 -- no more: so no key is twice, and the cells for each output stay the same.
-use Rattle.cq_laws.proofs.Terms.{rules, ◌≡◌, ◌≢◌, ℕ, suc, ◌+◌, ◌<◌, ◌≤◌, ◌⊎◌, ◌↔◌, List, Option, Some, None, refl, sym, ap, ◌∙◌, inl, inr, ⊎_elim, arith, common_steps, slice_get, eq-eqb, same_Some, cushion_of, Queued, Fabric, input, buffer, IsAmong, IsFabric, ListsKeepOrder, Transfers, EachRises, HasSlack, put, KeepsOrder, is_for, first_for, place_for, without_first, key_laws, first_le, each_pair_left, IsListed, place_in, outputs_of, partner_of, depth, HasBetterInput, IsOutputOrder, AreOrdersOf, orders_of, list_taken, HasFor, IsMostUrgentFor, has_there, stands_at, Partners, IsStable, zero, [], ◌∷◌, cases_lt, cases_eq, eqb-true, IsBefore, each_pair_at, length, Key, Cell, Machine, came_to, list_arrived, Arrives, keeps_order_arrival, all_from_has, drop, Departs, rests, list_of, EachFalls, EachArrivesOrFalls, length-map, IsRising, take-append-drop, has_right}
+use Rattle.cq_laws.proofs.Terms.{rules, ◌≡◌, ◌≢◌, ℕ, suc, ◌+◌, ◌<◌, ◌≤◌, ◌⊎◌, ◌↔◌, List, Option, Some, None, refl, sym, ap, ◌∙◌, inl, inr, ⊎_elim, arith, common_steps, slice_get, eq-eqb, same_Some, cushion_of, Queued, Fabric, input, buffer, IsAmong, IsFabric, ListsKeepOrder, Transfers, EachRises, HasSlack, put, KeepsOrder, is_for, first_for, place_for, without_first, key_laws, first_le, each_pair_left, IsListed, place_in, outputs_of, partner_of, depth, HasBetterInput, IsOutputOrder, AreOrdersOf, orders_of, list_taken, HasFor, IsMostUrgentFor, has_there, stands_at, Partners, IsStable, zero, [], ◌∷◌, cases_lt, cases_eq, eqb-true, IsBefore, each_pair_at, length, Key, Cell, Machine, came_to, list_arrived, Arrives, keeps_order_arrival, all_from_has, drop, Departs, rests, list_of, EachFalls, EachArrivesOrFalls, length-map, IsRising, take-append-drop, has_right, Ok, Ranking, ranking, arrival_at, AreForPorts}
 use Rattle.cq_laws.proofs.Sound.{from_first, first_at, first_of, left_at, left_or_first, among_put, rising_put, was_waiting, same_cell, Apart, Sound, one_in_order, orders_are, among_insert, insert_has, inserted_at}
 use Rattle.cq_laws.proofs.Cushions.{bit_true, cushion_cons, cushion_has, cushion_put, cushion_rises}
+pub use Rattle.cq_ideal.proofs.Came.{came_from}
 
 -- ## Slacks after arrivals and after departures
 
@@ -235,3 +236,18 @@ module _ (slot : ℕ) (old new : Fabric) (m : Partners) (sound : Sound slot old)
 
   pub moved : Moved slot old new
   moved = search (rules, has_after, has_before, moved_sound, matching_rises, slack_risen)
+
+-- ## What ranking gives
+
+-- where the cells of a slot arrived, each that came to an input is the one that arrives there
+pub came_cell : {ms : List Machine} {slot : ℕ} {cells : List (Option Cell)} {came : List (Option Queued)}
+    {old new : Fabric} → Arrives ms slot cells came old new → (i : ℕ) (c : Queued) → came_to came i ≡ Some c →
+    arrival_at cells i ≡ Some c.cell
+came_cell {ms} {slot} {cells} {came} {old} {new} arrives i c is =
+    (came_from ms slot 0 cells old.ranks (record { came = came; ranks = new.ranks }) arrives.ranked i c is).cell_is
+
+-- so the cells of a slot that are for the ports of the switch are keyed as arrivals keep it
+pub keyed_from : (ms : List Machine) (slot ports class_count : ℕ) (cells : List (Option Cell)) (ranks : List (List ℕ))
+    (r : Ranking) → ranking ms slot 0 cells ranks ≡ Ok r → AreForPorts ports class_count cells →
+    Keyed slot ports r.came
+keyed_from ms slot ports class_count cells ranks r h are = search (arith, rules, came_from ms slot 0 cells ranks r h)

@@ -1,15 +1,16 @@
 -- The fabric and the ideal switch end after the same slot. In the same slots both runs agree, also after fewer slots,
 -- and states that agree are empty together. So the least number of slots after which the one is over is that of the
--- other. In the last slot a cell departs, as it does in the ideal switch, so the figures tell the number of slots.
--- And what goes on behind the end is quiet slots.
-use Rattle.cq_laws.proofs.Terms.{cases_lt, ⊎_elim, common_steps, rules, ◌≡◌, ℕ, ◌+◌, ◌-◌, ◌≤◌, cond, List, [], ◌∷◌, length, take, drop, map, Option, Err, refl, sym, arith, filter, fold, is_some, max, AllByRecursion, list_any, cases_Bool, cond_both, length-take-le, take-append-drop, take_all, append-nil, Cell, Queued, TagFault, Machine, IsForSwitch, AreForPorts, IsInputBest, IsStable, Partners, EndsAlike, RunsAlike, Fabric, IsEmptyFabric, empty_fabric, BeginsWhole, FabricRun, FabricStops, WholeRun, FabricSlot, SlotRecord, idled_for, quiet_slots, IdealAfter, IdealEnds, arriving_from, first_slots, slots_of, slots_of_run, whole_ideal_run, IsEmptyIdeal, departures_of, empty_ideal, departures_from, departures_in, ends, fewer_slots, found_end, not_more, whole_fault, arriving_length, quiet_from, Orders, figures_of, sends, fold-append, all_slots, slots_of-append, last_departs, gone_in, IdealState, ◌++◌, ap, ◌∙◌}
+-- other, with limits and without. In the last slot a cell departs, as it does in the ideal switch, so the figures tell
+-- the number of slots. And what goes on behind the end is quiet slots.
+use Rattle.cq_laws.proofs.Terms.{cases_lt, ⊎_elim, common_steps, rules, ◌≡◌, ℕ, ◌+◌, ◌-◌, ◌≤◌, cond, List, [], ◌∷◌, length, take, drop, map, Option, Err, refl, sym, arith, filter, fold, is_some, max, AllByRecursion, list_any, cases_Bool, cond_both, length-take-le, take-append-drop, take_all, append-nil, Cell, Queued, TagFault, Machine, IsForSwitch, AreForPorts, IsInputBest, IsStable, Partners, EndsAlike, RunsAlike, Fabric, IsEmptyFabric, empty_fabric, BeginsWhole, FabricRun, FabricStops, WholeRun, FabricSlot, SlotRecord, idled_for, quiet_slots, IdealAfter, IdealEnds, arriving_from, first_slots, slots_of, slots_of_run, whole_ideal_run, IsEmptyIdeal, departures_of, empty_ideal, departures_from, departures_in, ends, fewer_slots, found_end, not_more, whole_fault, arriving_length, quiet_from, Orders, figures_of, sends, fold-append, all_slots, slots_of-append, last_departs, gone_in, IdealState, ◌++◌, ap, ◌∙◌, Arrival, Marked, LimitedEndsAlike, LimitedFabricSlot, LimitedRecord, LimitedWholeRun, empty_limited_fabric, empty_limited, LimitedIdealAfter}
 use Rattle.cq_base.specs.Arriving.{Arrival, enough, traffic_of}
 use Rattle.cq_laws.proofs.AddingUp.{figures_fold, fold-max}
 use Rattle.cq_laws.proofs.InputBest.{stable_too}
-use Rattle.cq_laws.proofs.Parted.{departures_on, transfers_both, ends_with, Reach, fewer_fit, reach, run_length, run_of_whole}
-use Rattle.cq_laws.proofs.OneRun.{only_run}
+use Rattle.cq_laws.proofs.Parted.{departures_on, transfers_both, ends_with, Reach, fewer_fit, reach, run_length, run_of_whole, one_whole}
+use Rattle.cq_laws.proofs.OneRun.{only_run, only_limited_run}
 use Rattle.cq_laws.proofs.QuietSlots.{adds_nothing, empty_is, quiet_run}
 use Rattle.cq_laws.proofs.WholeRuns.{empty_agree, empty_together, run_beside, same_stop, traffic_for_empty}
+use Rattle.cq_laws.proofs.LimitedWhole.{limited_beside}
 
 -- ## The same end
 
@@ -136,3 +137,27 @@ module _ (ms : List Machine) (ports class_count : ℕ) (ranks : List (List ℕ))
       let both = sym (take-append-drop n rs) ∙ ap (λ (l : List SlotRecord). take n rs ++ l) quiet in
       let sent = departures_on (take n rs) idle 0 n (omega (arith, cut)) in
       search (arith, rules, transfers_both, is_whole, adds_nothing, append-nil, figures_fold, fold-append)
+
+-- ## With limits
+
+pub limited_ends : (limits : List (Option ℕ)) (ms : List Machine) (ports class_count : ℕ) (ranks : List (List ℕ))
+    (came : List Arrival) (rs : List LimitedRecord) (g : Marked Fabric) →
+    AllByRecursion (AreForPorts ports class_count) (first_slots came (length rs)) →
+    LimitedWholeRun IsStable limits ms came (empty_limited_fabric ports ranks) rs g →
+    LimitedEndsAlike limits ms came (empty_limited ports ranks) rs g
+limited_ends limits ms ports class_count ranks came rs g fit w =
+    let start = empty_limited_fabric ports ranks in
+    let beside = λ (m : ℕ). limited_beside limits ms ports class_count ranks (first_slots came m) in
+    let b = beside (length rs) rs g fit (run_of_whole _ came start rs (λ f. IsEmptyFabric f.state) g w) in
+    let ends = ends_with (LimitedFabricSlot IsStable limits ms) came start rs (λ f. IsEmptyFabric f.state)
+    (LimitedIdealAfter limits ms came (empty_limited ports ranks)) (λ s. IsEmptyIdeal s.state) g b.after w (rw b.ran)
+    ((empty_together _ g.state b.after.state b.agrees.states).0 w.empty) (λ m u v lt late x at over.
+    let c = beside m _ v (fewer_fit (AreForPorts ports class_count) came m (length rs) (omega arith) fit) x in
+    search (arith, rules, empty_together _ v.state c.after.state c.agrees.states)) in
+    let long = arriving_length came 0 (length rs) in search (arith, rules, ends)
+
+-- and there is one whole run, if there is one
+pub one_limited_whole : (limits : List (Option ℕ)) (ms : List Machine) (came : List Arrival) (start g h : Marked Fabric)
+    (rs ss : List LimitedRecord) → LimitedWholeRun IsInputBest limits ms came start rs g →
+    LimitedWholeRun IsInputBest limits ms came start ss h → (rs ≡ ss) × (g ≡ h)
+one_limited_whole limits ms = one_whole (LimitedFabricSlot IsInputBest limits ms) (only_limited_run ms limits).run _

@@ -3,8 +3,7 @@
 -- below the cushion of one that comes. All keys differ in each state of a slot, so the cells that cross have keys
 -- that are new in their buffers.
 use Rattle.cq_laws.proofs.Terms.{rules, ◌≡◌, ℕ, ◌+◌, List, length, Option, Some, Ok, arith, Cell, Queued, Machine, IdealState, IsStable, Partners, Agrees, FirstsCanCross, FitsList, Fabric, buffer, input, Arrives, Departs, Transfers, came_to, ranking, all_from_has, orders_of, AreForPorts}
-use Rattle.cq_laws.proofs.AfterPhases.{arrived_sound, sent_sound, moved_sound}
-use Rattle.cq_laws.proofs.Came.{came_from, keyed_from}
+use Rattle.cq_laws.proofs.AfterPhases.{arrived_sound, sent_sound, moved_sound, came_from, keyed_from}
 use Rattle.cq_laws.proofs.Cushions.{cushion_rises}
 use Rattle.cq_laws.proofs.Sound.{from_first, Sound, firsts_differ}
 use Rattle.cq_laws.proofs.OneSlot.{sound_from}

@@ -2,8 +2,9 @@
 -- those of the first input, of the second and so on, and those of its buffer: all their keys differ. Put in the order
 -- of their keys, one after the other, each new one is before or behind every other, so the list rises, and it has the
 -- same members. So the lists made of the cells that the fabric has for each output rise and have these cells: that is
--- agreement. And two lists that rise and have the same members are one list.
-use Rattle.cq_laws.proofs.Terms.{flat_map, common_steps, rules, ◌≡◌, ◌↔◌, ℕ, List, [], ◌∷◌, length, sym, ◌∙◌, ⊎_elim, arith, zero, suc, filter, cases_lt, eqb-true, eq-eqb, ext_get_or, get_or_past, get_or-map-range_with_len, length-map-range_with_len, Queued, IdealState, Agrees, Fabric, IsAmong, IsFabric, buffer, ListsKeepOrder, IsBefore, IsRising, KeysDiffer, KeepsOrder, is_for, list_of, IsSoundFabric, ideal_of, in_order, cells_for, HasFor, has_cases, has_left, has_right, has_kept, kept_has, all_of_has, none_had, all_from_has, same_pairs, pairs_joined, pairs_kept_with}
+-- agreement. And two lists that rise and have the same members are one list. So each output holds as many cells in the
+-- ideal switch as in the fabric.
+use Rattle.cq_laws.proofs.Terms.{flat_map, common_steps, rules, ◌≡◌, ◌↔◌, ℕ, List, [], ◌∷◌, length, sym, ◌∙◌, ⊎_elim, arith, zero, suc, filter, cases_lt, eqb-true, eq-eqb, ext_get_or, get_or_past, get_or-map-range_with_len, length-map-range_with_len, Queued, IdealState, Agrees, Fabric, IsAmong, IsFabric, buffer, ListsKeepOrder, IsBefore, IsRising, KeysDiffer, KeepsOrder, is_for, list_of, IsSoundFabric, ideal_of, in_order, cells_for, HasFor, has_cases, has_left, has_right, has_kept, kept_has, all_of_has, none_had, all_from_has, same_pairs, pairs_joined, pairs_kept_with, map, refl, range_with_len, length-append, ideal_held, waiting_for, held_for, fabric_held, length_put, replicate}
 use Rattle.cq_laws.proofs.Sound.{among_put, rising_put, apart_from, not_before_itself, Apart, never_both}
 
 -- ## Lists whose keys differ
@@ -89,3 +90,26 @@ only_ideal slot f a x =
     let lists = ext_get_or [] a.lists (ideal_of f).lists (x.ports ∙ sym y.ports) (λ j _.
     search (arith, rules, same_pairs IsBefore never_both, x.rising j, y.rising j, x.same j, y.same j)) in
     grind (arith, common_steps)
+
+-- ## Outputs hold as many
+
+length_in_order : (xs : List Queued) → length (in_order xs) ≡ length xs
+length_in_order [] = refl
+length_in_order (x ∷ xs) = grind (arith, common_steps, length_put, length_in_order xs)
+
+length-waits : (j : ℕ) (lists : List (List Queued)) → length (waits j lists) ≡ waiting_for j lists
+length-waits j [] = refl
+length-waits j (cells ∷ lists) = grind (arith, common_steps, length-append, length-waits j lists)
+
+hold_so : (f : Fabric) (js : List ℕ) → map length (map (λ j. in_order (cells_for j f)) js) ≡ map (λ j. held_for j f) js
+hold_so f [] = refl
+hold_so f (j ∷ js) = grind (arith, common_steps, length_in_order, length-append, waits, length-waits, hold_so f js)
+
+pub hold_as_many : (slot : ℕ) (f : Fabric) (ideal : IdealState) → Agrees slot f ideal → fabric_held f ≡ ideal_held ideal
+unfolding fabric_held ideal_of
+hold_as_many slot f ideal agrees = cc (only_ideal slot f ideal agrees, hold_so f (range_with_len 0 (length f.inputs)))
+
+-- no output holds a cell where no list has one
+pub nothing_for : (j n : ℕ) → waiting_for j (replicate n []) ≡ 0
+nothing_for j zero = refl
+nothing_for j (suc n) = let rest = nothing_for j n in omega arith

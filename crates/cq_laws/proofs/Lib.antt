@@ -2,10 +2,8 @@ mod Terms
 pub mod Cushions
 pub mod Sound
 pub mod AfterPhases
-pub mod Came
 pub mod IdealLists
 pub mod OneSlot
-pub mod Held
 pub mod IdealOf
 pub mod LimitedSlots
 pub mod WholeRuns
@@ -22,5 +20,3 @@ pub mod Parted
 pub mod EndsTogether
 pub mod Entered
 pub mod Told
-pub mod LimitedEnds
-pub mod Recorded

@@ -2,7 +2,7 @@
 -- arrivals alike. What is admitted is for the ports, as the arrivals are, and goes through the slot without limits:
 -- there both send the same or have the same fault, and the states agree again.
 use Rattle.cq_laws.proofs.Terms.{rules, arith, ◌≡◌, ℕ, ◌↔◌, Bool, List, length, Option, Err, ◌∙◌, common_steps, Cell, TagFault, Machine, IdealState, AreForPorts, IsStable, Fabric, LimitedRecord, LimitedFabricSlot, IsLimitedFault, fabric_admission, HasSlack, admission, ideal_admission, limited_slot, admitted_for_ports, LimitedAgrees, ActsAlike, Marked}
-use Rattle.cq_laws.proofs.Held.{hold_as_many}
+use Rattle.cq_laws.proofs.IdealOf.{hold_as_many}
 use Rattle.cq_laws.proofs.OneSlot.{same_fault, same_slot, slack_arrived, ports_kept}
 
 module _ (limits : List (Option ℕ)) (slot : ℕ) (cells : List (Option Cell)) (f : Marked Fabric)

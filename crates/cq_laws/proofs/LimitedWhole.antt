@@ -1,9 +1,14 @@
 -- Whole runs with limits, slot by slot from states that agree, and the runs without limits that they are: those of
--- the arrivals that the ideal switch admits, which are those that the fabric admits.
-use Rattle.cq_laws.proofs.Recorded.{recorded}
-use Rattle.cq_laws.proofs.Terms.{common_steps, rules, ◌≡◌, ℕ, ◌+◌, List, [], ◌∷◌, length, Option, Err, refl, arith, AllByRecursion, Cell, TagFault, Machine, IdealState, AreForPorts, Partners, IsStable, FabricRun, FabricStops, Fabric, LimitedRecord, LimitedFabricRun, LimitedFabricStops, admissions_in, slots_in, empty_limited_fabric, HasSlack, limited_run, admitted_traffic, empty_limited, admitted_step, admitted_are, Orders, LimitedAgrees, LimitedRunsAlike, AreJudged, Marked, whole_packets}
+-- what their own records say was admitted, which are the arrivals that the ideal switch admits.
+use Rattle.cq_laws.proofs.Terms.{common_steps, rules, ◌≡◌, ℕ, ◌+◌, List, [], ◌∷◌, length, Option, Err, refl, arith, AllByRecursion, Cell, TagFault, Machine, IdealState, AreForPorts, Partners, IsStable, FabricRun, FabricStops, Fabric, LimitedRecord, LimitedFabricRun, LimitedFabricStops, admissions_in, slots_in, empty_limited_fabric, HasSlack, limited_run, admitted_traffic, empty_limited, admitted_step, admitted_are, Orders, LimitedAgrees, LimitedRunsAlike, AreJudged, Marked, whole_packets, IsRunOfRecorded}
 use Rattle.cq_laws.proofs.LimitedSlots.{same_admission, same_limited_fault, same_limited_slot, limited_ports_kept, limited_slack_arrived}
 use Rattle.cq_laws.proofs.WholeRuns.{empty_agree, traffic_for_empty}
+
+module _ (MayChoose : Orders → Partners → Type 0) where
+  pub recorded : IsRunOfRecorded MayChoose
+  recorded limits ms slot (cells ∷ traffic) f g (r ∷ rs) run =
+      (run.0.state, run.1.runs, recorded limits ms (slot + 1) traffic run.0 g rs run.2)
+  recorded limits ms slot traffic f g rs run = grind (arith, common_steps)
 
 module _ (limits : List (Option ℕ)) (ms : List Machine) (class_count : ℕ) where
   -- the states agree, and what still arrives is for the ports

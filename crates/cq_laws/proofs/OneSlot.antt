@@ -4,9 +4,8 @@
 -- output has: the ideal list covers the buffer, both send the same cell, and the states agree again.
 use Rattle.cq_laws.proofs.Terms.{rules, ◌≡◌, ℕ, ◌+◌, ◌↔◌, List, length, Option, Err, sym, ◌∙◌, inl, inr, arith, drop, zero, suc, ◌⊎◌, [], ◌∷◌, refl, common_steps, Cell, Queued, TagFault, Machine, AreForPorts, IsStable, Fabric, input, buffer, IsAmong, HasSlack, SlotRecord, FabricSlot, Partners, Agrees, IsWholeFabric, ListsKeepOrder, EachIsWhole, Arrives, Transfers, Departs, IsBefore, IsRising, put_all, filled, fronts, rests, all_told, ideal_slot, list_of, HasFor, SendsAlike, slice_get, length-map-range_with_len, length-filled, ranks_kept, all_of_has, stands_at, ranking, orders_of, IdealState, length-map}
 use Rattle.cq_laws.proofs.Cushions.{cushion_has}
-use Rattle.cq_laws.proofs.AfterPhases.{arrivals_fall, departures_fall, rest_of, Keyed, arrived_sound, arrived_has, arrived_fabric, sent_sound, sent_buffer, rising_rest, sent_fabric, Moved, moved, moved_fabric}
+use Rattle.cq_laws.proofs.AfterPhases.{arrivals_fall, departures_fall, rest_of, Keyed, arrived_sound, arrived_has, arrived_fabric, sent_sound, sent_buffer, rising_rest, sent_fabric, Moved, moved, moved_fabric, keyed_from}
 use Rattle.cq_laws.proofs.Sound.{Sound, apart_from, early_from, differ_from, all_before, Apart, never_both, not_before_itself, same_first}
-use Rattle.cq_laws.proofs.Came.{keyed_from}
 use Rattle.cq_laws.proofs.IdealLists.{among_put_all, put_all_keeps, put_all_new, rising_put_all, list_after}
 
 -- ## Why the outputs send the same cells

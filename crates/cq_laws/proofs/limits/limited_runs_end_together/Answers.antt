@@ -1,5 +1,5 @@
 use Rattle.cq_laws.proofs.Terms.{length, empty_limited_fabric, limited_found_end, limited_whole_fault, first_slots, empty_limited}
-use Rattle.cq_laws.proofs.LimitedEnds.{limited_ends, one_limited_whole}
+use Rattle.cq_laws.proofs.EndsTogether.{limited_ends, one_limited_whole}
 use Rattle.cq_laws.proofs.LimitedWhole.{begin, same_limited_stop}
 use Rattle.cq_laws.proofs.limits.limited_runs_end_together.Goals as goal
 

@@ -1,4 +1,4 @@
-use Rattle.cq_laws.proofs.Held.{hold_as_many}
+use Rattle.cq_laws.proofs.IdealOf.{hold_as_many}
 use Rattle.cq_laws.proofs.LimitedSlots.{same_admission}
 use Rattle.cq_laws.proofs.limits.outputs_hold_as_many.Goals as goal
 
