@@ -1,7 +1,7 @@
 -- Writing a state's text part by part. A part is put line by line, and what is put, with the lines that are still to
 -- come, is all of it. Parts that are put one after another are one text, which is seen from the end back: what is put
 -- last stands behind what was put before it. And where what is put is too long, all of it is.
-use Rattle.cq_state.proofs.Terms.{◌≡◌, ℕ, ◌+◌, ◌<◌, ◌≤◌, List, [], ◌++◌, length, take, get_or, Result, IfErr, arith, append_assoc, common_steps, flat_map, append-nil, drop_all, drop_more, take_more, take-append-drop, length-append, flat_map-append, State, state_lines, state_text, head_lines, numbered, Line, spelled, IsTooLong, drop, parts}
+use Rattle.cq_state.proofs.Terms.{◌≡◌, ℕ, ◌+◌, ◌<◌, ◌≤◌, List, [], ◌++◌, length, take, get_or, Result, IfErr, arith, append_assoc, common_steps, flat_map, append-nil, drop_all, take_more, take-append-drop, length-append, flat_map-append, State, state_lines, state_text, head_lines, Line, spelled, IsTooLong, drop, parts}
 use Rattle.cq_state.specs.declared.write.StateLong.{StateLong}
 
 abbrev text : List Line → List ℕ
@@ -11,12 +11,6 @@ text xs = flat_map spelled xs
 pub put_behind : (old now new : List ℕ) (xs ys : List Line) → now ≡ old ++ text xs → new ≡ now ++ text ys →
     new ≡ old ++ text (xs ++ ys)
 put_behind old now new xs ys e f = grind (arith, common_steps, append_assoc, flat_map-append)
-
--- one line more is put, and is not to come any more: the text is the same with what is still to come
-pub line_put : {X : Type 0} (line : ℕ → X → Line) (xs : List X) (i : ℕ) (d : X) (x : Line) (now new all : List ℕ) →
-    i < length xs → now ++ text (numbered line i (drop i xs)) ≡ all → x ≡ line i (get_or xs i d) →
-    new ≡ now ++ spelled x → new ++ text (numbered line (i + 1) (drop (i + 1) xs)) ≡ all
-line_put line xs i d x now new all inside e is f = grind (arith, common_steps, drop_more xs i d, append_assoc)
 
 -- a text is too long that is as long as one that is
 long_on : {A : Type 0} (r : Result A StateLong) (now all : List ℕ) → length now ≤ length all →
