@@ -146,4 +146,4 @@ command_split words h = search (arith, rules)
 -- ## The line is made form by form
 
 -- what holds of all that a step gives holds of what it gave
-pub ruleset when_ok = (IfOk-weaker)
+pub ruleset line_steps = (IfOk-weaker)

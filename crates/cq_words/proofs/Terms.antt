@@ -1,5 +1,5 @@
 -- The words of this crate's proofs that stand elsewhere, each passed on from its place.
-pub use Rattle.cq_base.proofs.Library.{Bool, IfOk-weaker, List, None, Option, Some, [], add-one, ap, arith, at_drop_all, at_drop_more, bytes_eq, bytes_eq-Decides, codes, common_steps, drop, false, fold, get_or, if◌then◌else◌, is_ascii_digit, is_some, length, list_all, map, nat_tests, option_and_then, pow-suc, refl, rules, string_bytes, suc, true, ℕ, ◌&&◌, ◌*◌, ◌+◌, ◌-◌, ◌<◌, ◌^◌, ◌∙◌, ◌∷◌, ◌≡◌, ◌≤◌}
+pub use Rattle.cq_base.proofs.Library.{Bool, IfOk-weaker, List, None, Option, Some, [], add-one, ap, arith, bytes_eq, bytes_eq-Decides, codes, common_steps, drop, drop_all, drop_more, false, fold, get_or, if◌then◌else◌, is_ascii_digit, is_some, length, list_all, map, nat_tests, option_and_then, pow-suc, refl, rules, string_bytes, suc, true, ℕ, ◌&&◌, ◌*◌, ◌+◌, ◌-◌, ◌<◌, ◌^◌, ◌∙◌, ◌∷◌, ◌≡◌, ◌≤◌}
 pub use Rattle.clap.specs.Simple.{Shape, app_of, filled, new_shape, subcommand_of, with_index}
 pub use Rattle.clap.specs.Takes.{default_passes, is_valid, level_passes, settle_passes, step_passes, takes, turn_passes}
 unfoldable pub use Rattle.clap.specs.Takes.{walk_passes}

@@ -1,5 +1,5 @@
 //! The words of a command, split into its values by `clap`.
-#![tactic(auto, using(crate::proofs::Splitting::when_ok))]
+#![tactic(auto, using(crate::proofs::Splitting::line_steps))]
 
 ghost use Rattle.std.specs.Prelude.{◌≡◌, IfErr, IfOk, false, true, is_some, map, option_map, string_bytes};
 ghost use Rattle.clap.specs.Words.{
