@@ -96,6 +96,7 @@ impl Rank for Fair {
     }
 
     // No number stands at the place of what is no level, and then none changes.
+    #[tactic(auto, using(cq_rank::specs::Classes::rows_again, std::proofs::lemmas::List::set_past))]
     fn sent(&mut self, level: u8, rank: u128) {
         let place = time_place(&self.classes, level);
         if place < self.numbers.len() {
