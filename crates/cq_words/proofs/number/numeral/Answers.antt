@@ -1,6 +1,6 @@
 -- Digits that are read one after another. One more digit moves what is read up one place and fills the place that comes
--- free, so that in the end each counts as often as its place says. And a number of so many digits is below that power of
--- ten.
+-- free, so that in the end each counts as often as its place says. And a number of so many digits is below that power
+-- of ten.
 use Rattle.cq_words.proofs.Terms.{common_steps, rules, ◌≡◌, if◌then◌else◌, Some, None, ℕ, List, ◌-◌, ◌≤◌, length, arith, ◌∙◌, ◌<◌, get_or, list_all, is_ascii_digit, nat_tests, drop_more, drop_all, is_numeral, value_of, ◌+◌, ◌*◌, ◌^◌, [], ◌∷◌, drop, add-one, fold, pow-suc}
 use Rattle.cq_words.proofs.number.numeral.Goals as goal
 
