@@ -1,6 +1,6 @@
 -- How many cells each output holds, counted in one walk over the lists: at first those of the buffers, and of each
 -- list those for the output more.
-use Rattle.cq_engine.proofs.Terms.{common_steps, rules, ◌≡◌, ℕ, ◌+◌, ◌<◌, ◌≤◌, List, [], ◌∷◌, ◌++◌, length, map, get_or, set, take, sym, ◌∙◌, arith, All, filter, cases_eq, cond_both, eq-eqb, ne_eqb, ext_get_or, get_or-map, get_or-set_other, get_or-set_same, length-map, take_all, take_more, slice_get-get_or, Queued, is_for, list_of, Fabric, IsAmong, buffer, input, fabric_held, waiting_for, held_at, held_long, has_there, filter-append, length-append, length-set}
+use Rattle.cq_engine.proofs.Terms.{common_steps, rules, ◌≡◌, ℕ, ◌+◌, ◌<◌, ◌≤◌, List, [], ◌∷◌, ◌++◌, length, map, get_or, set, take, sym, ◌∙◌, arith, All, filter, cond_both, eq-eqb, ne_eqb, ext_get_or, get_or-map, get_or-set_other, get_or-set_same, length-map, take_all, take_more, slice_get-get_or, Queued, is_for, list_of, Fabric, IsAmong, buffer, input, fabric_held, waiting_for, held_at, held_long, has_there, filter-append, length-append, length-set}
 use Rattle.cq_laws.proofs.Cushions.{bit, bit_false, bit_true}
 
 -- how many of the cells are for output j
@@ -23,7 +23,7 @@ module _ (old held : List ℕ) (cells : List Queued) (at : ℕ) (inside : at < l
       new ≡ set held (get_or cells at d).cell.output (get_or held (get_or cells at d).cell.output 0 + 1) →
       AreCounted old new (take (at + 1) cells)
   count_next new same is j below =
-      search (rules, one_more, bit_true, eq-eqb, get_or-set_same, bit_false, ne_eqb, get_or-set_other, cases_eq)
+      grind (arith, common_steps, one_more, get_or-set_same, get_or-set_other, eq-eqb, ne_eqb)
 
 -- ## All lists
 

@@ -1,9 +1,8 @@
 mod Terms
 pub mod NoOffers
-pub mod Slot
 pub mod Shown
+pub mod Slot
 pub mod Kept
 mod Counted
 mod Going
 mod StraightSlot
-mod Done

@@ -1,6 +1,6 @@
 -- What the parts of an engine show of what a slot asks. It is asked of the engine as clauses see it. Moved to the
--- parts it is one record, which the lemmas take.
-use Rattle.cq_engine.proofs.Terms.{common_steps, rules, ◌≡◌, ◌<◌, ◌≤◌, ◌^◌, ℕ, Bool, false, List, Option, length, map, get_or, arith, length-map, Cell, Figures, Queued, Machine, class_count, admitted, CanCount, LimiterView, AreForPorts, list_of, Queues, fabric_of, admitted_room, numbers_fit, AreRanked, BuffersHaveRoom, ListsHaveRoom, Departure, Transfer, RoomView, EngineView, IsReadyFor, IsRunning, ports_of, Look, CanTakeIn, HasTakenIn, RanksView, admitted_arrives, admitted_for_ports}
+-- parts it is one record, and what is known once the arrivals are taken in is another, which the lemmas take.
+use Rattle.cq_engine.proofs.Terms.{common_steps, rules, ◌≡◌, ◌<◌, ◌≤◌, ◌^◌, ℕ, Bool, false, List, Option, length, map, get_or, arith, length-map, Cell, Figures, Queued, Machine, class_count, admitted, CanCount, LimiterView, AreForPorts, list_of, Queues, fabric_of, admitted_room, numbers_fit, AreRanked, BuffersHaveRoom, ListsHaveRoom, Departure, Transfer, RoomView, EngineView, IsReadyFor, IsRunning, ports_of, Look, CanTakeIn, HasTakenIn, RanksView, admitted_arrives, admitted_for_ports, HaveJudged, HasJudged, marks_after, refused, with_refused, ap}
 
 -- what is seen of these parts
 abbrev pub seen : List (List ℕ) → List (List ℕ) → Queues → LimiterView → Figures → ℕ → Bool → EngineView
@@ -49,20 +49,27 @@ module _ {ms : List Machine} {slot : ℕ} {cells : List (Option Cell)} {q : Queu
       ((j : ℕ) → get_or q.to_outputs j 0 < 2 ^ 64) → CanTakeIn ms cells l
   can_take_in within fits = grind (arith, common_steps, numbers_fit)
 
-  -- ## What is admitted by some marks
+-- ## Once the arrivals are taken in
 
-  pub lists_room : (marks : List Bool) → ListsHaveRoom q (admitted marks cells)
-  lists_room marks i cell at = search (rules, known.list_room, admitted_arrives)
+-- they are judged, and those that are admitted have their keys, and there is room for them
+pub record Taken (ms : List Machine) (slot : ℕ) (arrivals : List (Option Cell)) (q : Queues) (states : List (List ℕ))
+    (l : LimiterView) (looks : Look) (x : Figures) (came : List (Option Queued)) (states' : List (List ℕ))
+    (l' : LimiterView) : Type 0 where
+  pub running : IsRunning ms slot looks x (fabric_of q states) l
+  pub ranked : AreRanked ms slot q states (admitted l'.marks arrivals) (class_count ms) came states'
+  pub list_room : ListsHaveRoom q (admitted l'.marks arrivals)
+  pub buffer_room : BuffersHaveRoom (length ms) q (admitted l'.marks arrivals)
+  pub judged : HaveJudged (admitted l'.marks arrivals) l l'
+  pub marks : l'.marks ≡ marks_after l.limits l.held l.marks arrivals
+  pub refused : l'.refused ≡ with_refused (refused l'.marks arrivals) l.refused
 
-  pub buffers_room : (marks : List Bool) → BuffersHaveRoom (length ms) q (admitted marks cells)
-  buffers_room marks = admitted_room (length ms) q marks cells known.buffer_room
-
--- once the arrivals are taken in, those that are admitted have their keys
 pub taken : {ms : List Machine} {slot : ℕ} {cells : List (Option Cell)} {q : Queues} {l l' : LimiterView} {looks : Look}
     {x : Figures} {ranks ranks' : RanksView} {came : List (Option Queued)} →
-    Begun ms slot cells q ranks.states l looks x → HasTakenIn ms slot cells ranks ranks' l l' came →
-    AreRanked ms slot q ranks.states (admitted l'.marks cells) (class_count ms) came ranks'.states
-taken known did = search (arith, rules, admitted_for_ports)
+    Begun ms slot cells q ranks.states l looks x → HasJudged cells l l' →
+    HasTakenIn ms slot cells ranks ranks' l l' came →
+    Taken ms slot cells q ranks.states l looks x came ranks'.states l'
+taken known judged did =
+    search (arith, rules, admitted_for_ports, admitted_arrives, known.list_room, admitted_room, ap length judged.limits)
 
 -- an engine that has not stopped
 pub ruleset running_steps = (up, length-map)

@@ -1,7 +1,9 @@
 -- A slot of the engine: that of the fabric below, with the figures that are counted of it. What each phase asks for
--- is shown there, for any stable matchings, and input-best ones are stable.
-use Rattle.cq_engine.proofs.Terms.{slice_get_within, slice_get-get_or, common_steps, rules, ◌≡◌, ℕ, zero, suc, ◌+◌, ◌-◌, ◌≤◌, eqb, Bool, List, [], ◌∷◌, ◌++◌, length, map, Option, Some, None, refl, arith, if◌then◌else◌, min, max, slice_get, is_some, enumerate_from, list_any, position_or_len, reduce, option_map, same_Some, Cell, Queued, Transfer, InputFigures, OutputFigures, Figures, Machine, IdealState, fronts, list_of, transfers_of, Partners, IsInputBest, IsStable, Fabric, cushion_of, came_to, SlotRecord, FabricSlot, figures_after, input_after, output_after, either_by, slacks, slack_on_arrival, proposals_in, stable_slot, Queues, fabric_of, length-by_place, at-by_place, AreRanked, BuffersHaveRoom, HaveArrived, HaveMoved, HaveSent, alike, arrive, come, depart, fill, keyed, recorded, IsInStep, IsSeen, CountsFit, Look, arriving_slack, input_counted, output_counted, slack_seen, SendsAlike, by_arrivals, more_after}
+-- is shown there, for any stable matchings, and input-best ones are stable. What a slot comes to is one record, from
+-- which follows what clauses say of it.
+use Rattle.cq_engine.proofs.Terms.{slice_get_within, slice_get-get_or, common_steps, rules, ◌≡◌, ℕ, zero, suc, ◌+◌, ◌-◌, ◌≤◌, eqb, Bool, List, [], ◌∷◌, ◌++◌, length, map, Option, Some, None, refl, arith, if◌then◌else◌, min, max, slice_get, is_some, enumerate_from, list_any, position_or_len, reduce, option_map, same_Some, Cell, Queued, Transfer, InputFigures, OutputFigures, Figures, Machine, fronts, list_of, transfers_of, Partners, IsInputBest, IsStable, Fabric, cushion_of, came_to, SlotRecord, FabricSlot, figures_after, input_after, output_after, either_by, slacks, slack_on_arrival, proposals_in, stable_slot, Queues, fabric_of, length-by_place, at-by_place, HaveArrived, HaveMoved, HaveSent, alike, arrive, come, depart, fill, keyed, recorded, IsInStep, IsSeen, CountsFit, Look, arriving_slack, input_counted, output_counted, slack_seen, SendsAlike, by_arrivals, more_after, LimiterView, HasReleased, HoldsFabric, EngineView, SlotDone, RoomView, Departure, HaveLeft, admitted, admits_are, by_marks, still_holds, ◌∙◌, class_count}
 use Rattle.cq_engine.specs.Crossing.{HaveMovedBest}
+use Rattle.cq_engine.proofs.Shown.{Taken, seen as shown}
 use Rattle.cq_laws.specs.Records.{transfers_in}
 use Rattle.cq_engine.specs.declared.measure.Look.TheVariants as look
 
@@ -42,7 +44,7 @@ outputs_long x r = length-by_place (output_after r) x.outputs
 
 -- ## What is known of a slot
 
--- the matching that crossed is stable
+-- what crossed was moved by a stable matching
 pub moved_of : {m : Partners} {count : ℕ} {q q' : Queues} → HaveMovedBest m count q q' → HaveMoved m q q'
 moved_of crossed = record { stable = crossed.best.stable; moves = crossed.moves }
 
@@ -55,9 +57,9 @@ pub record AreCounted (counted : ℕ → InputFigures → InputFigures) (slot : 
   pub inputs : y.inputs ≡ map (λ at. counted at.0 at.1) (enumerate_from 0 x.inputs)
   pub outputs : y.outputs ≡ map (λ at. output_counted slot (came_to gone at.0) at.1) (enumerate_from 0 x.outputs)
 
--- what a slot comes to, with the figures after it
+-- what a slot comes to, with the figures and the limiter after it
 pub record Whole (ms : List Machine) (slot : ℕ) (cells : List (Option Cell)) (x y : Figures) (f g : Fabric)
-    (ideal : IdealState) (left : List (Option Queued)) (noted : List Transfer) : Type 0 where
+    (judged after : LimiterView) (left : List (Option Queued)) (noted : List Transfer) : Type 0 where
   pub of_slot : SlotRecord
   pub is_slot : FabricSlot IsInputBest ms slot cells f of_slot g
   pub gone : of_slot.gone ≡ left
@@ -65,68 +67,95 @@ pub record Whole (ms : List Machine) (slot : ℕ) (cells : List (Option Cell)) (
   pub figures : y ≡ figures_after x of_slot
   pub in_step : IsInStep ms (slot + 1) y g
   pub seen : IsSeen look.Arriving y g
-  pub alike : SendsAlike ms slot cells ideal left g
+  pub released : HasReleased left judged after
+  pub holds : HoldsFabric g after
+
+-- it is done, as clauses see it: so the engine was seen before it, and so it is after it
+module _ (M : List ℕ → Machine) {fixed states : List (List ℕ)} {q : Queues} {l judged : LimiterView} {x : Figures}
+    {next : ℕ} {stopped : Bool} {v : EngineView} (is : shown fixed states q l x next stopped ≡ v) {slot : ℕ}
+    {arrivals : List (Option Cell)} {looks : Look} {came : List (Option Queued)} {states1 : List (List ℕ)}
+    (known : Taken (map M fixed) slot arrivals q states l looks x came states1 judged) where
+  pub slot_done : {fixed' states' : List (List ℕ)} {q' : Queues} {l' : LimiterView} {y : Figures} {next' : ℕ}
+      {gone : List (Option Queued)} {noted : List Transfer} {sent sent' : RoomView Departure}
+      {note note' : RoomView Transfer} →
+      Whole (map M fixed) slot (admitted judged.marks arrivals) x y (fabric_of q states) (fabric_of q' states')
+      judged l' gone noted → HaveLeft slot gone sent sent' → note'.items ≡ note.items ++ noted →
+      note'.spare + length noted ≡ note.spare →
+      SlotDone (map M v.fixed) slot arrivals v (shown fixed' states' q' l' y next' stopped) sent sent' note note'
+  slot_done done left items spare =
+      rw (← is) (record {
+        record_of = record { admission = by_marks judged.marks arrivals; of_slot = done.of_slot };
+        is_slot = search (arith, rules, admits_are);
+        departed = rw done.gone left.items;
+        departed_room = search (arith, rules);
+        crossed = rw done.crossed items;
+        crossed_room = search (arith, rules);
+        counted = done.figures;
+        refused = done.released.judges.refused ∙ known.refused;
+      })
 
 -- ## A slot
 
-module _ {ms : List Machine} {slot : ℕ} {q0 : Queues} {ranks0 : List (List ℕ)} {cells : List (Option Cell)}
-    {classes : ℕ} {came : List (Option Queued)} {ranks1 : List (List ℕ)} (x : Figures)
-    (up : IsInStep ms slot x (fabric_of q0 ranks0)) (known : AreRanked ms slot q0 ranks0 cells classes came ranks1)
-    {q1 : Queues} (arrived : HaveArrived q0 came q1) (room : BuffersHaveRoom (length ms) q0 cells) where
-  module _ {m1 : Partners} {p1 : ℕ} {q2 : Queues} (crossed1 : HaveMovedBest m1 p1 q1 q2) {ranks2 : List (List ℕ)}
-      {q3 : Queues} (sent : HaveSent ms q1 ranks1 q2 ranks2 q3) {m2 : Partners} {p2 : ℕ} {q4 : Queues}
-      (crossed2 : HaveMovedBest m2 p2 q3 q4) where
-    -- what is recorded of the slot
-    abbrev of_slot : SlotRecord
-    of_slot = recorded known arrived room (moved_of crossed1) sent (moved_of crossed2)
+module _ {ms : List Machine} {slot : ℕ} {arrivals : List (Option Cell)} {q0 : Queues} {ranks0 : List (List ℕ)}
+    {l : LimiterView} {looks : Look} {x : Figures} {came : List (Option Queued)} {ranks1 : List (List ℕ)}
+    {judged : LimiterView} (known : Taken ms slot arrivals q0 ranks0 l looks x came ranks1 judged) {q1 : Queues}
+    (arrived : HaveArrived q0 came q1) {m1 : Partners} {p1 : ℕ} {q2 : Queues} (crossed1 : HaveMovedBest m1 p1 q1 q2)
+    {ranks2 : List (List ℕ)} {q3 : Queues} (sent : HaveSent ms q1 ranks1 q2 ranks2 q3) {m2 : Partners} {p2 : ℕ}
+    {q4 : Queues} (crossed2 : HaveMovedBest m2 p2 q3 q4) where
+  -- the cells that are admitted
+  abbrev cells : List (Option Cell)
+  cells = admitted judged.marks arrivals
 
-    is_slot : FabricSlot IsInputBest ms slot cells (fabric_of q0 ranks0) of_slot (fabric_of q4 ranks2)
-    is_slot = grind (arith, common_steps, arrive, fill, moved_of, depart)
+  -- what is recorded of the slot
+  abbrev of_slot : SlotRecord
+  of_slot = recorded known.ranked arrived known.buffer_room (moved_of crossed1) sent (moved_of crossed2)
 
-    stable : FabricSlot IsStable ms slot cells (fabric_of q0 ranks0) of_slot (fabric_of q4 ranks2)
-    stable = stable_slot ms slot cells (fabric_of q0 ranks0) (fabric_of q4 ranks2) of_slot is_slot
+  is_slot : FabricSlot IsInputBest ms slot cells (fabric_of q0 ranks0) of_slot (fabric_of q4 ranks2)
+  is_slot = grind (arith, common_steps, arrive, fill, moved_of, depart)
 
-    -- ## The figures
+  stable : FabricSlot IsStable ms slot cells (fabric_of q0 ranks0) of_slot (fabric_of q4 ranks2)
+  stable = stable_slot ms slot cells (fabric_of q0 ranks0) (fabric_of q4 ranks2) of_slot is_slot
 
-    told_slack : (i : ℕ) (c : Option Queued) → came_to came i ≡ c →
-        slack_of_came slot q1 ranks1 i c ≡ arriving_slack q1 i c
-    told_slack i None is = refl
-    told_slack i (Some c) is = let at = (keyed known).slot_is i c is in rw at refl
+  -- ## The figures
 
-    slack_told : (looks : Look) → IsSeen looks x (fabric_of q0 ranks0) → (i : ℕ) (y : InputFigures) →
-        slice_get x.inputs i ≡ Some y →
-        either_by min y.slack (slack_seen looks q1 i (came_to came i))
-        ≡ either_by min y.slack (reduce min (slacks (fabric_of q1 ranks1) i))
-    unfolding slack_on_arrival slacks
-    slack_told looks seen i y at =
-        let same = by_arrivals ms slot classes cells _ _ known.ideal of_slot known.agrees (come known) stable x in
-        search (rules, told_slack i, same)
+  told_slack : (i : ℕ) (c : Option Queued) → came_to came i ≡ c →
+      slack_of_came slot q1 ranks1 i c ≡ arriving_slack q1 i c
+  told_slack i None is = refl
+  told_slack i (Some c) is = let at = (keyed known.ranked).slot_is i c is in rw at refl
 
-    input_told : (looks : Look) → IsSeen looks x (fabric_of q0 ranks0) → (i : ℕ) (y : InputFigures) →
-        slice_get x.inputs i ≡ Some y → input_counted looks q1 i (came_to came i) y ≡ input_after of_slot i y
-    unfolding input_counted input_after
-    input_told looks seen i y at = grind (arith, common_steps, slack_told)
+  slack_told : (i : ℕ) (y : InputFigures) → slice_get x.inputs i ≡ Some y →
+      either_by min y.slack (slack_seen looks q1 i (came_to came i))
+      ≡ either_by min y.slack (reduce min (slacks (fabric_of q1 ranks1) i))
+  unfolding slack_on_arrival slacks
+  slack_told i y at =
+      let same = by_arrivals ms slot (class_count ms) cells _ _ known.ranked.ideal of_slot known.ranked.agrees
+      (come known.ranked) stable x in
+      search (rules, told_slack i, same)
 
-    counted_inputs : (looks : Look) → IsSeen looks x (fabric_of q0 ranks0) →
-        map (λ at. input_counted looks q1 at.0 (came_to came at.0) at.1) (enumerate_from 0 x.inputs)
-        ≡ map (λ at. input_after of_slot at.0 at.1) (enumerate_from 0 x.inputs)
-    counted_inputs looks seen = by_place_same (λ k. input_counted looks q1 k (came_to came k)) (input_after of_slot) 0
-        x.inputs (λ i y k e at. search (arith, rules, input_told))
+  input_told : (i : ℕ) (y : InputFigures) → slice_get x.inputs i ≡ Some y →
+      input_counted looks q1 i (came_to came i) y ≡ input_after of_slot i y
+  unfolding input_counted input_after
+  input_told i y at = grind (arith, common_steps, slack_told)
 
-    same : SendsAlike ms slot cells known.ideal (fronts q2.buffers) (fabric_of q4 ranks2)
-    same = alike known arrived room (moved_of crossed1) sent (moved_of crossed2)
+  counted_inputs : map (λ at. input_counted looks q1 at.0 (came_to came at.0) at.1) (enumerate_from 0 x.inputs)
+      ≡ map (λ at. input_after of_slot at.0 at.1) (enumerate_from 0 x.inputs)
+  counted_inputs = by_place_same (λ k. input_counted looks q1 k (came_to came k)) (input_after of_slot) 0 x.inputs
+      (λ i y k e at. search (arith, rules, input_told))
 
-    seen_after : IsSeen look.Arriving (figures_after x of_slot) (fabric_of q4 ranks2)
-    seen_after = search (rules, more_after, come, stable)
+  same : SendsAlike ms slot cells known.ranked.ideal (fronts q2.buffers) (fabric_of q4 ranks2)
+  same = alike known.ranked arrived known.buffer_room (moved_of crossed1) sent (moved_of crossed2)
 
-    in_step : IsInStep ms (slot + 1) (figures_after x of_slot) (fabric_of q4 ranks2)
-    in_step = search (arith, rules, same, seen_after, outputs_long, counts_fit)
+  seen_after : IsSeen look.Arriving (figures_after x of_slot) (fabric_of q4 ranks2)
+  seen_after = search (rules, more_after, come known.ranked, stable)
 
-    pub whole_slot : (looks : Look) → IsSeen looks x (fabric_of q0 ranks0) → (y : Figures) →
-        AreCounted (λ i. input_counted looks q1 i (came_to came i)) slot (fronts q2.buffers) p1 p2 x y →
-        Whole ms slot cells x y (fabric_of q0 ranks0) (fabric_of q4 ranks2) known.ideal (fronts q2.buffers)
-        (transfers_of m1 q1.inputs slot 1 ++ transfers_of m2 q3.inputs slot 2)
-    unfolding transfers_in output_counted output_after figures_after proposals_in
-    whole_slot looks seen y counts =
-        let figures : y ≡ figures_after x of_slot = grind (arith, common_steps, counted_inputs looks seen) in
-        search (rules, is_slot, in_step, seen_after, same)
+  in_step : IsInStep ms (slot + 1) (figures_after x of_slot) (fabric_of q4 ranks2)
+  in_step = search (arith, rules, same, seen_after, outputs_long, counts_fit)
+
+  pub whole_slot : {after : LimiterView} → HasReleased (fronts q2.buffers) judged after → (y : Figures) →
+      AreCounted (λ i. input_counted looks q1 i (came_to came i)) slot (fronts q2.buffers) p1 p2 x y →
+      Whole ms slot cells x y (fabric_of q0 ranks0) (fabric_of q4 ranks2) judged after (fronts q2.buffers)
+      (transfers_of m1 q1.inputs slot 1 ++ transfers_of m2 q3.inputs slot 2)
+  unfolding transfers_in output_counted output_after figures_after proposals_in
+  whole_slot releases y counts =
+      let holds = still_holds known.ranked _ _ _ _ _ same known.running.holds known.judged releases in
+      search (arith, rules, counted_inputs, is_slot, in_step, seen_after)

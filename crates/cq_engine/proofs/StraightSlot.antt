@@ -5,10 +5,11 @@
 -- transfer empties the lists and puts each cell alone into the buffer of its output, which sends it. After that nothing
 -- waits and nothing is offered, and the second matching is empty. The lists and buffers in between are made here for
 -- the proof alone.
-use Rattle.cq_engine.proofs.Terms.{common_steps, rules, ◌≡◌, ℕ, ◌+◌, ◌*◌, ◌<◌, ◌≤◌, List, [], ◌∷◌, ◌++◌, length, map, drop, get_or, replicate, Option, Some, None, refl, sym, ap, ◌∙◌, arith, All, IfSome, enumerate_from, filter_map, range_with_len, sum_by, option_map, cases_lt, cond_both, eq-eqb, row_fits, same_Some, append-nil, ext_get_or, get_or_past, length-map, get_or-map-range_with_len, length-map-range_with_len, sum-map, sum_by-cons, Cell, Queued, Transfer, Figures, InputFigures, Machine, all_told, fronts, rests, LimiterView, list_of, orders_of, output_order, Moves, list_taken, transfers_of, ports, IsListed, Partners, partner_of, partner_place, proposals, IsFreeOutput, IsInputBest, IsStable, slacks, came_to, HoldsFabric, Queues, fabric_of, AreRanked, BuffersHaveRoom, HaveArrived, HaveJudged, HaveSent, ListsHaveRoom, fits_lists, held_before, keyed, IsInStep, IsSeen, arriving_slack, input_counted, slack_seen, GoStraight, crossing, crossings, input_passed, Look, among, place_head, none_unless, outputs_at, kept_more, kept_few, append_assoc, length-append}
+use Rattle.cq_engine.proofs.Terms.{common_steps, rules, ◌≡◌, ℕ, ◌+◌, ◌*◌, ◌<◌, ◌≤◌, List, [], ◌∷◌, ◌++◌, length, map, drop, get_or, replicate, Option, Some, None, refl, sym, ap, ◌∙◌, arith, All, IfSome, enumerate_from, filter_map, range_with_len, sum_by, option_map, cases_lt, cond_both, eq-eqb, row_fits, same_Some, append-nil, ext_get_or, get_or_past, length-map, get_or-map-range_with_len, length-map-range_with_len, sum-map, sum_by-cons, Cell, Queued, Transfer, Figures, Machine, all_told, fronts, rests, LimiterView, list_of, orders_of, output_order, Moves, list_taken, transfers_of, ports, IsListed, Partners, partner_of, partner_place, proposals, IsFreeOutput, IsInputBest, IsStable, slacks, came_to, Queues, fabric_of, HaveArrived, HaveSent, fits_lists, held_before, keyed, arriving_slack, input_counted, slack_seen, GoStraight, crossings, input_passed, Look, among, place_head, none_unless, outputs_at, kept_more, kept_few, kept_past, append_assoc, length-append, admitted, HasReleased}
 use Rattle.std.proofs.Math.ListN.{get_or-map}
 use Rattle.cq_engine.specs.Crossing.{HaveMovedBest}
 use Rattle.cq_engine.proofs.NoOffers.{none_best, none_proposed, nothing_moves, nothing_noted}
+use Rattle.cq_engine.proofs.Shown.{Taken}
 use Rattle.cq_engine.proofs.Slot.{AreCounted, Whole, moved_of, whole_slot, by_place_same}
 
 -- ## A cell alone
@@ -70,14 +71,13 @@ crossings_none slot came = refl
 pub crossings_past : (slot n : ℕ) (came : List (Option Queued)) → came_to came n ≡ None →
     crossings slot (n + 1) came ≡ crossings slot n came
 unfolding crossings
-crossings_past slot n came none =
-    let more = kept_more (λ i. crossing slot i (came_to came i)) n in grind (arith, common_steps, more, append-nil)
+crossings_past slot n came none = grind (arith, common_steps, kept_past)
 
 pub crossings_one : (slot n : ℕ) (came : List (Option Queued)) (c : Queued) → came_to came n ≡ Some c →
     let t : Transfer = record { slot = slot; phase = 1; input = n; output = c.cell.output; id = c.cell.id } in
     crossings slot (n + 1) came ≡ crossings slot n came ++ t ∷ []
 unfolding crossings
-crossings_one slot n came c is = grind (arith, common_steps, kept_more (λ i. crossing slot i (came_to came i)) n)
+crossings_one slot n came c is = grind (arith, common_steps, kept_more)
 
 -- one an input at most
 pub crossings_few : (slot n : ℕ) (came : List (Option Queued)) → length (crossings slot n came) ≤ n
@@ -90,16 +90,16 @@ at_most_square n = grind (arith, common_steps, row_fits)
 
 -- ## The slot
 
-module _ {ms : List Machine} {slot : ℕ} {q : Queues} {ranks0 : List (List ℕ)} {cells : List (Option Cell)}
-    {classes : ℕ} {came : List (Option Queued)} {ranks1 : List (List ℕ)}
-    (known : AreRanked ms slot q ranks0 cells classes came ranks1) (lists_room : ListsHaveRoom q cells)
+module _ {ms : List Machine} {slot : ℕ} {arrivals : List (Option Cell)} {q : Queues} {ranks0 : List (List ℕ)}
+    {l : LimiterView} {looks : Look} {x : Figures} {came : List (Option Queued)} {ranks1 : List (List ℕ)}
+    {judged : LimiterView} (known : Taken ms slot arrivals q ranks0 l looks x came ranks1 judged)
     {gone : List (Option Queued)} (straight : GoStraight q came gone) where
   -- how many inputs there are
   abbrev n : ℕ
   n = length q.inputs
 
   none_past : (i : ℕ) → n ≤ i → came_to came i ≡ None
-  none_past i past = grind (arith, common_steps, fits_lists known lists_room i)
+  none_past i past = grind (arith, common_steps, fits_lists known.ranked known.list_room i)
 
   no_list : (i : ℕ) → list_of q.inputs i ≡ []
   no_list = no_cell q.inputs straight.lists
@@ -141,15 +141,15 @@ module _ {ms : List Machine} {slot : ℕ} {q : Queues} {ranks0 : List (List ℕ)
   pair_of i c is = partner_is i ∙ ap wanted is
 
   pair_gone : (i : ℕ) (c : Queued) → came_to came i ≡ Some c → came_to gone c.cell.output ≡ Some c
-  pair_gone i c is = straight.sent.each i c (fits_lists known lists_room i c is).inside is
+  pair_gone i c is = straight.sent.each i c (fits_lists known.ranked known.list_room i c is).inside is
 
   -- ## The first matching
 
   at_best : (i : ℕ) → partner_place (orders_of lists) pairs i ≡ 0
-  at_best i = grind (arith, common_steps, outputs_at, list_is, partner_is, place_head)
+  at_best i = search (arith, rules, listed_facts, place_head)
 
   once : (i k j : ℕ) → partner_of pairs i ≡ Some j → partner_of pairs k ≡ Some j → i ≡ k
-  once i k j h g = search (arith, rules, keyed known, pair_cell, pair_gone)
+  once i k j h g = search (arith, rules, keyed known.ranked, pair_cell, pair_gone)
 
   pairs_stable : IsStable (orders_of lists) pairs
   pairs_stable = search (rules, listed_facts, place_head, same_Some, wants_offered, once)
@@ -163,7 +163,7 @@ module _ {ms : List Machine} {slot : ℕ} {q : Queues} {ranks0 : List (List ℕ)
 
   all_noted : transfers_of pairs lists slot 1 ≡ crossings slot n came
   unfolding crossings transfers_of
-  all_noted = grind (arith, common_steps, length-map-range_with_len, same_kept, list_is, partner_is, cond_both, eq-eqb)
+  all_noted = search (rules, listed_facts, same_kept, cond_both, eq-eqb)
 
   -- ## The phases
 
@@ -206,37 +206,31 @@ module _ {ms : List Machine} {slot : ℕ} {q : Queues} {ranks0 : List (List ℕ)
   arriving_least : (i : ℕ) (o : Option Queued) → arriving_slack listed i o ≡ least o
   arriving_least i o = grind (arith, common_steps, no_buffer)
 
-  seen_least : (looks : Look) (i : ℕ) → slack_seen looks listed i (came_to came i) ≡ least (came_to came i)
+  seen_least : (i : ℕ) → slack_seen looks listed i (came_to came i) ≡ least (came_to came i)
   unfolding slacks
-  seen_least looks i = grind (arith, common_steps, arriving_least, list_is, no_buffer)
+  seen_least i = grind (arith, common_steps, arriving_least, list_is, no_buffer)
 
-  one_passed : (looks : Look) (i : ℕ) (o : Option Queued) (x : InputFigures) → list_of lists i ≡ alone o →
-      slack_seen looks listed i o ≡ least o → input_passed o x ≡ input_counted looks listed i o x
+  counted_passed : map (λ at. input_passed (came_to came at.0) at.1) (enumerate_from 0 x.inputs)
+      ≡ map (λ at. input_counted looks listed at.0 (came_to came at.0) at.1) (enumerate_from 0 x.inputs)
   unfolding input_counted
-  one_passed looks i o x list slack = grind (arith, common_steps)
-
-  pub counted_passed : (looks : Look) (xs : List InputFigures) →
-      map (λ at. input_passed (came_to came at.0) at.1) (enumerate_from 0 xs)
-      ≡ map (λ at. input_counted looks listed at.0 (came_to came at.0) at.1) (enumerate_from 0 xs)
-  counted_passed looks xs = grind (arith, common_steps, by_place_same, one_passed, list_is, seen_least)
+  counted_passed = search (arith, rules, by_place_same, list_is, seen_least)
 
   -- ## All of it
 
   -- what each output holds before it sends
-  pub held_straight : (room : BuffersHaveRoom (length ms) q cells) {before judged : LimiterView} →
-      HoldsFabric (fabric_of q ranks0) before → HaveJudged cells before judged →
-      (j : ℕ) → IfSome (came_to gone j) (λ _. 0 < get_or judged.held j 0)
-  held_straight room {before} {judged} holds judges j =
-      rw (← fronts_alone gone) (held_before known arrived room (moved_of crossed) holds judges j)
+  pub held_straight : (j : ℕ) → IfSome (came_to gone j) (λ _. 0 < get_or judged.held j 0)
+  held_straight j = rw (← fronts_alone gone)
+      (held_before known.ranked arrived known.buffer_room (moved_of crossed) known.running.holds known.judged j)
 
-  pub whole_straight : (room : BuffersHaveRoom (length ms) q cells) (x : Figures) →
-      IsInStep ms slot x (fabric_of q ranks0) → (looks : Look) → IsSeen looks x (fabric_of q ranks0) →
-      (ranks2 : List (List ℕ)) → ranks2 ≡ all_told ms gone ranks1 → (y : Figures) →
+  pub whole_straight : (ranks2 : List (List ℕ)) → ranks2 ≡ all_told ms gone ranks1 → {after : LimiterView} →
+      HasReleased gone judged after → (y : Figures) →
       AreCounted (λ i. input_passed (came_to came i)) slot gone (length (crossings slot n came)) 0 x y →
-      Whole ms slot cells x y (fabric_of q ranks0) (fabric_of q ranks2) known.ideal gone (crossings slot n came)
-  whole_straight room x up looks seen ranks2 told y counts =
-      let long = whole_slot x up known arrived room crossed (sent ranks2 told) crossed_again looks seen y
-      (search (arith, rules, fronts_alone, counted_passed looks x.inputs)) in
+      Whole ms slot (admitted judged.marks arrivals) x y (fabric_of q ranks0) (fabric_of q ranks2) judged after gone
+      (crossings slot n came)
+  whole_straight ranks2 told {after} releases y counts =
+      let released : HasReleased (fronts (map alone gone)) judged after = rw (fronts_alone gone) releases in
+      let long = whole_slot known arrived crossed (sent ranks2 told) crossed_again released y
+      (search (arith, rules, fronts_alone, counted_passed)) in
       rw (fronts_alone gone, nothing_noted, append-nil, all_noted) at long
 
 pub ruleset note_steps =

@@ -7,7 +7,7 @@ pub use Rattle.cq_base.specs.{declared.cell.Departure.Departure}
 pub use Rattle.cq_rank.specs.Switch.{AreForOneSwitch, class_count}
 pub use Rattle.cq_ideal.specs.Admission.{admitted, marks_after, refused}
 pub use Rattle.cq_ideal.specs.Ideal.{HaveLeft}
-pub use Rattle.cq_ideal.specs.IdealSlot.{IdealState, all_told, departures_from, fronts, rests}
+pub use Rattle.cq_ideal.specs.IdealSlot.{all_told, departures_from, fronts, rests}
 unfoldable pub use Rattle.cq_ideal.specs.IdealSlot.{departures_in}
 pub use Rattle.cq_ideal.specs.Limiter.{CanCount, LimiterView}
 pub use Rattle.cq_ideal.specs.{Parts.RanksView, Refused.with_refused, Taking.CanTakeIn, Taking.HasJudged, Taking.HasTakenIn}
@@ -18,7 +18,7 @@ unfoldable pub use Rattle.cq_prefs.specs.Moves.{transfers_of}
 pub use Rattle.cq_prefs.specs.Orders.{IsListed, Orders, outputs_of, ports}
 pub use Rattle.cq_prefs.specs.Pairing.{IsFreeOutput, IsInputBest, IsStable, Partners, partner_of, partner_place, proposals}
 pub use Rattle.cq_prefs.proofs.{ByKey.some_of, Holding.none_unless, InputOrder.outputs_at, Members.among, Members.place_head}
-pub use Rattle.cq_xbar.proofs.Noting.{kept_few, kept_more}
+pub use Rattle.cq_xbar.proofs.Noting.{kept_few, kept_more, kept_past}
 pub use Rattle.cq_laws.proofs.InputBest.{stable_limited_slot, stable_slot}
 pub use Rattle.cq_laws.proofs.WholeRuns.{empty_agree, no_place}
 pub use Rattle.cq_laws.specs.Fabric.{Fabric, IsAmong, IsEmptyFabric, buffer, cushion_of, empty_fabric, input}

@@ -1,7 +1,6 @@
-use Rattle.cq_engine.proofs.Terms.{rules, ◌≡◌, ◌+◌, ◌*◌, ◌≤◌, ◌++◌, ℕ, List, length, map, ap, ◌∙◌, arith, append_assoc, length-append, Option, length-map, admitted, transfers_of, EngineView, HaveArrived, HaveJudged, HaveSent, admits_are, still_holds, came_newest, came_outputs, can_cross_first, can_cross_second, come_apart, few_cross, fits_lists, held_before, GoStraight, length-told, HasJudged, Cell, LimiterView}
-use Rattle.cq_engine.proofs.Shown.{Begun, begun, buffers_room, can_take_in, lists_room, taken}
-use Rattle.cq_engine.proofs.Done.{slot_done}
-use Rattle.cq_engine.proofs.Slot.{moved_of, whole_slot}
+use Rattle.cq_engine.proofs.Terms.{rules, ◌≡◌, ◌+◌, ◌*◌, ◌≤◌, ℕ, length, map, ap, ◌∙◌, arith, append_assoc, length-append, length-map, transfers_of, EngineView, HaveArrived, HaveSent, admits_are, came_newest, came_outputs, can_cross_first, can_cross_second, come_apart, few_cross, fits_lists, held_before, GoStraight, length-told}
+use Rattle.cq_engine.proofs.Shown.{Begun, begun, can_take_in, taken}
+use Rattle.cq_engine.proofs.Slot.{moved_of, slot_done, whole_slot}
 use Rattle.cq_engine.proofs.StraightSlot.{at_most_square, crossings_few, held_straight, whole_straight}
 use Rattle.cq_engine.proofs.engine.Engine.slot.Given as given
 use Rattle.cq_engine.proofs.engine.Engine.slot.Goals as goal
@@ -31,11 +30,6 @@ arrived : (g : given.Over) (c : After-arrive g) →
     HaveArrived c.self.inside.queues c.take_in.new.came c.arrive.new.self
 arrived g c = search (arith, rules)
 
--- what each output holds then
-judged : {cells : List (Option Cell)} {old new : LimiterView} → HasJudged cells old new →
-    HaveJudged (admitted new.marks cells) old new
-judged did = record { limits = did.limits; as_many = did.ports.held ∙ ap length did.limits; more = did.held }
-
 -- once the outputs have sent, and the machines are told
 sent : (g : given.Over) (c : After-depart g) →
     HaveSent (map g.R.Rank.machine c.self.inside.ranks.fixed) c.arrive.new.self c.take_in.new.ranks.states
@@ -60,12 +54,12 @@ few_proposed g c seen is = search (arith, rules, crossings_few, at_most_square)
 -- ## What the calls ask for
 
 pub take_in-requires : goal.take_in-requires
-take_in-requires g c =
-    let begins = known g (goal.at.take_in-requires g c).After-self in search (arith, rules, can_take_in begins)
+take_in-requires g c = search (arith, rules, can_take_in (known g (goal.at.take_in-requires g c).After-self))
 
 pub go_straight-requires : goal.go_straight-requires
 go_straight-requires g c =
-    let at = goal.at.go_straight-requires g c in came_outputs (taken (known g at.After-self) c.in_default.ensures.taken)
+    let begins = known g (goal.at.go_straight-requires g c).After-self in
+    came_outputs (taken begins c.take_in.ensures.judged c.in_default.ensures.taken).ranked
 
 pub of_outputs-gone-requires : goal.of_outputs-gone-requires
 of_outputs-gone-requires g c = search (arith, rules)
@@ -73,13 +67,10 @@ of_outputs-gone-requires g c = search (arith, rules)
 pub pass-crossed-requires : goal.pass-crossed-requires
 pass-crossed-requires g c =
     let at = goal.at.pass-crossed-requires g c in
-    let begins = known g at.After-self in
-    let marks = c.take_in.new.limiter.marks in
+    let come = taken (known g at.After-self) c.take_in.ensures.judged c.in_default.ensures.taken in
     let is = straight g at.After-of_outputs-gone in
-    let holds = held_straight (taken begins c.in_default.ensures.taken) (lists_room begins marks) is
-    (buffers_room begins marks) begins.running.holds (judged c.take_in.ensures.judged) in
-    let counts = begins.running.in_step.counts in
-    search (arith, rules, length-map, holds, counts.inputs, counts.outputs)
+    let counts = come.running.in_step.counts in
+    search (arith, rules, length-map, held_straight come is, counts.inputs, counts.outputs)
 
 pub count_proposals-requires : goal.count_proposals-requires
 count_proposals-requires g c =
@@ -90,44 +81,38 @@ count_proposals-requires g c =
 pub arrive-requires : goal.arrive-requires
 arrive-requires g c =
     let at = goal.at.arrive-requires g c in
-    let begins = known g at.After-self in
-    let come = taken begins c.in_default.ensures.taken in
-    search (arith, rules, lists_room begins, fits_lists come, come_apart come)
+    let come = taken (known g at.After-self) c.take_in.ensures.judged c.in_default.ensures.taken in
+    search (arith, rules, fits_lists come.ranked, come_apart come.ranked)
 
 pub count_inputs-requires : goal.count_inputs-requires
 count_inputs-requires g c =
     let at = goal.at.count_inputs-requires g c in
-    let begins = known g at.After-self in
-    let come = taken begins c.in_default.ensures.taken in
-    search (arith, rules, came_outputs come, came_newest come, arrived g at.After-arrive, begins)
+    let come = taken (known g at.After-self) c.take_in.ensures.judged c.in_default.ensures.taken in
+    search (arith, rules, came_outputs come.ranked, came_newest come.ranked, arrived g at.After-arrive, come)
 
 pub cross-first-requires-clause-can : goal.cross-first-requires-clause-can
 cross-first-requires-clause-can g c =
     let at = goal.at.cross-first-requires-clause-can g c in
-    let begins = known g at.After-self in
-    let cells = can_cross_first (taken begins c.in_default.ensures.taken) (arrived g at.After-arrive)
-    (buffers_room begins c.take_in.new.limiter.marks) in
+    let come = taken (known g at.After-self) c.take_in.ensures.judged c.in_default.ensures.taken in
+    let cells = can_cross_first come.ranked (arrived g at.After-arrive) come.buffer_room in
     search (arith, rules, ports_seen g at.After-self)
 
 pub depart-requires : goal.depart-requires
 depart-requires g c =
     let at = goal.at.depart-requires g c in
-    let begins = known g at.After-self in
+    let come = taken (known g at.After-self) c.take_in.ensures.judged c.in_default.ensures.taken in
     let moved = moved_of c.cross-first.ensures.crossed in
-    let holds = held_before (taken begins c.in_default.ensures.taken) (arrived g at.After-arrive)
-    (buffers_room begins c.take_in.new.limiter.marks) moved begins.running.holds (judged c.take_in.ensures.judged) in
-    let counts = begins.running.in_step.counts in
-    search (arith, rules, length-map, ap length c.arrive.ensures.buffers, holds, counts.outputs)
+    let holds = held_before come.ranked (arrived g at.After-arrive) come.buffer_room moved come.running.holds in
+    let counts = come.running.in_step.counts in
+    search (arith, rules, length-map, ap length c.arrive.ensures.buffers, holds come.judged, counts.outputs)
 
 pub cross-second-requires-clause-can : goal.cross-second-requires-clause-can
 cross-second-requires-clause-can g c =
     let at = goal.at.cross-second-requires-clause-can g c in
-    let begins = known g at.After-self in
-    let seen = ports_seen g at.After-self in
+    let come = taken (known g at.After-self) c.take_in.ensures.judged c.in_default.ensures.taken in
     let moved = moved_of c.cross-first.ensures.crossed in
-    let cells = can_cross_second (taken begins c.in_default.ensures.taken) (arrived g at.After-arrive)
-    (buffers_room begins c.take_in.new.limiter.marks) moved (sent g at.After-depart) in
-    search (arith, rules, few_cross)
+    let second = can_cross_second come.ranked (arrived g at.After-arrive) come.buffer_room moved in
+    let cells = second (sent g at.After-depart) in search (arith, rules, few_cross, ports_seen g at.After-self)
 
 pub count_proposals-requires-2 : goal.count_proposals-requires-2
 count_proposals-requires-2 g c =
@@ -138,13 +123,10 @@ count_proposals-requires-2 g c =
 pub invariant_of-self-2 : goal.invariant_of-self-2
 invariant_of-self-2 g c =
     let at = goal.at.returns g c in
-    let begins = known g at.After-self in
-    let come = taken begins c.in_default.ensures.taken in
-    let whole = whole_slot c.self.inside.figures begins.running.in_step come (arrived g at.After-arrive)
-    (buffers_room begins c.take_in.new.limiter.marks) c.cross-first.ensures.crossed (sent g at.After-depart)
-    c.cross-second.ensures.crossed _ begins.running.seen c.count_proposals-2.new.figures (search (arith, rules)) in
-    let holds = still_holds come _ _ _ _ _ whole.alike begins.running.holds
-    (judged c.take_in.ensures.judged) c.depart.ensures.sent.released in
+    let come = taken (known g at.After-self) c.take_in.ensures.judged c.in_default.ensures.taken in
+    let released = c.depart.ensures.sent.released in
+    let whole = whole_slot come (arrived g at.After-arrive) c.cross-first.ensures.crossed (sent g at.After-depart)
+    c.cross-second.ensures.crossed released c.count_proposals-2.new.figures (search (arith, rules)) in
     search (arith, rules, length-told)
 
 pub returns-in-Err-clause-answer : goal.returns-in-Err-clause-answer
@@ -155,36 +137,28 @@ returns-in-Err-clause-answer g c =
 pub invariant_of-self-then-go_straight : goal.invariant_of-self-then-go_straight
 invariant_of-self-then-go_straight g c =
     let at = goal.at.returns-then-go_straight g c in
-    let begins = known g at.After-self in
-    let come = taken begins c.in_default.ensures.taken in
-    let marks = c.take_in.new.limiter.marks in
+    let come = taken (known g at.After-self) c.take_in.ensures.judged c.in_default.ensures.taken in
     let is = straight g at.After-of_outputs-gone in
-    let whole = whole_straight come (lists_room begins marks) is (buffers_room begins marks) c.self.inside.figures
-    begins.running.in_step c.self.inside.look begins.running.seen c.pass-crossed.new.ranks.states
-    (rw c.take_in.ensures.fixed at c.pass-crossed.ensures.sent.told) c.count_proposals.new.figures
-    (let many = rw is.ports at c.pass-crossed.ensures.many in search (arith, rules, many)) in
-    let holds = still_holds come _ _ _ _ _ whole.alike begins.running.holds
-    (judged c.take_in.ensures.judged) c.pass-crossed.ensures.sent.released in
+    let many = rw is.ports at c.pass-crossed.ensures.many in
+    let told = rw c.take_in.ensures.fixed at c.pass-crossed.ensures.sent.told in
+    let whole = whole_straight come is _ told c.pass-crossed.ensures.sent.released c.count_proposals.new.figures
+    (search (arith, rules, many)) in
     search (arith, rules, length-told)
 
 pub returns-then-go_straight : goal.returns-then-go_straight
 returns-then-go_straight g c =
     let at = goal.at.returns-then-go_straight g c in
-    let begins = known g at.After-self in
-    let come = taken begins c.in_default.ensures.taken in
-    let marks = c.take_in.new.limiter.marks in
-    let holds = begins.running.holds in
+    let come = taken (known g at.After-self) c.take_in.ensures.judged c.in_default.ensures.taken in
     let is = straight g at.After-of_outputs-gone in
-    let whole = whole_straight come (lists_room begins marks) is (buffers_room begins marks) c.self.inside.figures
-    begins.running.in_step c.self.inside.look begins.running.seen c.pass-crossed.new.ranks.states
-    (rw c.take_in.ensures.fixed at c.pass-crossed.ensures.sent.told) c.count_proposals.new.figures
-    (let many = rw is.ports at c.pass-crossed.ensures.many in search (arith, rules, many)) in
+    let many = rw is.ports at c.pass-crossed.ensures.many in
     let did = c.pass-crossed.ensures in
+    let told = rw c.take_in.ensures.fixed at did.sent.told in
+    let whole = whole_straight come is _ told did.sent.released c.count_proposals.new.figures
+    (search (arith, rules, many)) in
     record {
       answer = search (arith, rules, admits_are);
-      slot = slot_done _ c.take_in.new.limiter c.self.view_is holds c.take_in.ensures.judged.marks
-          c.in_default.ensures.taken.refused c.pass-crossed.new.limiter whole did.sent.released
-          did.sent.left (rw (← is.ports) did.note) (rw (← is.ports) did.note_room);
+      slot = slot_done _ c.self.view_is come whole did.sent.left (rw (← is.ports) did.note)
+          (rw (← is.ports) did.note_room);
       went_on = search (arith, rules, few_proposed g at.After-pass-crossed (ports_seen g at.After-self) is);
       made = search (arith, rules);
       stopped = ap (λ (v : EngineView). v.stopped) c.self.view_is ∙ c.requires.running;
@@ -194,24 +168,16 @@ returns-then-go_straight g c =
 pub returns : goal.returns
 returns g c =
     let at = goal.at.returns g c in
-    let slot = c.args.slot in
-    let first = transfers_of c.cross-first.ensures.matching c.arrive.new.self.inputs slot 1 in
-    let second = transfers_of c.cross-second.ensures.matching c.depart.new.queues.inputs slot 2 in
-    let begins = known g at.After-self in
-    let come = taken begins c.in_default.ensures.taken in
-    let holds = begins.running.holds in
-    let whole = whole_slot c.self.inside.figures begins.running.in_step come (arrived g at.After-arrive)
-    (buffers_room begins c.take_in.new.limiter.marks) c.cross-first.ensures.crossed (sent g at.After-depart)
-    c.cross-second.ensures.crossed _ begins.running.seen c.count_proposals-2.new.figures (search (arith, rules)) in
-    let one = c.cross-first.ensures in
-    let sent = c.depart.ensures in
-    let two = c.cross-second.ensures in
+    let come = taken (known g at.After-self) c.take_in.ensures.judged c.in_default.ensures.taken in
+    let sent_is = c.depart.ensures.sent in
+    let whole = whole_slot come (arrived g at.After-arrive) c.cross-first.ensures.crossed (sent g at.After-depart)
+    c.cross-second.ensures.crossed sent_is.released c.count_proposals-2.new.figures (search (arith, rules)) in
+    let first = transfers_of c.cross-first.ensures.matching c.arrive.new.self.inputs c.args.slot 1 in
+    let second = transfers_of c.cross-second.ensures.matching c.depart.new.queues.inputs c.args.slot 2 in
     record {
       answer = search (arith, rules, admits_are);
-      slot = slot_done _ c.take_in.new.limiter c.self.view_is holds c.take_in.ensures.judged.marks
-          c.in_default.ensures.taken.refused c.depart.new.limiter whole sent.sent.released sent.sent.left
-          (two.noted ∙ ap (λ l. l ++ second) one.noted ∙ append_assoc c.args.note.now.items first second)
-          (omega (arith, length-append first second));
+      slot = slot_done _ c.self.view_is come whole sent_is.left
+          (search (rules, append_assoc c.args.note.now.items first second)) (omega (arith, length-append first second));
       went_on = search (arith, rules, twice_few, ports_seen g at.After-self);
       made = search (arith, rules);
       stopped = ap (λ (v : EngineView). v.stopped) c.self.view_is ∙ c.requires.running;
