@@ -18,13 +18,13 @@ pub room-at : (lists : List Waiting) (i : ℕ) → get_or (map list_room lists) 
 room-at lists i = get_or-map (λ (w : Waiting). length w.cells + w.spare) lists i no_list
 
 -- a room is what waits and what is spare
-list_room-is : (lists : List Waiting) (i : ℕ) →
+list_room_is : (lists : List Waiting) (i : ℕ) →
     get_or (map list_room lists) i 0 ≡ length (list_of (cells_of lists) i) + list_spare lists i
-list_room-is lists i = rw (cells-at lists i) (room-at lists i)
+list_room_is lists i = rw (cells-at lists i) (room-at lists i)
 
-pub buffer_room-is : (buffers : List Buffered) (j : ℕ) →
+pub buffer_room_is : (buffers : List Buffered) (j : ℕ) →
     get_or (map buffer_room buffers) j 0 ≡ length (list_of (cells_in buffers) j) + buffer_spare buffers j
-buffer_room-is buffers j =
+buffer_room_is buffers j =
     rw (cells_in-at buffers j) (get_or-map (λ (b : Buffered). length b.cells + b.spare) buffers j no_buffer)
 
 -- ## Lists of lists
@@ -40,7 +40,7 @@ same_rooms room new old long each =
 pub fit_each : (lists : List Waiting) (buffers : List Buffered) (came : List (Option Queued)) (n : ℕ) →
     AreSquare lists buffers n → FitLists came (shown lists buffers) → FitEach (cells_in buffers) came lists
 fit_each lists buffers came n square fit i c inside is =
-    search (rules, list_room-is, length-map, square.outputs, cells-at)
+    search (rules, list_room_is, length-map, square.outputs, cells-at)
 
 room_with : (buffers : List (List Queued)) (came : Option Queued) (w : Waiting) →
     ((c : Queued) → came ≡ Some c → 0 < w.spare) → list_room (list_with buffers came w) ≡ list_room w
@@ -89,7 +89,7 @@ matched_long inputs m matching = matching.size ∙ length-map inputs output_orde
 
 pub have_room : (lists : List Waiting) (buffers : List Buffered) (m : Partners) → CanCross (shown lists buffers) →
     HaveCells m (cells_of lists) → HaveRoom m buffers
-have_room lists buffers m can have i j p = omega (arith, can.room i j (have i j p), buffer_room-is buffers j)
+have_room lists buffers m can have i j p = omega (arith, can.room i j (have i j p), buffer_room_is buffers j)
 
 without_one : (j : ℕ) (xs : List Queued) (c : Queued) → first_for j xs ≡ Some c →
     length (without_first j xs) + 1 ≡ length xs
@@ -107,21 +107,18 @@ pub record HaveCrossed (m : Partners) (lists : List Waiting) (buffers : List Buf
 module _ {m : Partners} {lists : List Waiting} {buffers : List Buffered} {lists' : List Waiting}
     {buffers' : List Buffered} (known : HaveCrossed m lists buffers lists' buffers') where
   pub crossed_list_rooms : map list_room lists' ≡ map list_room lists
-  crossed_list_rooms = search (arith, rules, same_rooms, length-map, list_room-is, without_one)
+  crossed_list_rooms = search (arith, rules, same_rooms, length-map, list_room_is, without_one)
 
   pub crossed_buffer_rooms : map buffer_room buffers' ≡ map buffer_room buffers
   crossed_buffer_rooms =
       same_rooms buffer_room buffers' buffers (search (arith, rules, length-map)) (λ j _. ⊎_elim (λ r. search
-      (arith, rules, buffer_room-is, length_put (known.have r.0 j r.1).0 (list_of (cells_in buffers) j)))
-      (λ free. search (arith, rules, buffer_room-is)) (partner_or_free m j))
+      (arith, rules, buffer_room_is, length_put (known.have r.0 j r.1).0 (list_of (cells_in buffers) j)))
+      (λ free. search (arith, rules, buffer_room_is)) (partner_or_free m j))
 
   pub crossed_square : (n : ℕ) → AreSquare lists buffers n → AreSquare lists' buffers' n
   crossed_square n square = search (arith, rules, length-map, get_or-map (λ (w : Waiting). w.outputs), square.outputs)
 
 -- ## Departures
-
-pub fronts_shown : (buffers : List Buffered) → fronts (cells_in buffers) ≡ map front_of buffers
-fronts_shown buffers = map-map _ _ buffers
 
 pub rests_shown : (buffers : List Buffered) → cells_in (map popped buffers) ≡ rests (cells_in buffers)
 rests_shown buffers = search (rules, map-map)
@@ -147,6 +144,4 @@ pub popped_by : (b b' : Buffered) (q : Option Queued) → q ≡ slice_get b.cell
     b'.spare ≡ b.spare + cond (is_some q) 1 0 → b' ≡ popped b
 popped_by b b' q first cells spare = grind (arith, common_steps)
 
-pub ruleset depart_steps = (whole, length-map, popped_square, fronts_shown, rests_shown, rooms_shown)
-
-pub ruleset rooms_are = (buffer_room-is)
+pub ruleset depart_steps = (whole, length-map, map-map, popped_square, rests_shown, rooms_shown)

@@ -269,7 +269,7 @@ impl Queues {
     }
 
     /// The number of inputs, and of outputs.
-    #[tactic(auto, using(crate::proofs::Queued::rooms_are, crate::proofs::Rooms::rooms_fit))]
+    #[tactic(auto, using(crate::proofs::Queued::buffer_room_is, crate::proofs::Rooms::rooms_fit))]
     pub fn ports(&self) -> u16
         ensures value { result ≡ length self.now.inputs }
         ensures buffers { length self.now.buffers ≡ length self.now.inputs }
