@@ -2,20 +2,9 @@
 -- in lists and buffers of their rooms: no two cells of a list have one key, since no two places have. By the law on
 -- sound fabrics it is in step with the ideal switch of its cells. Of the slacks nothing is claimed, since the first
 -- slot looks at all of them.
-use Rattle.cq_engine.proofs.Terms.{length-map, rules, ◌≡◌, ℕ, List, length, Option, arith, common_steps, Figures, InputFigures, OutputFigures, KeysDiffer, LimiterView, Machine, AreForOneSwitch, Fabric, input, fabric_in, fabric_held, Queues, fabric_of, CanGoOn, IsRunning, NoKeyTwice, Waiting, Frozen, agrees_of, CanHold, all_from_has, slice_get-get_or}
+use Rattle.cq_engine.proofs.Terms.{length-map, rules, ◌≡◌, ℕ, List, length, Option, arith, common_steps, Figures, KeysDiffer, LimiterView, Machine, AreForOneSwitch, Fabric, input, fabric_in, fabric_held, Queues, fabric_of, CanGoOn, IsRunning, NoKeyTwice, Waiting, Frozen, agrees_of, CanHold, all_from_has, slice_get-get_or}
 use Rattle.cq_engine.specs.declared.measure.Look.TheVariants as look
 use Rattle.cq_base.proofs.Pooled.{each_pair}
-
--- ## The same, part by part
-
-pub same_figures : (x : Figures) (inputs : List InputFigures) (outputs : List OutputFigures) → inputs ≡ x.inputs →
-    outputs ≡ x.outputs →
-    record { slots = x.slots; proposals = x.proposals; most = x.most; inputs = inputs; outputs = outputs } ≡ x
-same_figures x inputs outputs e g = grind (arith, common_steps)
-
-pub same_frozen : (a b : Frozen) → a.next ≡ b.next → a.figures ≡ b.figures → a.refused ≡ b.refused →
-    a.marks ≡ b.marks → a.ranks ≡ b.ranks → a.lists ≡ b.lists → a.buffers ≡ b.buffers → a ≡ b
-same_frozen a b e1 e2 e3 e4 e5 e6 e7 = grind (arith, common_steps)
 
 -- ## What waits in lists and buffers
 

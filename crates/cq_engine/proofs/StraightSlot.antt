@@ -5,7 +5,7 @@
 -- transfer empties the lists and puts each cell alone into the buffer of its output, which sends it. After that nothing
 -- waits and nothing is offered, and the second matching is empty. The lists and buffers in between are made here for
 -- the proof alone.
-use Rattle.cq_engine.proofs.Terms.{common_steps, rules, ◌≡◌, ℕ, ◌+◌, ◌*◌, ◌<◌, ◌≤◌, List, [], ◌∷◌, ◌++◌, length, map, drop, get_or, replicate, Option, Some, None, refl, sym, ap, ◌∙◌, arith, All, IfSome, enumerate_from, filter_map, range_with_len, sum_by, option_map, cases_lt, cond_both, eq-eqb, row_fits, same_Some, append-nil, ext_get_or, get_or_past, length-map, get_or-map-range_with_len, length-map-range_with_len, sum-map, sum_by-cons, Cell, Queued, Transfer, Figures, Machine, all_told, fronts, rests, LimiterView, list_of, orders_of, output_order, Moves, list_taken, transfers_of, ports, IsListed, Partners, partner_of, partner_place, proposals, IsFreeOutput, IsInputBest, IsStable, slacks, came_to, Queues, fabric_of, HaveArrived, HaveSent, fits_lists, held_before, keyed, arriving_slack, input_counted, slack_seen, GoStraight, crossings, input_passed, Look, among, place_head, none_unless, outputs_at, kept_more, kept_few, kept_past, append_assoc, length-append, admitted, HasReleased}
+use Rattle.cq_engine.proofs.Terms.{common_steps, rules, ◌≡◌, ℕ, ◌+◌, ◌<◌, ◌≤◌, List, [], ◌∷◌, ◌++◌, length, map, drop, get_or, replicate, Option, Some, None, refl, sym, ap, ◌∙◌, arith, All, IfSome, enumerate_from, filter_map, range_with_len, sum_by, option_map, cases_lt, cond_both, eq-eqb, same_Some, append-nil, ext_get_or, get_or_past, length-map, get_or-map-range_with_len, length-map-range_with_len, sum-map, sum_by-cons, Cell, Queued, Transfer, Figures, Machine, all_told, fronts, rests, LimiterView, list_of, orders_of, output_order, Moves, list_taken, transfers_of, ports, IsListed, Partners, partner_of, partner_place, proposals, IsFreeOutput, IsInputBest, IsStable, slacks, came_to, Queues, fabric_of, HaveArrived, HaveSent, fits_lists, held_before, keyed, arriving_slack, input_counted, slack_seen, GoStraight, crossings, input_passed, Look, among, place_head, none_unless, outputs_at, kept_more, kept_few, kept_past, append_assoc, length-append, admitted, HasReleased}
 use Rattle.std.proofs.Math.ListN.{get_or-map}
 use Rattle.cq_engine.specs.Crossing.{HaveMovedBest}
 use Rattle.cq_engine.proofs.NoOffers.{none_best, none_proposed, nothing_moves, nothing_noted}
@@ -83,10 +83,6 @@ crossings_one slot n came c is = grind (arith, common_steps, kept_more)
 pub crossings_few : (slot n : ℕ) (came : List (Option Queued)) → length (crossings slot n came) ≤ n
 unfolding crossings
 crossings_few slot n came = search (rules, kept_few)
-
--- no more than there are pairs of ports
-pub at_most_square : (n : ℕ) → n ≤ n * n
-at_most_square n = grind (arith, common_steps, row_fits)
 
 -- ## The slot
 

@@ -1,5 +1,5 @@
 -- The words of this crate's proofs that stand elsewhere, each passed on from its place.
-pub use Rattle.cq_base.proofs.Library.{All, Bool, IfSome, List, None, Option, Some, [], ap, append-nil, append_assoc, arith, cases_eq, cases_lt, common_steps, cond_both, drop, enumerate_from, eq-eqb, eqb, ext_get_or, false, filter, filter_map, get_or, get_or-map, get_or-map-range_with_len, get_or-replicate, get_or-set_other, get_or-set_same, get_or_from_slice_get, get_or_past, get_or_read, if◌then◌else◌, is_some, length, length-append, length-map, length-map-range_with_len, length-replicate, length-set, list_any, map, max, min, ne_eqb, option_map, position_or_len, range_with_len, reduce, refl, replicate, row_fits, rules, same_Some, set, slice_get, slice_get-get_or, slice_get_within, slice_set, subst, suc, sum-map, sum_by, sum_by-cons, sym, take, take_all, take_more, zero, ℕ, ◌*◌, ◌++◌, ◌+◌, ◌-◌, ◌<◌, ◌^◌, ◌∙◌, ◌∷◌, ◌≡◌, ◌≤◌, filter-append}
+pub use Rattle.cq_base.proofs.Library.{All, Bool, IfSome, List, None, Option, Some, [], ap, append-nil, append_assoc, arith, cases_lt, common_steps, cond_both, drop, enumerate_from, eq-eqb, eqb, ext_get_or, false, filter, filter_map, get_or, get_or-map, get_or-map-range_with_len, get_or-replicate, get_or-set_other, get_or-set_same, get_or_past, get_or_read, if◌then◌else◌, is_some, length, length-append, length-map, length-map-range_with_len, length-replicate, length-set, list_any, map, max, min, ne_eqb, option_map, position_or_len, range_with_len, reduce, refl, replicate, row_fits, rules, same_Some, set, slice_get, slice_get-get_or, slice_get_within, slice_set, subst, suc, sum-map, sum_by, sum_by-cons, sym, take, take_all, take_more, zero, ℕ, ◌*◌, ◌++◌, ◌+◌, ◌-◌, ◌<◌, ◌^◌, ◌∙◌, ◌∷◌, ◌≡◌, ◌≤◌, filter-append, slice_get_cases}
 pub use Rattle.cq_base.specs.Cells.{KeysDiffer, is_for}
 pub use Rattle.cq_base.proofs.Having.{all_from_has, has_there}
 pub use Rattle.cq_base.specs.{Room.RoomView, declared.cell.Transfer.Transfer, declared.figures.Figures.Figures, declared.figures.InputFigures.InputFigures}
@@ -39,7 +39,7 @@ pub use Rattle.cq_fabric.specs.{Holding.CanHold, Released.HasReleased}
 pub use Rattle.cq_engine.specs.Engine.{CanGoOn, CountsFit, EngineView, IsInStep, IsReadyFor, IsRunning, IsSeen, SlotDone, ports_of}
 pub use Rattle.cq_engine.specs.Measuring.{arriving_slack, slack_seen}
 unfoldable pub use Rattle.cq_engine.specs.Measuring.{input_counted, output_counted}
-pub use Rattle.cq_engine.specs.Straight.{AreApart, AreSent, GoStraight, crossing, input_passed}
+pub use Rattle.cq_engine.specs.Straight.{AreApart, AreSent, GoStraight, input_passed}
 unfoldable pub use Rattle.cq_engine.specs.Straight.{crossings}
 pub use Rattle.cq_engine.specs.declared.measure.Look.{Look}
 pub use Rattle.cq_engine.specs.Terms.{AreForPorts, Cell, FabricSlot, Machine, OutputFigures, Queued, SlotRecord, fabric_in}

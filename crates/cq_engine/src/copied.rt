@@ -9,7 +9,6 @@ use cq_laws::Frozen;
 use std::alloc::{AllocError, Global};
 
 /// The same figures. The error is want of memory.
-#[tactic(auto, using(crate::proofs::Going::same_figures))]
 pub fn copied_figures(alloc: Global, figures: &Figures) -> Result<Figures, NoMemory>
     ensures { IfOk result (λ copy. copy ≡ figures.now) }
 {

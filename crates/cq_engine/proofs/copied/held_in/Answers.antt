@@ -16,5 +16,4 @@ count_each-requires c = search (arith, rules, cells_inside, inside, here)
 pub inputs-preserved : goal.inputs-preserved
 inputs-preserved c =
     let at = (goal.at.inputs-preserved c).After-as_slice in
-    let counted = c.in_ok-count_each.ensures in
-    held_next _ _ _ c.inputs.invariant (inside at) _ (here at) _ counted.ports counted.counts
+    search (arith, rules, held_next _ _ _ c.inputs.invariant, inside at, here at, c.in_ok-count_each.ensures)

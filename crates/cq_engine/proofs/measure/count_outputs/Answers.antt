@@ -10,8 +10,8 @@ unfolding output_counted
 nothing_counted slot x = search (arith, rules)
 
 pub output_counted-counted-requires : goal.output_counted-counted-requires
-output_counted-counted-requires c = still_few c.outputs.invariant (λ (y : OutputFigures). y.cells) none (omega arith)
-    c.requires.counts c.as_slice.ensures
+output_counted-counted-requires c =
+    search (arith, rules, still_few c.outputs.invariant (λ (y : OutputFigures). y.cells) none)
 
 pub outputs-preserved : goal.outputs-preserved
 outputs-preserved c = search (arith, rules, next_changed, next_kept c.outputs.invariant none, nothing_counted)

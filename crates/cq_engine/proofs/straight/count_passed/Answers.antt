@@ -6,7 +6,7 @@ none = record { cells = 0; longest = 0; slack = None }
 
 pub input_passed-counted-requires : goal.input_passed-counted-requires
 input_passed-counted-requires c =
-    still_few c.inputs.invariant (λ (y : InputFigures). y.cells) none (omega arith) c.requires.counts c.as_slice.ensures
+    search (arith, rules, still_few c.inputs.invariant (λ (y : InputFigures). y.cells) none)
 
 pub inputs-preserved : goal.inputs-preserved
 inputs-preserved c = search (arith, rules, next_changed, next_kept c.inputs.invariant none)

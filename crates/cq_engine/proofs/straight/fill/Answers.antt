@@ -19,8 +19,7 @@ module _ (inputs outputs : ℕ) (came gone : List (Option Queued)) (sent : AreSe
   -- where the place is taken two cells are for its output
   not_apart : (ports : ℕ) (c d : Queued) → came_to came inputs ≡ Some c → came_to gone c.cell.output ≡ Some d →
       c.cell.output < outputs → inputs < ports → AreApart ports came → ⊥
-  not_apart ports c d at taken inside below apart =
-      let from = sent.only c.cell.output d inside taken in search (arith, rules)
+  not_apart ports c d at taken inside below apart = search (arith, rules, sent.only c.cell.output d inside taken)
 
   -- a cell that is put at a free place
   sent_more : (c : Queued) → came_to came inputs ≡ Some c → came_to gone c.cell.output ≡ None →
@@ -35,10 +34,6 @@ module _ (inputs outputs : ℕ) (came gone : List (Option Queued)) (sent : AreSe
   sent_past none =
       record { each = search (arith, rules, cases_lt); only = λ j d. search (arith, rules, sent.only j d) }
 
-apart_past : (inputs : ℕ) (came : List (Option Queued)) → AreApart inputs came → came_to came inputs ≡ None →
-    AreApart (inputs + 1) came
-apart_past inputs came apart none i k a b i_in k_in at_a at_b same = search (rules, cases_lt)
-
 pub returns-then-is_some-clause-apart : goal.returns-then-is_some-clause-apart
 returns-then-is_some-clause-apart c =
     let queued = c.in-Some.queued in
@@ -49,4 +44,4 @@ returns-then-is_some-clause-apart c =
 
 pub inputs-preserved : goal.inputs-preserved
 inputs-preserved c =
-    search (arith, rules, free_of, length-set, c.requires.outputs, sent_more, apart_more, sent_past, apart_past)
+    search (arith, rules, free_of, length-set, c.requires.outputs, sent_more, apart_more, sent_past, cases_lt)

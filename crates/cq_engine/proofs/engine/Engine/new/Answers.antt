@@ -1,13 +1,10 @@
 -- Before the first slot nothing waits and nothing was counted.
-use Rattle.cq_engine.proofs.Terms.{arith, rules, length, map, length-map, length-replicate, ◌≡◌, ℕ, List, [], Some, replicate, common_steps, slice_get, slice_get_within, get_or_from_slice_get, get_or-replicate, Figures, Machine, AreForOneSwitch, empty_fabric, no_figures, empty_agree, Queues, fabric_of, LimiterView, IsInStep, IsRunning, holds_first, more_at_first}
+use Rattle.cq_engine.proofs.Terms.{arith, rules, length, map, length-map, length-replicate, ◌≡◌, ℕ, List, [], Some, replicate, common_steps, slice_get, slice_get_cases, get_or-replicate, Figures, Machine, AreForOneSwitch, empty_fabric, no_figures, empty_agree, Queues, fabric_of, LimiterView, IsInStep, IsRunning, holds_first, more_at_first}
 use Rattle.cq_engine.specs.declared.measure.Look.TheVariants as look
 use Rattle.cq_engine.proofs.engine.Engine.new.Goals as goal
 
 replicated : {X : Type 0} (n i : ℕ) (x y : X) → slice_get (replicate n x) i ≡ Some y → y ≡ x
-replicated n i x y h =
-    let within = slice_get_within (replicate n x) i y h in
-    let read = get_or_from_slice_get (replicate n x) i y y h in
-    grind (arith, common_steps, length-replicate, get_or-replicate)
+replicated n i x y h = grind (arith, common_steps, slice_get_cases, length-replicate, get_or-replicate)
 
 first_up : (ms : List Machine) (n : ℕ) (ranks : List (List ℕ)) → AreForOneSwitch ms → length ms ≡ n →
     IsInStep ms 0 (no_figures n) (empty_fabric n ranks)

@@ -1,7 +1,7 @@
-use Rattle.cq_engine.proofs.Terms.{rules, ◌≡◌, ◌+◌, ◌*◌, ◌≤◌, ℕ, length, map, ap, ◌∙◌, arith, append_assoc, length-append, length-map, transfers_of, EngineView, HaveArrived, HaveSent, admits_are, came_newest, came_outputs, can_cross_first, can_cross_second, come_apart, few_cross, fits_lists, held_before, GoStraight, length-told}
+use Rattle.cq_engine.proofs.Terms.{rules, ◌≡◌, ◌+◌, ◌*◌, ◌≤◌, ℕ, length, map, ap, ◌∙◌, arith, append_assoc, length-append, length-map, common_steps, row_fits, EngineView, HaveArrived, HaveSent, admits_are, came_newest, came_outputs, can_cross_first, can_cross_second, come_apart, few_cross, fits_lists, held_before, GoStraight, length-told}
 use Rattle.cq_engine.proofs.Shown.{Begun, begun, can_take_in, taken}
 use Rattle.cq_engine.proofs.Slot.{moved_of, slot_done, whole_slot}
-use Rattle.cq_engine.proofs.StraightSlot.{at_most_square, crossings_few, held_straight, whole_straight}
+use Rattle.cq_engine.proofs.StraightSlot.{crossings_few, held_straight, whole_straight}
 use Rattle.cq_engine.proofs.engine.Engine.slot.Given as given
 use Rattle.cq_engine.proofs.engine.Engine.slot.Goals as goal
 use Rattle.cq_engine.proofs.engine.Engine.slot.Goals.{After-arrive, After-depart, After-of_outputs-gone, After-pass-crossed, After-self}
@@ -10,8 +10,7 @@ use Rattle.cq_engine.proofs.engine.Engine.slot.Goals.{After-arrive, After-depart
 
 twice_few : (p q n first second now after : ℕ) → first ≤ p * p → p ≡ n → second ≤ q * q → q ≡ n → after ≡ now →
     after + (first + second) ≤ now + 2 * (n * n)
-twice_few p q n first second now after one e two f is =
-    let a : first ≤ n * n = rw (← e) one in let b : second ≤ n * n = rw (← f) two in omega arith
+twice_few p q n first second now after one e two f is = grind (arith, common_steps)
 
 -- ## What is known, call by call
 
@@ -49,7 +48,7 @@ few_proposed : (g : given.Over) (c : After-pass-crossed g) →
     GoStraight c.self.inside.queues c.take_in.new.came c.of_outputs-gone.result.now →
     c.pass-crossed.new.figures.proposals + (c.pass-crossed.result + 0)
     ≤ c.args.self.now.figures.proposals + 2 * (length c.args.self.now.fixed * length c.args.self.now.fixed)
-few_proposed g c seen is = search (arith, rules, crossings_few, at_most_square)
+few_proposed g c seen is = search (arith, rules, crossings_few, row_fits)
 
 -- ## What the calls ask for
 
@@ -75,8 +74,7 @@ pass-crossed-requires g c =
 pub count_proposals-requires : goal.count_proposals-requires
 count_proposals-requires g c =
     let at = goal.at.count_proposals-requires g c in
-    let seen = ports_seen g at.After-self in
-    omega (arith, few_proposed g at.After-pass-crossed seen (straight g at.After-of_outputs-gone))
+    search (arith, rules, few_proposed g at.After-pass-crossed, ports_seen g, straight g)
 
 pub arrive-requires : goal.arrive-requires
 arrive-requires g c =
@@ -172,15 +170,13 @@ returns g c =
     let sent_is = c.depart.ensures.sent in
     let whole = whole_slot come (arrived g at.After-arrive) c.cross-first.ensures.crossed (sent g at.After-depart)
     c.cross-second.ensures.crossed sent_is.released c.count_proposals-2.new.figures (search (arith, rules)) in
-    let first = transfers_of c.cross-first.ensures.matching c.arrive.new.self.inputs c.args.slot 1 in
-    let second = transfers_of c.cross-second.ensures.matching c.depart.new.queues.inputs c.args.slot 2 in
     record {
       answer = search (arith, rules, admits_are);
-      slot = slot_done _ c.self.view_is come whole sent_is.left
-          (search (rules, append_assoc c.args.note.now.items first second)) (omega (arith, length-append first second));
+      slot = slot_done _ c.self.view_is come whole sent_is.left (search (rules, append_assoc))
+          (search (arith, rules, length-append));
       went_on = search (arith, rules, twice_few, ports_seen g at.After-self);
       made = search (arith, rules);
-      stopped = ap (λ (v : EngineView). v.stopped) c.self.view_is ∙ c.requires.running;
+      stopped = search (arith, rules);
       stays = tt;
     }
 
