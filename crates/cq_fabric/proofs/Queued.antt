@@ -1,6 +1,6 @@
 -- Lists and buffers with their rooms. A cell that goes into a list takes the room that the list has for it, and a
 -- cell that leaves gives it back, so that no list and no buffer can hold more cells, or fewer, than before.
-use Rattle.cq_fabric.proofs.Terms.{common_steps, rules, ◌≡◌, ℕ, ◌+◌, ◌<◌, ◌≤◌, cond, List, [], ◌∷◌, length, map, get_or, drop, Option, Some, ◌∙◌, ⊎_elim, arith, replicate, is_some, slice_get, cases_lt, cond_both, length-map, get_or_default, get_or_past, ext_get_or, get_or-replicate, length-insert, Queued, first_for, without_first, fronts, rests, Waiting, cells_of, Buffered, cells_in, list_of, FirstKeysDiffer, orders_of, output_order, Moves, Orders, Partners, IsMatching, are_orders, HaveCells, HaveRoom, MovesRoom, list_spare, buffer_spare, partner_or_free, length_put, came_to, list_arrived, from_first, Queues, FitLists, KeysApart, CanCross, FitEach, AreSquare, list_room, buffer_room, fabric_of, no_list, list_at, list_with, front_of, popped, most_ports, cells-at, cells_in-at, no_buffer, whole}
+use Rattle.cq_fabric.proofs.Terms.{common_steps, rules, ◌≡◌, ℕ, ◌+◌, ◌<◌, ◌≤◌, cond, List, [], ◌∷◌, length, map, get_or, drop, Option, Some, ◌∙◌, ⊎_elim, arith, replicate, is_some, slice_get, cond_both, length-map, ext_get_or, get_or-replicate, length-insert, Queued, first_for, without_first, rests, Waiting, cells_of, Buffered, cells_in, list_of, FirstKeysDiffer, orders_of, output_order, Moves, Orders, Partners, IsMatching, are_orders, HaveCells, HaveRoom, MovesRoom, list_spare, buffer_spare, partner_or_free, length_put, came_to, from_first, Queues, FitLists, KeysApart, CanCross, FitEach, AreSquare, list_room, buffer_room, no_list, list_at, list_with, popped, most_ports, cells-at, cells_in-at, no_buffer, whole}
 use Rattle.std.proofs.Math.ListN.{get_or-map}
 use Rattle.std.proofs.lemmas.Simd.{map-map}
 
@@ -57,17 +57,9 @@ pub record HaveCome (lists : List Waiting) (buffers : List Buffered) (came : Lis
 
 module _ {lists : List Waiting} {buffers : List Buffered} {came : List (Option Queued)} {n : ℕ} {lists' : List Waiting}
     (known : HaveCome lists buffers came n lists') where
-  pub arrived_cells : (i : ℕ) →
-      list_of (cells_of lists') i
-      ≡ list_arrived (fabric_of (shown lists buffers) []) (came_to came i) (list_of (cells_of lists) i)
-  arrived_cells i = search (arith, rules, cells-at, get_or_past, length-map, cases_lt)
-
   pub arrived_rooms : map list_room lists' ≡ map list_room lists
   arrived_rooms = same_rooms list_room lists' lists known.long (λ i l.
       let fits = fit_each lists buffers came n known.square known.fit i in search (arith, rules, room_with, room-at))
-
-  pub arrived_square : AreSquare lists' buffers n
-  arrived_square = search (arith, rules, get_or_default)
 
 -- ## A transfer
 

@@ -1,5 +1,5 @@
-use Rattle.cq_fabric.proofs.Terms.{rules, sym, subst, arith, ports, FitLists, whole}
-use Rattle.cq_fabric.proofs.Queued.{HaveCome, shown, fit_each, arrived_cells, arrived_rooms, arrived_square}
+use Rattle.cq_fabric.proofs.Terms.{rules, sym, subst, arith, cases_lt, get_or_default, get_or_past, length-map, cells-at, ports, FitLists, whole}
+use Rattle.cq_fabric.proofs.Queued.{HaveCome, shown, fit_each, arrived_rooms}
 use Rattle.cq_fabric.proofs.Offered.{as_offered}
 use Rattle.cq_fabric.proofs.queues.Queues.arrive.Goals as goal
 use Rattle.cq_fabric.proofs.queues.Queues.arrive.Goals.{After-self}
@@ -25,11 +25,10 @@ insert_each-requires c =
     search (arith, rules, fit_each _ _ c.args.came.now _ c.self.invariant.square fit)
 
 pub invariant_of-self : goal.invariant_of-self
-invariant_of-self c =
-    let square = arrived_square (come c) in search (arith, rules, whole, as_offered)
+invariant_of-self c = search (arith, rules, come c, get_or_default, whole, as_offered)
 
 pub returns-clause-lists : goal.returns-clause-lists
-returns-clause-lists c i = let arrived = arrived_cells (come c) i in search (arith, rules, whole)
+returns-clause-lists c i = search (arith, rules, come c, whole, cells-at, get_or_past, length-map, cases_lt)
 
 pub returns-clause-from_inputs : goal.returns-clause-from_inputs
 returns-clause-from_inputs c = let rooms = arrived_rooms (come c) in search (arith, rules, whole)
