@@ -70,9 +70,9 @@ filter_both p q [] = refl
 filter_both p q (x ∷ xs) = grind (arith, common_steps, filter_both p q xs)
 
 -- the names of one queue more, and one item more that was found
-pub ruleset named_on = (take_more, flat_map-append, append-nil, map-append)
+pub ruleset naming_steps = (take_more, flat_map-append, append-nil, map-append)
 
-pub ruleset found_on = (All-from_recursion, has_at, take_all)
+pub ruleset finding_steps = (All-from_recursion, has_at, take_all)
 
 -- what a chain of items serves, and what is asked of each item
 pub ruleset serving_steps = (serving, All-from_recursion, recursion_from_All)

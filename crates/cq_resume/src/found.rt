@@ -83,7 +83,7 @@ fn gone_of(schedule: &Schedule, next: Slot, sent: Sent) -> Option<Gone>
 }
 
 // What is found for each of these items. The state is refused where nothing is found for one of them.
-#[tactic(auto, using(crate::proofs::Cut::found_on))]
+#[tactic(auto, using(crate::proofs::Cut::finding_steps))]
 fn found_all<S: Copy, T: Copy, F: Fn(S) -> Option<T>>(
     alloc: Global,
     items: &[S],

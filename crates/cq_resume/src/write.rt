@@ -74,7 +74,7 @@ fn put_named(named: &mut Vec<Named>, cells: &[Queued]) -> Result<(), AllocError>
 }
 
 // The cells of all these queues by their names, one queue after the other.
-#[tactic(auto, using(crate::proofs::Cut::named_on))]
+#[tactic(auto, using(crate::proofs::Cut::naming_steps))]
 fn all_named(alloc: Global, queues: &[Sequence<Queued>]) -> Result<Sequence<Named>, NoMemory>
     ensures { IfOk result (λ named. named ≡ map named_as (flat_map (λ cells. cells) queues.now)) }
 {
