@@ -1,4 +1,5 @@
 use Rattle.cq_resume.proofs.Terms.{rules, List, length, sym, ap, ◌∙◌, arith, Refused, length-map, with_items_is, with_cells, coming, unnamed}
+use Rattle.std.proofs.lemmas.List.{places}
 use Rattle.cq_resume.proofs.Adding.{Tallied, tallied_first, tallied_more, tally_fits, all_stand, tallies_up}
 use Rattle.cq_resume.proofs.Coming.{cells_in}
 use Rattle.cq_resume.proofs.packets.tally_packets.Goals as goal
@@ -13,11 +14,8 @@ walk-requires-clause-room c =
 
 pub inputs-preserved : goal.inputs-preserved
 inputs-preserved c =
-    let left = cells_in (unnamed c.args.names.now (coming c.inputs.input 0 c.args.next c.args.schedule.now.came)) in
     let counted = rw c.deref_mut.ensures.value at c.in-Some.ensures.refused in
-    let same = ap (λ (l : List Refused). length l) counted in
-    let mapped = length-map c.inputs.refused.items (with_cells left) in
-    rw (with_items_is c.inputs.refused c.walk.new.refused (omega (arith, c.inputs.refused.ok.0)))
+    rw (with_items_is c.inputs.refused c.walk.new.refused (search (rules, places)))
     (tallied_more _ _ _ _ _ c.requires.packets _ _ _ c.inputs.invariant (omega arith) (omega arith) _ _ _
     (sym c.in-Some.is ∙ c.walk.ensures.mark) counted c.in_ok-push-in-Some.ensures.items)
 
