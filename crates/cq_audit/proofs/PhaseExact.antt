@@ -10,7 +10,7 @@
 -- before the other. And where the lines are the transfers of a stable matching, the line of an input is what is noted
 -- of it: it names the input's first cell for its partner. So no line is wrong, the pairs that the lines tell are the
 -- matching, and none blocks it.
-use Rattle.cq_audit.proofs.Terms.{common_steps, rules, ◌≡◌, ℕ, zero, suc, ◌+◌, ◌<◌, ◌≤◌, ◌⊎◌, List, length, Option, None, Some, ◌∙◌, arith, filter_map, range_with_len, cases_lt, cases_eq, ext_get_or, length-map, get_or_past, Queued, Transfer, list_of, output_order, noted, transfers_of, Partners, partner_of, offer_of, transfers_tell, IsPhaseExact, IsPhaseFault, IsStableTold, IsWrongLine, first_id, line_of_input, output_told, told, PhaseFault, ◌≢◌, [], ◌∷◌, sym, AllByRecursion, option_map, cond_both, eqb-true, Waiting, cells_of, orders_of, Orders, ports, IsOffered, HasBetterInput, HasBetterOutput, IsMatching, AreOfPhase, AreRight, IsBlocking, RiseByInput, all_weaker, get_or-map-range_with_len, length-map-range_with_len, is_output_order, outputs_at, CellId, sender, all_give, all_of_has, ◌++◌, get_or, take, drop, refl, replicate, eq-eqb, length-replicate, length-set, get_or-set_same, get_or-set_other, take-append-drop, take_more, drop_more, find-append, all_back, with_pair, IsFreeOutput, nobody, IsOf, IsFirstWrong, get_or-map, none_unless}
+use Rattle.cq_audit.proofs.Terms.{common_steps, rules, ◌≡◌, ℕ, zero, suc, ◌+◌, ◌<◌, ◌≤◌, ◌⊎◌, List, length, Option, None, Some, ◌∙◌, arith, filter_map, range_with_len, cases_lt, cases_eq, ext_get_or, length-map, get_or_past, Queued, Transfer, list_of, output_order, noted, transfers_of, Partners, partner_of, offer_of, transfers_tell, IsPhaseExact, IsPhaseFault, IsStableTold, IsWrongLine, first_id, line_of_input, output_told, told, PhaseFault, ◌≢◌, [], ◌∷◌, sym, AllByRecursion, option_map, cond_both, eqb-true, Waiting, cells_of, orders_of, Orders, ports, IsOffered, HasBetterInput, HasBetterOutput, IsMatching, AreOfPhase, AreRight, IsBlocking, RiseByInput, all_weaker, get_or-map-range_with_len, length-map-range_with_len, is_output_order, outputs_at, CellId, sender, all_give, all_of_has, ◌++◌, get_or, take, drop, refl, replicate, eq-eqb, length-replicate, length-set, get_or-set_same, get_or-set_other, take-append-drop, take_more, drop_more, find-append, all_back, with_pair, IsFreeOutput, nobody, IsOf, IsFirstWrong, get_or-map, none_unless, take_all}
 use Rattle.cq_audit.specs.declared.phase.PhaseFault.TheVariants.{WrongLine, Blocking}
 use Rattle.cq_base.proofs.Having.{has_there}
 use Rattle.std.proofs.lemmas.List.Folds.{find_at}
@@ -150,7 +150,7 @@ module _ (ws : List Waiting) (lines : List Transfer) (n : ℕ) (d : Transfer) (m
     right = λ i wrong. search (arith, rules, own_line, other_line, free, had, had.right i, same_wrong, list, cases_eq);
   })
 
-pub ruleset told_steps = (none_told, cells_at, can_join)
+pub ruleset told_steps = (none_told, cells_at, can_join, all_told, length-map, take_all)
 
 -- ## Settled
 
