@@ -108,7 +108,7 @@ name_on a b c first second = grind (arith, common_steps)
 
 -- ## Cells of lists
 
-pub ruleset list_steps = (urgent_on, length-replicate)
+pub ruleset list_steps = (length-replicate)
 
 -- ## Flows
 
@@ -124,7 +124,7 @@ module _ (ports : ℕ) (xs : List Name)
   )
 
 -- cells of flows, lane by lane
-pub ruleset flow_steps = (flows_fit, flows_as_lanes, urgent_on, length-replicate)
+pub ruleset flow_steps = (flows_fit, flows_as_lanes, length-replicate)
 
 -- ## Slack
 

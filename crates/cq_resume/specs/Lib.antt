@@ -4,6 +4,7 @@ pub mod Refused
 pub mod Sound
 pub mod Counted
 pub mod Finding
+pub mod Laned
 pub mod Taking
 pub mod Reading
 pub mod Resumed

@@ -11,7 +11,7 @@ pub use Rattle.cq_state.specs.Refusals.{IsTooLong, longest_text}
 pub use Rattle.cq_state.specs.State.{IsInRange, state_text}
 pub use Rattle.cq_resume.specs.Counted.{IsTally, output_told, taken_of}
 pub use Rattle.cq_resume.specs.Finding.{StandsBelow, FlowsStand, IsNameBefore, Leaves, IsAheadInFlow, flow_of, IsAheadInList, HasRoom, IsFound, IsNameNotAfter, IsGone, IsMissed, sent_name, told_of, waiting_name, BuffersStand, IsBufferedBefore, IsListedBefore, IsNoLaterInput, IsSentBefore, IsTimely, ListsStand, SentStand, ArePackets, PacketsStand, TalliesUp, coming, has_limit, has_name, mark_on, may_come, unnamed, SlackStands, cushion_in}
-pub use Rattle.cq_resume.specs.{Neighbours.IsOfNeighbours, Parts.IsOneParted, Parts.PartsJoin}
+pub use Rattle.cq_resume.specs.{Laned.flow_goes_on, Laned.list_goes_on, Neighbours.IsOfNeighbours, Parts.IsOneParted, Parts.PartsJoin}
 pub use Rattle.cq_resume.specs.Reading.{IsRead, IsReadExact, IsRefusal, named_as, seen_as, sent_as, state_of, text_of_taken, told_by}
 pub use Rattle.cq_resume.specs.Resumed.{IsOneResumed}
 pub use Rattle.cq_resume.specs.Sound.{AreArrivals, IsForPorts, IsOnlyFor, IsFirstOf, IsSound}

@@ -1,7 +1,7 @@
 //! The cells of one input, output and class: they leave in the order of arrival.
 ghost use Rattle.std.specs.Prelude.{◌≡◌, ◌↔◌, ◌<◌, ◌≤◌, AllPairs, IfOk, IsTrue, None, replicate};
 ghost use Rattle.std.specs.List.{AllByRecursion};
-ghost use Rattle.cq_resume.specs.Terms.{FlowsStand, IsNameBefore, Leaves, IsAheadInFlow, flow_of, most_classes, most_ports};
+ghost use Rattle.cq_resume.specs.Terms.{FlowsStand, IsNameBefore, Leaves, IsAheadInFlow, flow_goes_on, flow_of, most_classes, most_ports};
 
 use crate::found::Name;
 use crate::laned::{Laned, lanes_in_order};
@@ -26,6 +26,8 @@ impl Laned for Name {
     ghost lane_of = { flow_of };
 
     ghost stands_before = { IsAheadInFlow };
+
+    ghost goes_on = { flow_goes_on };
 
     fn lane(&self) -> usize {
         let cell = self.queued.cell;

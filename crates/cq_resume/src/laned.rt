@@ -10,6 +10,9 @@ pub trait Laned: Copy {
     /// Whether the one stands before the other.
     ghost stands_before: { Self → Self → Type 0 };
 
+    /// That goes on from one to the next.
+    ghost goes_on: { (a b c : Self) → stands_before a b → stands_before b c → stands_before a c };
+
     /// The number of its lane.
     fn lane(&self) -> usize
         ensures { result ≡ lane_of self.now };
@@ -29,14 +32,12 @@ fn may_follow<T: Laned>(last: Option<T>, item: &T) -> bool
     }
 }
 
-/// Whether of any two items of one lane the first stands before the other, where that goes on from one to the next.
-/// Each is compared with the last one of its lane that came before it, for which there is a place; at first there is
-/// none.
+/// Whether of any two items of one lane the first stands before the other. Each is compared with the last one of its
+/// lane that came before it, for which there is a place; at first there is none.
 #[tactic(auto, using(crate::proofs::Lanes::lanes_first, crate::proofs::Lanes::within))]
 pub fn lanes_in_order<T: Laned>(items: &[T], last: &mut [Option<T>]) -> bool
     requires none { last.old ≡ replicate (length last.old) None }
     requires lanes { AllByRecursion (λ x. T.lane_of x < length last.old) items.now }
-    requires goes_on { (a b c : T) → T.stands_before a b → T.stands_before b c → T.stands_before a c }
     ensures { IsTrue result ↔ AllPairs (λ a b. T.lane_of a ≡ T.lane_of b → T.stands_before a b) items.now }
 {
     'items: for item in items {

@@ -1,7 +1,7 @@
 //! Whether the lines of a state stand in order.
 ghost use Rattle.std.specs.Prelude.{◌≡◌, ◌↔◌, ◌<◌, AllPairs, IsTrue, None, replicate};
 ghost use Rattle.std.specs.List.{AllByRecursion};
-ghost use Rattle.cq_resume.specs.Terms.{AreOrdered, IsBefore, BuffersStand, IsBufferedBefore, IsListedBefore, IsNoLaterInput, IsSentBefore, IsTimely, ListsStand, SentStand, IsAheadInList, most_ports, IsTransferBefore};
+ghost use Rattle.cq_resume.specs.Terms.{AreOrdered, IsBefore, BuffersStand, IsBufferedBefore, IsListedBefore, IsNoLaterInput, IsSentBefore, IsTimely, ListsStand, SentStand, IsAheadInList, list_goes_on, most_ports, IsTransferBefore};
 
 use crate::found::{Found, Gone};
 use crate::laned::{Laned, lanes_in_order};
@@ -42,6 +42,8 @@ impl Laned for Queued {
     ghost lane_of = { λ q. q.cell.output };
 
     ghost stands_before = { IsAheadInList };
+
+    ghost goes_on = { list_goes_on };
 
     fn lane(&self) -> usize {
         self.cell.output as usize
