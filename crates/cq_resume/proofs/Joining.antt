@@ -149,6 +149,18 @@ module _ (w : Switch) where
       search (arith, rules, slot_ahead, over_or_not next start.state, ends n (next + 1) run.0 over)
   ends n next start over rs run late empty = grind (arith, common_steps)
 
+  -- where a run is over it stays over, and later slots add nothing
+  stays_over : (n slot : ℕ) (f g : Marked Fabric) (rs : List LimitedRecord) → end_of w.came ≤ slot →
+      IsEmptyFabric f.state → length f.state.buffers ≡ length f.state.inputs →
+      RunBy Step slot (arriving_from w.came slot n) f rs g →
+      IsEmptyFabric g.state × ((k : Kept) → kept_on k slot rs ≡ k)
+  stays_over n slot f g rs late empty square run =
+      let ports = length f.state.inputs in
+      let still = run_with IsInputBest w.limits w.machines f.marks slot _ _ _ _
+      (none_come IsInputBest w.limits w.machines f.marks n) (quiet_run w.machines n slot ports f.state.ranks) in
+      let adds = λ (k : Kept). kept_quiet w.machines ports f.marks k n slot f.state.ranks in
+      search (arith, rules, quiet_from, empty_is, one.run, All-replicate, adds)
+
   -- ## A run that was stopped
 
   module _ (ranks : List (List ℕ)) (slots : ℕ) (at : Taken) (part : IsParted w ranks slots at) where
@@ -174,44 +186,26 @@ module _ (w : Switch) where
             search (arith, rules, past, take_all, sum, runs.all_came, join, length-drop, take-append-drop, whole_run)
 
       -- stopped behind its end
-      module _ (behind : length rs < slots) where
-        square : length end.state.buffers ≡ length end.state.inputs
-        square = run_square 0 (arriving_from w.came 0 (length rs)) start end rs (whole_run 0 start end rs runs) refl
-
-        abbrev ports : ℕ
-        ports = length end.state.inputs
-
-        abbrev more : ℕ
-        more = slots - length rs
-
-        quiet : List LimitedRecord
-        quiet = quiet_limited_slots w.machines more (length rs) ports end.state.ranks end.marks
-
-        abbrev resting : Marked Fabric
-        resting = marked end.marks (empty_fabric ports (idled_for w.machines more ports end.state.ranks))
-
-        over : (part.records ≡ rs ++ quiet) × (there ≡ resting)
-        unfolding quiet
-        over =
-            let n = length rs in
-            let past = goes_past 0 n more slots n start end there rs part.records (omega arith) (omega arith)
-            (whole_run 0 start end rs runs) part.runs in
-            let come = none_come IsInputBest w.limits w.machines end.marks more in
-            let still = run_with IsInputBest w.limits w.machines end.marks n _ _ _ _ come
-            (quiet_run w.machines more n ports end.state.ranks) in
-            search (arith, rules, quiet_from, empty_is, square, take-append-drop n part.records, one.run)
-
-        rests : RunsOn w slots there [] there
-        unfolding arriving_from
-        rests = grind (arith, common_steps, All-replicate, over)
-
-        kept_over : kept_on (nothing_kept w) 0 rs ≡ kept_on (kept_in at) slots []
-        unfolding quiet
-        kept_over =
-            let ranks = end.state.ranks in
-            let first = kept_quiet w.machines ports end.marks (kept_on (nothing_kept w) 0 rs) more (length rs) ranks in
-            let then = kept_quiet w.machines ports end.marks (kept_in at) 0 slots ranks in
-            grind (arith, common_steps, over, kept_both (nothing_kept w) 0 (length rs) rs quiet)
+      behind : length rs < slots → RunsOn w slots there [] there
+          × (kept_on (nothing_kept w) 0 rs ≡ kept_on (kept_in at) slots [])
+      unfolding arriving_from
+      behind more =
+          let n = length rs in
+          let run = whole_run 0 start end rs runs in
+          let past = goes_past 0 n (slots - n) slots n start end there rs part.records (omega arith) (omega arith) run
+          part.runs in
+          let late = runs.all_came in
+          let still = stays_over (slots - n) n end there (drop n part.records) (omega arith) runs.empty
+          (run_square 0 (arriving_from w.came 0 n) start end rs run refl) past.1 in
+          let joined = kept_both (nothing_kept w) 0 n rs (drop n part.records) (omega arith) in
+          let none = kept_quiet w.machines 0 [] (kept_in at) 0 slots [] in
+          let kept = still.1 (kept_on (nothing_kept w) 0 rs) in
+          let stands : RunsOn w slots there [] there = record {
+            after = refl;
+            all_came = omega arith;
+            empty = still.0;
+            first = λ m s after late over. omega arith;
+          } in (stands, cc (take-append-drop n part.records, part.kept))
 
     -- ## The laws
 
@@ -219,7 +213,8 @@ module _ (w : Switch) where
     part_resumes whole is =
         let goes = rest is.records is.end is.runs in
         let joined = kept_both (nothing_kept w) 0 slots in
-        search (arith, rules, rests is.records is.end is.runs, goes, run_length, arriving_length, joined, kept_over)
+        let late = behind is.records is.end is.runs in
+        search (arith, rules, goes, late, run_length, arriving_length, joined, cases_lt (length is.records) slots)
 
     pub part_is_run : (kept whole : Kept) → IsResumed w at kept → IsWhole w ranks whole → kept ≡ whole
     part_is_run kept whole resumed is = one_kept at kept whole resumed (part_resumes whole is)
