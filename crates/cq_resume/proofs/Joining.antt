@@ -3,8 +3,8 @@
 -- and nothing comes, and the slots behind the end add nothing. A tag fault of the run comes behind the slots that were
 -- done, for these had none. A run that goes on to an end has a first slot at which it is over, maybe one of those that
 -- were done, and the whole run ends there.
-use Rattle.cq_resume.proofs.Terms.{common_steps, rules, ◌≡◌, ℕ, zero, suc, ◌+◌, ◌-◌, ◌<◌, ◌≤◌, Bool, List, [], ◌∷◌, ◌++◌, length, take, drop, Option, refl, ◌⊎◌, replicate, append_assoc, length-drop, arith, cases_lt, length-map, map-append, take-append-drop, take_all, flat_map-append, All-replicate, end_of, Cell, arriving_from, refused_in, all_counted_both, none_counted, Fabric, IsEmptyFabric, empty_fabric, marked_in, Machine, Switch, Taken, no_arrivals, TagFault, no_arrivals_refuse_none, arriving_length, arriving_parts, quiet_from, IsLimitedFault, LimitedFabricSlot, LimitedRecord, admissions_in, slots_in, quiet_limited_slots, idled, idled_for, quiet_slots, GoOn, IsOneRun, RunBy, StopBy, all_go_on, departures_on, transfers_both, none_come, run_with, only_limited_run, parts, run_length, arriving, empty_is, adds_nothing, quiet_run, IsInputBest}
-use Rattle.cq_ideal.specs.Admission.{Marked, marked}
+use Rattle.cq_resume.proofs.Terms.{common_steps, rules, ◌≡◌, ℕ, zero, suc, ◌+◌, ◌-◌, ◌<◌, ◌≤◌, Bool, List, [], ◌∷◌, ◌++◌, length, take, drop, Option, refl, ◌⊎◌, replicate, append_assoc, length-drop, arith, cases_lt, length-map, map-append, take-append-drop, take_all, flat_map-append, All-replicate, end_of, Cell, arriving_from, refused_in, all_counted_both, none_counted, Fabric, IsEmptyFabric, marked_in, Machine, Switch, Taken, no_arrivals, TagFault, no_arrivals_refuse_none, arriving_length, arriving_parts, quiet_from, IsLimitedFault, LimitedFabricSlot, LimitedRecord, admissions_in, slots_in, quiet_limited_slots, idled, quiet_slots, GoOn, IsOneRun, RunBy, StopBy, all_go_on, departures_on, transfers_both, none_come, run_with, only_limited_run, parts, run_length, arriving, empty_is, adds_nothing, quiet_run, IsInputBest}
+use Rattle.cq_ideal.specs.Admission.{Marked}
 use Rattle.cq_ideal.proofs.Parted.{none_waits, nothing_left}
 use Rattle.cq_ideal.proofs.Waiting.{waiting}
 use Rattle.std.proofs.Math.Seq.{take-add}

@@ -1,5 +1,5 @@
 -- That what stands before in a lane goes on from one to the next. It stands here since impls cite it.
-use Rattle.std.proofs.Common.{arith, rules}
+use Rattle.std.proofs.Common.{arith}
 use Rattle.std.proofs.lemmas.Grind.{common_steps}
 use Rattle.cq_base.proofs.Keys.{key_laws}
 use Rattle.cq_base.specs.declared.cell.Queued.{Queued}

@@ -1,7 +1,6 @@
-use Rattle.cq_resume.proofs.Terms.{rules, List, length, sym, ap, ◌∙◌, arith, Refused, length-map, with_items_is, with_cells, coming, unnamed}
+use Rattle.cq_resume.proofs.Terms.{rules, sym, ◌∙◌, arith, with_items_is}
 use Rattle.std.proofs.lemmas.List.{places}
 use Rattle.cq_resume.proofs.Adding.{Tallied, tallied_first, tallied_more, tally_fits, all_stand, tallies_up}
-use Rattle.cq_resume.proofs.Coming.{cells_in}
 use Rattle.cq_resume.proofs.packets.tally_packets.Goals as goal
 use Rattle.cq_resume.proofs.packets.tally_packets.Goals.{After-of-2}
 
