@@ -187,12 +187,13 @@ module _ (w : Switch) (s : State) (in_range : IsInRange s) (shape : HasShape w s
     abbrev EarlierThere : Departure → Departure → Type 0
     EarlierThere x y = leaves x ≡ true → leaves y ≡ true → Earlier x.queued y.queued
 
-    abbrev InTurn : Sent → Sent → Type 0
-    InTurn d e = OfOneFlow w.came d.cell e.cell → d.cell.slot < e.cell.slot
+    -- of two names of one flow the second arrived later
+    abbrev After : Named → Named → Type 0
+    After m n = OfOneFlow w.came m n → m.slot < n.slot
 
     gone_rise : EachPair Earlier gone
     gone_rise =
-        let turn = pairs_looked_up (departure_of w.came) InTurn EarlierThere in
+        let turn = pairs_looked_up (departure_of w.came) (λ (d e : Sent). After d.cell e.cell) EarlierThere in
         let kept = pairs_kept_with EarlierThere (λ (x y : Departure). Earlier x.queued y.queued) leaves in
         search (arith, rules, pairs_mapped, kept, turn, sent_in_flow, name_in_flow, its_slot w s, each_pair)
 
@@ -225,9 +226,6 @@ module _ (w : Switch) (s : State) (in_range : IsInRange s) (shape : HasShape w s
         search (arith, rules, rise, waits_earlier, all_from_has, pairs_kept IsBefore, agrees.rising)
 
     -- what was sent arrived before what waits
-    abbrev After : Named → Named → Type 0
-    After m n = OfOneFlow w.came m n → m.slot < n.slot
-
     sent_earlier : (q r : Queued) → Has gone q → Has waiting r → Earlier q r
     sent_earlier q r first second =
         let a = was_sent q first in
@@ -431,24 +429,20 @@ module _ (w : Switch) (s : State) (in_range : IsInRange s) (shape : HasShape w s
       goes_as_marked p last =
           search (arith, rules, whole_on, over, late_packets, get_or-map-range_with_len, none_at, cases_lt i)
 
-      -- and of all packets, where these are taken of those that come
-      abbrev with_early : (ℕ → Bool) → ℕ → Bool
-      with_early late p =
-          cond (nat_lt (p + 1) begin_from) (list_any named (filter (λ a. packet a == p) (before i))) (late p)
+      -- and of all packets: of those that are over before the slot the state says it
+      abbrev takes : ℕ → Bool
+      takes p = cond (nat_lt (p + 1) begin_from) (list_any named (filter (λ a. packet a == p) (before i))) (taken p)
 
-      taken_before : (late : ℕ → Bool) → ((p : ℕ) → p + 1 ≡ begin_from → late p ≡ not mark) →
-          AllByRecursion (λ a. with_early late (packet a) ≡ named a) (before i)
-      taken_before late goes_on = all_from_has _ (before i) (λ a has.
+      taken_before : AllByRecursion (λ a. takes (packet a) ≡ named a) (before i)
+      taken_before = all_from_has _ (before i) (λ a has.
+          let goes_on = goes_as_marked (packet a) in
           let high = all_of_has _ (before i) a (within 0 0 (before i) (omega arith) packets_parted.0).1 has in
           let own = filter (λ (b : Arrival). packet b == packet a) (before i) in
           let any = any_alike named (named a) own a in
           search (arith, rules, any, kept_has, has_kept, alike, mark_says, lt-ltb, le-ltb, cases_lt, eq-eqb, eqb-true))
 
-      taken_behind : (late : ℕ → Bool) → AllByRecursion (λ b. with_early late (packet b) ≡ late (packet b)) (behind i)
-      taken_behind late = search (arith, rules, within begin_from, packets_parted, all_weaker, le-ltb, cond-false)
-
-      abbrev takes : ℕ → Bool
-      takes = with_early taken
+      taken_behind : AllByRecursion (λ b. takes (packet b) ≡ taken (packet b)) (behind i)
+      taken_behind = search (arith, rules, within begin_from, packets_parted, all_weaker, le-ltb, cond-false)
 
       abbrev taken_cell : Cell → Bool
       taken_cell cell = taken cell.id.packet
@@ -464,10 +458,10 @@ module _ (w : Switch) (s : State) (in_range : IsInRange s) (shape : HasShape w s
         later = cells_of (filter its_flow (behind i))
 
         early_taken : filter takes_cell (cells_of (filter its_flow (before i))) ≡ cells_of (told i c j)
-        early_taken = search (rules, filter_images, filter_same, all_filter, taken_before taken goes_as_marked)
+        early_taken = search (rules, filter_images, filter_same, all_filter, taken_before)
 
         late_taken : filter takes_cell later ≡ filter taken_cell later
-        late_taken = search (rules, filter_same, of_images, all_filter, taken_behind taken)
+        late_taken = search (rules, filter_same, of_images, all_filter, taken_behind)
 
         takes_parts : filter takes_cell (came_in_flow i c j w.came) ≡ cells_of (told i c j) ++ filter taken_cell later
         takes_parts =
