@@ -99,8 +99,7 @@ module _ {t : Tables} {captures : List (List Captured)} {output : ℕ} {sent res
     module _ {joiner_new : JoinerView} (joined : JoinsOn captures d joiner joiner_new) where
       fit_next : (i c : ℕ) → c < length t.setup.classes →
           AllFit captures (open_at joiner_new i c) (left_in_flow i c output rest)
-      fit_next i c few =
-          search (arith, rules, at.fit i c few, and_right, ne_eqb, cases_eq, and_left, own_cell, cond-true, cond-false)
+      fit_next i c few = grind (arith, common_steps, at.fit i c few, and_right, ne_eqb, cases_eq, and_left, own_cell)
 
       pub went_on : (o : Option OutPacket) {more : List OutPacket} → o ≡ left_with t captures d →
           more ≡ packets ++ cons_option o [] → IfSome o (λ p. length p.body ≤ longest_body) →

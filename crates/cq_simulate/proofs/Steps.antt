@@ -148,8 +148,14 @@ fewer_come came slot (suc k) n next m e f =
 module _ (M : List ℕ → Machine) {came : List Arrival} {first : IdealSwitch} {first_sent sent : RoomView Departure}
     {slot m next : ℕ} {now new : IdealSwitch} (r : Running (map M first.fixed) came first first_sent slot m now sent)
     (quiet : IsQuiet came slot next) (rested : HasRestedIdeal (map M now.fixed) slot next now new) where
-  running_rest : (n : ℕ) → next + n ≡ enough came → Running (map M first.fixed) came first first_sent next n new sent
-  running_rest n left =
+  -- where a cell is to come or waits, the run stands at a slot that is to be run
+  pub stands : (end_of came ≤ slot → All (λ cells. cells ≡ []) now.state.lists → ⊥) →
+      Running (map M first.fixed) came first first_sent next (suc (enough came - (next + 1))) new sent
+  stands more =
+      let some : next < enough came =
+      search (arith, rules, more, quiet.more, enough_are, cases_lt slot, nothing_left) in
+      let n = suc (enough came - (next + 1)) in
+      let left : next + n ≡ enough came = omega arith in
       let k = next - slot in
       let gone = replicate k (replicate (length now.fixed) None) in
       let fewer = fewer_come came slot k n next m (omega arith) (omega arith) in
@@ -162,14 +168,6 @@ module _ (M : List ℕ → Machine) {came : List Arrival} {first : IdealSwitch} 
       let sent_all = departures_append 0 slot r.ran.gone gone (omega arith) in
       let nothing = none_departs (length now.fixed) k slot in
       search (arith, rules, append-nil, r.each, fewer.to, quiet.more, r.counts, length-append, length-replicate)
-
-  -- where a cell is to come or waits, the run stands at a slot that is to be run
-  pub stands : (end_of came ≤ slot → All (λ cells. cells ≡ []) now.state.lists → ⊥) →
-      Running (map M first.fixed) came first first_sent next (suc (enough came - (next + 1))) new sent
-  stands more =
-      let some : next < enough came =
-      search (arith, rules, more, quiet.more, enough_are, cases_lt slot, nothing_left) in
-      running_rest (suc (enough came - (next + 1))) (omega arith)
 
 -- ## The test
 

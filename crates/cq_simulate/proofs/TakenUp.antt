@@ -68,8 +68,6 @@ goes_from {t} {s} e sent note fit has machines classes from to running few sent_
     let listed = kinds_few (λ a. a.cell.id.input) (λ i. length (input e.fabric i)) 0 ports before in
     search (arith, rules, machine_count, both_parts, room_at, has.lost, held, listed, has.buffers, has.lists, all_parts)
 
--- ## A fresh one
-
 -- ## One that was taken up
 
 pub goes_of : (t : Tables) (s : Scheduled) (taken : Taken) → CanBeTakenUp (switch_of t s) taken →
