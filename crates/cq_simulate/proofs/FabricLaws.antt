@@ -3,7 +3,7 @@
 -- ideal switch agree. With any stable matchings the fabric ends where the ideal switch ends, and has sent and refused
 -- what that sends and refuses; its matchings are those of orders by first cells, and no slack is below 0 after
 -- arrivals. The matchings of the run of tables are the input-best ones, so it is a run with stable matchings too.
-use Rattle.cq_simulate.proofs.Terms.{stable_limited_too, common_steps, rules, ◌≡◌, ◌≤◌, List, Ok, refl, arith, All, length, Arrival, IsTraffic, Machine, Marked, NoLimits, admitted_in, first_slots, slots_of, one_limited_whole, recorded, Fabric, empty_fabric, FabricRun, LimitedFabricRun, LimitedRecord, LimitedWholeRun, admissions_in, empty_limited_fabric, slots_in, figures_of, IsInputBest, IsStable, classes_of, ports_of, IsSetup, Tables, machines_of, openings_of, AlwaysHasSlack, AreInputBest, IsFabricRun, IsKeptOf, SendsSlotBySlot, departures_in_run, ideal_departures, ideal_refusals, ran_ideal, slots_ran, slots_of_figures, run_of_whole, ap, limited_found_end, departures_limited, whole_limited_run, LimitedRan, empty_limited, limited_ends, IsEmptyFabric, LimitedEndsAlike, gone_in, AreStable, refused_in_run, counts_limited, refused_counts, slots_fit, ℕ, ◌+◌, [], ◌∷◌, take_all, Option, traffic_is, schedule_of, Cell, IdealState, AreForPorts, admission_for_ports, agrees_of, after_sent, arrived, slack_arrived, orders_are, same_limited_slot, ideal_of, LimitedFabricSlot, Partners, Captured, IsResumed, Kept, Switch, switch_of, Taken, AreTables, AreChosen, CanBeTakenUp, fabric_in, marked_in, Orders, IsParted, false, cond, map, None, max, fold, is_some, slice_index_or, AllByRecursion, enumerate_from, list_any, cond_both, Queued, Figures, SlotRecord, sends, output_after, figures_after, OutputFigures, figures_fold, recursion_from_All, get_or-replicate, ◌<◌, Some, AllPairs, filter_map, eqb-true, All-from_recursion, Departure, EachPair, each_pair, departure_of, figures_told, frozen_told, IsSentBefore, Sent, State, all_made, all_from_has, all_weaker}
+use Rattle.cq_simulate.proofs.Terms.{stable_limited_too, common_steps, rules, ◌≡◌, ◌≤◌, List, Ok, refl, arith, All, length, Arrival, IsTraffic, Machine, Marked, NoLimits, first_slots, slots_of, one_limited_whole, recorded, Fabric, FabricRun, LimitedFabricRun, LimitedRecord, LimitedWholeRun, admissions_in, empty_limited_fabric, slots_in, figures_of, IsInputBest, IsStable, classes_of, ports_of, IsSetup, Tables, machines_of, openings_of, AlwaysHasSlack, AreInputBest, IsFabricRun, IsKeptOf, SendsSlotBySlot, departures_in_run, ideal_departures, ideal_refusals, ran_ideal, slots_ran, slots_of_figures, run_of_whole, ap, limited_found_end, departures_limited, whole_limited_run, LimitedRan, empty_limited, limited_ends, IsEmptyFabric, LimitedEndsAlike, gone_in, AreStable, refused_in_run, counts_limited, refused_counts, slots_fit, ℕ, ◌+◌, [], ◌∷◌, take_all, Option, traffic_is, schedule_of, Cell, IdealState, AreForPorts, admission_for_ports, agrees_of, after_sent, arrived, slack_arrived, orders_are, same_limited_slot, ideal_of, LimitedFabricSlot, Partners, Captured, IsResumed, Kept, Switch, switch_of, Taken, AreTables, AreChosen, CanBeTakenUp, fabric_in, Orders, IsParted, false, cond, map, None, max, fold, is_some, slice_index_or, AllByRecursion, enumerate_from, list_any, cond_both, Queued, Figures, SlotRecord, sends, output_after, figures_after, OutputFigures, figures_fold, recursion_from_All, get_or-replicate, ◌<◌, Some, AllPairs, filter_map, eqb-true, All-from_recursion, Departure, EachPair, each_pair, departure_of, figures_told, frozen_told, IsSentBefore, Sent, State, all_made, all_from_has, all_weaker}
 use Rattle.cq_simulate.proofs.OfPackets.{last_departs_without_limits, slots_are}
 use Rattle.cq_simulate.specs.Emulation.{EmulatesIdeal}
 use Rattle.cq_laws.proofs.LimitedWhole.{Stands, begin}
@@ -169,10 +169,8 @@ module _ (t : Tables) (captures : List (List Captured)) (are : AreTables t)
     resumed_both : AreInputBest resumed.records × AlwaysHasSlack resumed.records
     resumed_both =
         let on = goes_of t (schedule_of t captures) from up (traffic_is t captures are many) in
-        let beside : Marked IdealState =
-        record { state = ideal_of (fabric_in from.frozen); marks = from.frozen.marks } in
-        each_chosen IsInputBest (λ o m h. h.stable) _ _ (classes_of t.setup) from.frozen.next _ (marked_in from.frozen)
-        resumed.end beside resumed.records
+        each_chosen IsInputBest (λ o m h. h.stable) _ _ (classes_of t.setup) from.frozen.next _ _ resumed.end
+        (record { state = ideal_of (fabric_in from.frozen); marks = from.frozen.marks }) _
         (search (arith, rules, agrees_of, slots_fit, traffic_there, on.ports.lists, on.sound))
         (rw (take_all (length resumed.records) resumed.records (omega arith)) at resumed.runs.after)
 
@@ -233,21 +231,13 @@ module _ (t : Tables) (came : List Arrival) where
   abbrev start : Marked Fabric
   start = empty_limited_fabric (ports_of t.setup) (openings_of t.setup)
 
-  abbrev plain : Fabric
-  plain = empty_fabric (ports_of t.setup) (openings_of t.setup)
-
   runs : (rs : List LimitedRecord) (is : IsFabricRun t came rs) →
       LimitedFabricRun IsInputBest t.limits ms 0 (first_slots came (length rs)) start rs is.end
   runs rs is = grind (arith, common_steps, run_of_whole)
 
-  -- without limits, of what it admits
-  plainly : (rs : List LimitedRecord) (is : IsFabricRun t came rs) →
-      FabricRun IsInputBest ms 0 (admitted_in (admissions_in rs)) plain (slots_in rs) is.end.state
-  plainly rs is = grind (arith, common_steps, recorded, runs)
-
   pub slots_sent : (rs : List LimitedRecord) → IsFabricRun t came rs →
       (figures_of (ports_of t.setup) (slots_in rs)).slots ≡ slots_of (departures_in_run rs)
-  slots_sent rs is = slots_of_figures IsInputBest ms _ _ plain is.end.state (slots_in rs) (plainly rs is)
+  slots_sent rs is = search (rules, slots_of_figures IsInputBest ms, recorded, runs rs is)
 
   module _ (rs : List LimitedRecord) (traffic : IsTraffic (ports_of t.setup) (classes_of t.setup) came)
       (is : IsFabricRun t came rs) where
@@ -292,4 +282,4 @@ module _ (t : Tables) (came : List Arrival) where
   pub once_each_slot : (rs : List LimitedRecord) → IsFabricRun t came rs →
       All (λ x. x.cells ≤ (figures_of (ports_of t.setup) (slots_in rs)).slots)
       (figures_of (ports_of t.setup) (slots_in rs)).outputs
-  once_each_slot rs is = once_a_slot ms _ plain is.end.state (slots_in rs) _ (plainly rs is)
+  once_each_slot rs is = search (rules, once_a_slot, recorded, runs rs is)

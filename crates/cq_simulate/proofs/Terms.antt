@@ -34,7 +34,7 @@ pub use Rattle.cq_ideal.proofs.LimitedRuns.{is_run_of, judged, run_fault}
 pub use Rattle.cq_ideal.proofs.Refusals.{counts_more, each_once}
 pub use Rattle.cq_ideal.proofs.Waiting.{counted, total_same}
 unfoldable pub use Rattle.cq_ideal.proofs.Waiting.{total, waiting}
-pub use Rattle.cq_ideal.specs.Admission.{Admission, Marked, NoLimits, admitted, admitted_in, is_first, nothing_refused, refused}
+pub use Rattle.cq_ideal.specs.Admission.{Admission, Marked, NoLimits, admitted, is_first, nothing_refused, refused}
 unfoldable pub use Rattle.cq_ideal.specs.Admission.{admission}
 pub use Rattle.cq_ideal.specs.Ending.{first_slots, slots_of}
 unfoldable pub use Rattle.cq_ideal.specs.Ending.{arriving_from}
@@ -64,7 +64,7 @@ pub use Rattle.cq_laws.proofs.OneSlot.{after_sent, arrived, same_slot, slack_arr
 pub use Rattle.cq_laws.proofs.Sound.{orders_are}
 pub use Rattle.cq_laws.proofs.WholeRuns.{empty_list, empty_together}
 pub use Rattle.cq_laws.specs.{Agreement.Agrees, Frozen.ideal_of, Records.gone_in}
-pub use Rattle.cq_laws.specs.Fabric.{Fabric, IsEmptyFabric, IsFabric, empty_fabric, input}
+pub use Rattle.cq_laws.specs.Fabric.{Fabric, IsEmptyFabric, IsFabric, input}
 pub use Rattle.cq_laws.specs.FabricSlot.{FabricSlot, SlotRecord}
 pub use Rattle.cq_laws.specs.Holding.{held_for}
 unfoldable pub use Rattle.cq_laws.specs.Holding.{fabric_held}
@@ -114,7 +114,7 @@ pub use Rattle.cq_reasm.specs.{Open.Open}
 pub use Rattle.cq_state.specs.declared.state.Named.{Named}
 pub use Rattle.cq_prefs.specs.Orders.{Orders}
 pub use Rattle.cq_prefs.proofs.{InputOrder.OutputsInRange, InputOrder.are_offers, Places.outputs_at_most}
-pub use Rattle.cq_laws.specs.{Frozen.fabric_in, Frozen.marked_in, Frozen.IsSoundFabric, LimitedQuiet.quiet_limited_slots, Phases.Transfers, Phases.came_to, Phases.list_arrived}
+pub use Rattle.cq_laws.specs.{Frozen.fabric_in, Frozen.IsSoundFabric, LimitedQuiet.quiet_limited_slots, Phases.Transfers, Phases.came_to, Phases.list_arrived}
 pub use Rattle.cq_laws.proofs.{ActingAlike.best_act_alike_from_empty, ActingAlike.best_act_alike, AddingUp.figures_fold, Came.came_from, EndsTogether.slots_of_figures, Held.hold_as_many, Held.nothing_for, Parted.all_go_on, Parted.departures_one, Parted.transfers_one, Sound.first_at, Parted.run_length, Parted.run_of_whole}
 pub use Rattle.cq_resume.specs.Parts.{IsParted}
 pub use Rattle.cq_engine.proofs.{Kept.limited_lists_kept, Kept.limited_outputs_kept}
