@@ -1,6 +1,6 @@
 -- The open packets lie in a slab under keys, no key stands at two places, and each packet of the slab stands at one.
 -- So what happens under one key changes what is seen at its own place, and at no other.
-use Rattle.cq_reasm.proofs.Terms.{common_steps, rules, ◌≡◌, ◌≢◌, ℕ, zero, suc, ◌<◌, List, length, map, get_or, set, Option, None, Some, refl, sym, ap, ◌∙◌, ⊎_elim, ◌⊎◌, arith, replicate, option_map, same_Some, cases_eq, get_or-set_same, get_or-set_other, set-get_or, length-map, Open, grown, with_piece, get_or_read, ext_get_or, length-set}
+use Rattle.cq_reasm.proofs.Terms.{common_steps, rules, ◌≡◌, ◌≢◌, ℕ, zero, suc, ◌<◌, List, length, map, get_or, set, Option, None, Some, refl, sym, ap, ◌∙◌, ⊎_elim, ◌⊎◌, arith, replicate, option_map, same_Some, cases_eq, get_or-set_same, get_or-set_other, set-get_or, length-map, Open, grown, with_piece, get_or_read, ext_get_or, length-set, on_ok_weaker}
 use Rattle.std.proofs.Math.ListN.{get_or-map}
 use Rattle.std.proofs.lemmas.List.{get_or-map as read_map}
 use Rattle.slab.specs.Slab.{Slab, get}
@@ -105,3 +105,6 @@ module _ (old new : Slab OpenPacket) (keys : List (Option ℕ)) (seen : List (Op
     started_seen =
         let there = seen_at_one (packet_under old) (packet_under new) keys place (Some key) None (Some now) stored in
         search (rules, there, seen_alike, others, view)
+
+-- what a cell that is put in follows from
+pub ruleset add_steps = (on_ok_weaker, grown_seen, started_table)

@@ -60,6 +60,7 @@ impl OpenPackets {
     /// Puts the piece of the cell with this index behind those of the packet that is open at the place, or opens
     /// with it the packet with this number, with memory for so many bytes. The error is want of memory, and then all
     /// is as before.
+    #[tactic(auto, using(crate::proofs::Tables::add_steps))]
     pub fn add(
         &mut self,
         place: usize,
@@ -85,6 +86,7 @@ impl OpenPackets {
     }
 
     /// Closes the packet that is open at the place, and gives its bytes.
+    #[tactic(auto, using(crate::proofs::Tables::closed_table))]
     pub fn close(&mut self, place: usize) -> Option<Vec<u8>>
         requires { place < length self.old }
         ensures bytes { option_map (λ v. v.items) result ≡ option_map (λ o. o.body)
@@ -98,6 +100,7 @@ impl OpenPackets {
 }
 
 // One more piece of the packet under the key.
+#[tactic(auto, using(std::proofs::lemmas::Grind::common_steps))]
 fn grow(
     packets: &mut Slab<OpenPacket>,
     key: usize,
@@ -143,6 +146,7 @@ fn start(
 }
 
 // Takes the packet under the key out of the slab, and gives its bytes.
+#[tactic(auto, using(std::proofs::lemmas::Grind::common_steps))]
 fn finish(packets: &mut Slab<OpenPacket>, key: usize) -> Option<Vec<u8>>
     ensures bytes { option_map (λ v. v.items) result ≡ option_map (λ o. o.body) (packet_under packets.old (Some key)) }
     ensures gone { get packets.new key ≡ None }
