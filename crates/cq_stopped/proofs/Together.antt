@@ -90,9 +90,8 @@ module _ (w : Switch) (ranks : List (List ℕ)) (configured : IsConfigured w ran
 
   states_right : AllByRecursion AreRankNumbers at.frozen.ranks
   states_right =
-      all_give AreLow (λ s. length s ≤ 32) AreRankNumbers (λ s low few. (few, low)) _ (search (rules, known))
-      (recursion_from_All _ _ (λ k d inside.
-      rw (get_or_default at.frozen.ranks k d [] inside) (search (arith, rules, state_sized, known))))
+      all_give AreLow (λ s. length s ≤ 32) AreRankNumbers (λ s low few. (few, low)) _ known.low
+      (recursion_from_All _ _ (search (arith, rules, get_or_default, state_sized, known)))
 
   queued_right : (names : List Named) → ((c : Named) → Has names c → Has (queued_in st) c) →
       AllByRecursion (IsNamed ports) names
