@@ -5,7 +5,7 @@
 -- more than came. The ranks of what comes and of what leaves fit, so the numbers of the rank states do. A slot that
 -- proposes sends a cell, which pays for what it proposes (`slot_proposed` of `cq_simulate`). So a run proposes no more
 -- than the cells that came pay for.
-use Rattle.cq_stopped.proofs.Terms.{rules, ◌≡◌, ℕ, zero, suc, ◌+◌, ◌<◌, ◌≤◌, List, [], ◌∷◌, ◌++◌, length, Option, Some, None, Ok, ◌∙◌, ◌⊎◌, ⊎_elim, arith, length-append, cases_lt, common_steps, append_assoc, get_or-append-add, get_or-map, get_or_append_left, get_or_past, length-map, ◌↔◌, append-nil, get_or-replicate, length-replicate, AllByRecursion, slice_get, slice_index_or, arrival_at, arriving, arriving_at, Cell, Departure, Queued, admitted_arrives, Came, came_from, present, Served, listed, served, HasWaited, Marked, admission, arriving_from, departures_of, empty_ideal, IdealState, departures_from, departures_in, filled, ideal_slot, put_all, AreForPorts, ranking, CameFor, Keyed, limited_empty_agree, keyed, ports_kept, same_slot, SendsAlike, Fabric, input, empty_fabric, FabricSlot, LimitedFabricSlot, LimitedRecord, slots_in, came_to, gone_in, list_of, IsInputBest, IsStable, all_both, all_weaker, found_at, has_there, Has, all_from_has, all_of_has, has_cases, has_left, has_right, Runs, Switch, fewer, length-filled, rest_of, among_put_all, list_after, put_all_keeps, put_all_new, stable_slot, admission_for_ports, arrivals_for, place_of, came_or_was, was_waiting, marks_kept, IsBefore, EachPair, pairs_cross, pairs_joined, IsFabric, IsCount, get_or-map-range_with_len, length-map-range_with_len, ◌*◌, ◌-◌, fold, max, length-insert, sum_by-append, sum_by-cons, flat_map, sum, buffer, SlotRecord, fabric_held, proposals_in, waiting-empty, all_wait, All-set, All-from_recursion, recursion_from_All, ◌^◌, true, refl, cases_eq, ltb-true, eq-eqb, le-ltb, lt-ltb, get_or-set_other, get_or-set_same, length-set, same_Some, slice_set, only_ok, all_told, Ranking, KeepLaws, Machine, machine_at, after_input_ok, Key, given_floor, all_made, inl, inr, IsRising, never_both, not_before_itself, pair_of_has, pairs_left, pairs_right, rising_put_all}
+use Rattle.cq_stopped.proofs.Terms.{rules, ◌≡◌, ℕ, zero, suc, ◌+◌, ◌<◌, ◌≤◌, List, [], ◌∷◌, ◌++◌, length, Option, Some, None, Ok, ◌∙◌, ◌⊎◌, ⊎_elim, arith, length-append, cases_lt, common_steps, append_assoc, get_or-append-add, get_or-map, get_or_append_left, get_or_past, length-map, ◌↔◌, append-nil, get_or-replicate, length-replicate, AllByRecursion, slice_get, slice_index_or, arrival_at, arriving, arriving_at, Cell, Departure, Queued, admitted_arrives, Came, came_from, present, Served, listed, served, HasWaited, Marked, admission, arriving_from, departures_of, empty_ideal, IdealState, departures_from, departures_in, filled, ideal_slot, put_all, AreForPorts, ranking, CameFor, Keyed, limited_empty_agree, keyed, ports_kept, same_slot, SendsAlike, Fabric, input, empty_fabric, FabricSlot, LimitedFabricSlot, LimitedRecord, slots_in, came_to, gone_in, list_of, IsInputBest, IsStable, all_both, all_weaker, found_at, has_there, Has, all_from_has, all_of_has, has_cases, has_left, has_right, Runs, Switch, fewer, length-filled, rest_of, among_put_all, list_after, put_all_keeps, put_all_new, stable_slot, admission_for_ports, arrivals_for, place_of, came_or_was, was_waiting, marks_kept, IsBefore, EachPair, pairs_cross, pairs_joined, IsFabric, IsCount, get_or-map-range_with_len, length-map-range_with_len, ◌*◌, ◌-◌, fold, max, length-insert, sum_by-append, sum_by-cons, flat_map, sum, buffer, SlotRecord, fabric_held, proposals_in, waiting-empty, all_wait, All-set, All-from_recursion, recursion_from_All, ◌^◌, true, refl, cases_eq, ltb-true, eq-eqb, le-ltb, lt-ltb, get_or-set_other, get_or-set_same, length-set, same_Some, slice_set, only_ok, all_told, Ranking, KeepLaws, Machine, machine_at, after_input_ok, Key, given_floor, all_made, IsRising, never_both, not_before_itself, pair_of_has, pairs_left, pairs_right, rising_put_all}
 use Rattle.cq_ideal.proofs.Waiting.{sent_by}
 use Rattle.std.proofs.lemmas.List.Sums.{get_or-le-sum_by}
 use Rattle.cq_ideal.proofs.FlowRun.{come_count}
@@ -115,13 +115,10 @@ module _ (j slot : ℕ) (came : List (Option Queued)) (left waiting : List Queue
   -- of two in the order of keys the first goes ahead
   goes_ahead : (x q : Queued) → Has waiting x ⊎ CameFor came j x → Has waiting q ⊎ CameFor came j q → IsBefore x q →
       Follows x q
-  goes_ahead x q (inl a) (inl b) ahead =
+  goes_ahead x q one two ahead =
       let both = pairs_both IsBefore Follows waiting rising (pairs_right Follows left waiting pairs) in
-      grind (arith, common_steps, pair_of_has _ waiting x q both a b, never_both, not_before_itself)
-  goes_ahead x q (inl a) (inr new) ahead = old_first x q (has_right left waiting x a) new
-  goes_ahead x q (inr new) (inl b) ahead =
-      grind (arith, common_steps, before q, has_right left waiting q b, come new.0 x, less q x b new, never_both)
-  goes_ahead x q (inr a) (inr b) ahead = grind (arith, common_steps, come a.0, come b.0, not_before_itself)
+      let pair = pair_of_has _ waiting x q both in
+      search (arith, rules, pair, before, has_right left waiting, come, less q x, never_both, not_before_itself)
 
   rises : IsRising (put_all j came waiting)
   rises = rising_put_all j came waiting rising (search (arith, rules, before, has_right left waiting, come))
