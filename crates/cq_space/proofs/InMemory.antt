@@ -5,7 +5,7 @@
 -- Then what calls on files in memory do. The entry of a name answers for the name in each map, since it is the
 -- first. So a new value at that entry is a new value of the name and changes nothing else, and the cut and
 -- the bytes of the open name, which the code takes from its entry, are those that the meaning has.
-use Rattle.cq_space.proofs.Terms.{rules, ◌≡◌, ℕ, ◌+◌, ◌-◌, ◌<◌, ◌≤◌, min, true, false, List, [], ◌++◌, length, get_or, map, take, drop, ap, arith, unwrap_or, string_bytes, common_steps, length-map, get_or-map, get_or_past, with_items_is, length-drop, length-take, take-append-drop, drop_all, drop-drop, Option, None, Some, Vec, is_some, Global, with_items, position, option_map, get, Entry, State, Calls, IsShort, one_more, StaysBefore, MemSpace, told_space, cut_at, moved_at, Closed, Reading, Space, BeginsReading, TakesNext, ReadsOn, Appends, bytes_of, Columns, columns_of, contents_of, by_name, IsEntryOf, name_at, bytes_at, mode_of, IsInPlace, with_bytes, with_read_cut, with_write_cut, SaysTheSame, Bool, cond, ◌∷◌, set, position_or_len, is_eq-slice_cmp, bytes_eq-Decides, nat_cmp, eq_by_cmp_equiv, slice_cmp, nat_list_cmp_total, FinMap, get-empty, get-insert, get-remove, same_map, slice_cmp-IsAntisymmetric, nat_cmp-IsAntisymmetric, same_name, put, passes_at_first, length-set, get_or-set_same, get_or-set_other, length-append, add-zero, map-append, map-set, get_or_append_left, set-get_or, get_or-append_seam, map-set_same, ltb-false, eq-eqb, ne_eqb, prefix_len-le-length, position_or_len_push, position_or_len_is, told_at, position_or_len-map}
+use Rattle.cq_space.proofs.Terms.{rules, ◌≡◌, ℕ, ◌+◌, ◌-◌, ◌<◌, ◌≤◌, min, true, false, List, [], ◌++◌, length, get_or, map, take, drop, arith, unwrap_or, string_bytes, common_steps, length-map, get_or-map, get_or_past, with_items_is, length-drop, length-take, take-append-drop, drop_all, drop-drop, Option, None, Some, Vec, is_some, Global, with_items, position, option_map, get, Entry, State, Calls, IsShort, one_more, StaysBefore, MemSpace, told_space, cut_at, moved_at, Closed, Reading, Space, BeginsReading, TakesNext, ReadsOn, Appends, Columns, columns_of, contents_of, by_name, IsEntryOf, name_at, bytes_at, mode_of, IsInPlace, with_bytes, with_read_cut, with_write_cut, SaysTheSame, Bool, ◌∷◌, set, position_or_len, is_eq-slice_cmp, bytes_eq-Decides, nat_cmp, eq_by_cmp_equiv, slice_cmp, nat_list_cmp_total, FinMap, get-empty, get-insert, get-remove, same_map, slice_cmp-IsAntisymmetric, nat_cmp-IsAntisymmetric, same_name, put, passes_at_first, length-set, get_or-set_same, get_or-set_other, length-append, add-zero, map-append, map-set, get_or_append_left, set-get_or, get_or-append_seam, map-set_same, ltb-false, eq-eqb, ne_eqb, prefix_len-le-length, position_or_len_push, position_or_len_is, position_or_len-map}
 use Rattle.std.specs.FinMap.{insert}
 use Rattle.cq_space.specs.declared.mem_files.MemFiles.TheInside.{Inside}
 use Rattle.cq_space.specs.MemFiles.{mem_space, IsSound}
@@ -24,15 +24,13 @@ module _ {X : Type 0} where
   pub same_answers : (m n : FinMap (slice_cmp nat_cmp) X) → ((q : List ℕ) → get m q ≡ get n q) → m ≡ n
   same_answers m n alike = same_map nat_list_cmp_total (slice_cmp-IsAntisymmetric nat_cmp-IsAntisymmetric) m n alike
 
-  get-put : (m : FinMap (slice_cmp nat_cmp) X) (name : List ℕ) (value : Option X) (q : List ℕ) →
-      get (put m name value) q ≡ cond (same_name q name) value (get m q)
-  get-put m name value q = search (arith, rules, get-remove nat_list_cmp_total m, get-insert nat_list_cmp_total m)
-
   -- the first entry of a name has its value; a name without an entry has none
   pub get-first : (names : List (List ℕ)) (values : List (Option X)) (name : List ℕ) → length values ≡ length names →
       get (by_name names values) name ≡ get_or values (position_or_len (same_name name) names) None
   get-first [] [] name even = get-empty (slice_cmp nat_cmp) name
-  get-first (n ∷ names) (value ∷ values) name even = grind (arith, common_steps, get-put, get-first names values name)
+  get-first (n ∷ names) (value ∷ values) name even =
+      let out = get-remove {X = X} nat_list_cmp_total in
+      grind (arith, common_steps, out, get-insert {X = X} nat_list_cmp_total, get-first names values name)
   get-first names values name even = absurd (omega arith)
 
   pub by_name-set : (names : List (List ℕ)) (values : List (Option X)) (i : ℕ) (name : List ℕ) (x : X) →
@@ -87,10 +85,6 @@ grown c name =
       write_cuts = c.write_cuts ++ None ∷ [];
     }
 
-columns_of-push : (es : List Entry) (e : Entry) → e.bytes ≡ None → e.read_cut ≡ None → e.write_cut ≡ None →
-    columns_of (es ++ e ∷ []) ≡ grown (columns_of es) (string_bytes e.name)
-columns_of-push es e bytes reads writes = grind (arith, common_steps, map-append, string_bytes)
-
 still_in_place : (c : Columns) (name : List ℕ) → AreEven c → (s : State) → IsInPlace c s → IsInPlace (grown c name) s
 still_in_place c name even s sound =
     search (arith, rules, unwrap_or, get_or_append_left, ne_eqb, length-append, position_or_len_push)
@@ -103,7 +97,7 @@ ruleset lengths = (map-append, length-map, length-append, add-zero)
 pub says_pushed : (es new : List Entry) (e : Entry) → new ≡ es ++ e ∷ [] → e.bytes ≡ None → e.read_cut ≡ None →
     e.write_cut ≡ None → SaysTheSame (columns_of es) (columns_of new)
 says_pushed es new e is bytes reads writes =
-    grind (arith, common_steps, columns_of-push, string_bytes, are_even, by_name-push, still_in_place, seams)
+    grind (arith, common_steps, map-append, string_bytes, are_even, by_name-push, still_in_place, seams)
 
 pub pushed_first : (es new : List Entry) (e : Entry) (name : List ℕ) (at : ℕ) → new ≡ es ++ e ∷ [] →
     string_bytes e.name ≡ name → at ≡ length es →
@@ -118,22 +112,18 @@ pub given_bytes : (es : List Entry) (i : ℕ) (d : Entry) (v : Vec ℕ Global) �
     columns_of (set es i (record (get_or es i d) { bytes = Some v })) ≡ with_bytes (columns_of es) i v.items
 given_bytes es i d v = grind (arith, common_steps, map-set_same, string_bytes, map-set)
 
--- the bytes that an entry has
-pub told_at-is : (es : List Entry) (i : ℕ) (d : Entry) → i < length es →
-    told_at (columns_of es) i ≡ option_map (λ v. v.items) (get_or es i d).bytes
-told_at-is es i d there = get_or-map (λ (e : Entry). option_map (λ v. v.items) e.bytes) es i d None there
-
 pub lengthened : (es : List Entry) (i : ℕ) (d : Entry) (old new : Vec ℕ Global) (piece : List ℕ) → i < length es →
     (get_or es i d).bytes ≡ Some old → new.items ≡ old.items ++ piece
     →
     columns_of (set es i (record (get_or es i d) { bytes = Some new }))
     ≡ with_bytes (columns_of es) i (bytes_at (columns_of es) i ++ piece)
-lengthened es i d old new piece there is grew = grind (arith, common_steps, told_at-is, given_bytes, unwrap_or)
+lengthened es i d old new piece there is grew = grind (arith, common_steps, get_or-map, given_bytes, unwrap_or)
 
 pub unlengthened : (es : List Entry) (i : ℕ) (d : Entry) (old new : Vec ℕ Global) → i < length es →
     (get_or es i d).bytes ≡ Some old → new.items ≡ old.items →
     columns_of (set es i (record (get_or es i d) { bytes = Some new })) ≡ columns_of es
-unlengthened es i d old new there is same = grind (arith, common_steps, told_at-is, given_bytes, set-get_or)
+unlengthened es i d old new there is same =
+    search (arith, rules, map-set_same, string_bytes, map-set, get_or-map, set-get_or)
 
 -- ## Calls
 
@@ -149,28 +139,13 @@ value_first : {X : Type 0} (field : Entry → Option X) (es : List Entry) (i : �
     get (by_name (columns_of es).names (map field es)) name ≡ field e
 value_first field es i name e is at = grind (arith, common_steps, length-map, string_bytes, get-first, get_or-map)
 
-told_first : (es : List Entry) (i : ℕ) (name : List ℕ) (e : Entry) → IsEntryOf (columns_of es).names i name →
-    e ≡ get_or es i e → get (contents_of (columns_of es)) name ≡ option_map (λ v. v.items) e.bytes
-told_first es i name e is at = value_first (λ (f : Entry). option_map (λ v. v.items) f.bytes) es i name e is at
-
 -- the bytes of an entry, none where there is no such name
 abbrev held_in : Entry → List ℕ
 held_in e = unwrap_or (option_map (λ v. v.items) e.bytes) []
 
 held_is : (es : List Entry) (at : ℕ) (e : Entry) → at < length (columns_of es).names → e ≡ get_or es at e →
     bytes_at (columns_of es) at ≡ held_in e
-held_is es at e in_names here = grind (arith, common_steps, length-map, string_bytes, unwrap_or, told_at-is)
-
-bytes_first : (es : List Entry) (at : ℕ) (e : Entry) →
-    IsEntryOf (columns_of es).names at (name_at (columns_of es) at) → e ≡ get_or es at e →
-    bytes_of (contents_of (columns_of es)) (name_at (columns_of es) at) ≡ held_in e
-bytes_first es at e is here = ap (λ (o : Option (List ℕ)). unwrap_or o []) (told_first es at _ e is here)
-
--- of the name that is read, so many bytes were read as its place says
-read_is : (es : List Entry) (at place : ℕ) (e : Entry) → IsInPlace (columns_of es) (state.Reads at place) →
-    e ≡ get_or es at e →
-    moved_at (mode_of (columns_of es) (state.Reads at place)) (contents_of (columns_of es)) ≡ place
-read_is es at place e sound here = grind (arith, common_steps, bytes_first, held_is, length-drop)
+held_is es at e in_names here = grind (arith, common_steps, length-map, string_bytes, unwrap_or, get_or-map)
 
 -- what a call that was counted may move, fewer bytes could be moved by before
 pub short_before : (old new : Calls) (n k : ℕ) → new ≡ one_more old → k ≤ n → IsShort new n → IsShort old k
@@ -186,11 +161,6 @@ takes_next : (name bytes : List ℕ) (most place count : ℕ) → count ≡ min 
 takes_next name bytes most place count counted some =
     search (arith, rules, take-append-drop count (drop place bytes), drop-drop, length-take, length-drop, drop_all)
 
--- the meaning is that of these entries with this one open, which is in place
-record Stands (ins : Inside) (s : State) (m : MemSpace) : Type 0 where
-  pub is : m ≡ mem_space (record ins { state = s })
-  pub sound : IsInPlace (columns_of ins.entries.items) s
-
 -- what the files are, and what they mean
 module _ (ins : Inside) {m : MemSpace} (view : mem_space ins ≡ m) where
   abbrev es : List Entry
@@ -201,7 +171,7 @@ module _ (ins : Inside) {m : MemSpace} (view : mem_space ins ≡ m) where
       Some i ≡ position (has_name name) found → e ≡ get_or es i e →
       get m.contents name ≡ option_map (λ v. v.items) e.bytes
   told_found {found} name {i} e lent answer at =
-      grind (arith, common_steps, told_first es i name e, finds es found name i lent answer)
+      grind (arith, common_steps, value_first, finds es found name i lent answer)
 
   -- an entry without bytes is no name, and what is not found is none
   pub told_nothing : {found : List Entry} (name : List ℕ) {i : ℕ} (e : Entry) → found ≡ es →
@@ -217,7 +187,7 @@ module _ (ins : Inside) {m : MemSpace} (view : mem_space ins ≡ m) where
       Some i ≡ position (has_name name) found → e ≡ get_or es i e → true ≡ is_some e.bytes →
       BeginsReading (Some m.contents) name (mode_of (columns_of es) (state.Reads i 0))
   begins {found} name {i} e lent answer at some =
-      grind (arith, common_steps, finds es found name i lent answer, length-map, string_bytes, told_at-is, told_found)
+      grind (arith, common_steps, finds es found name i lent answer, length-map, string_bytes, told_found)
 
   module _ (sound : IsSound ins) where
     -- a new value at the entry of a name, in entries that were lent and are back in their vector
@@ -243,20 +213,17 @@ module _ (ins : Inside) {m : MemSpace} (view : mem_space ins ≡ m) where
           mem_space after ≡ record m { write_cuts = insert m.write_cuts name most }
       writing_is_cut most changed = grind (arith, common_steps, written_back, are_even, by_name-set)
 
-    stands : (s : State) → ins.state ≡ s → Stands ins s m
-    stands s opened = grind (arith, common_steps)
-
     -- a fact on the cut and the place that the code has is one on the meaning, of the name that is read
     pub of_read : {at place : ℕ} (P : Option ℕ → ℕ → Type 0) (e : Entry) → ins.state ≡ state.Reads at place →
         e ≡ get_or es at e → P e.read_cut place →
         P (cut_at m.mode m.read_cuts m.write_cuts) (moved_at m.mode m.contents)
-    of_read {at} {place} P e opened here holds = grind (arith, common_steps, stands, read_is, value_first)
+    of_read {at} {place} P e opened here holds = grind (arith, common_steps, held_is, length-drop, value_first)
 
     -- and so for the name that is written
     pub of_write : {at : ℕ} (P : Option ℕ → ℕ → Type 0) (e : Entry) {held : List ℕ} → ins.state ≡ state.Writes at →
         e ≡ get_or es at e → held ≡ held_in e → P e.write_cut (length held) →
         P (cut_at m.mode m.read_cuts m.write_cuts) (moved_at m.mode m.contents)
-    of_write {at} P e {held} opened here had holds = grind (arith, common_steps, stands, bytes_first, value_first)
+    of_write {at} P e {held} opened here had holds = grind (arith, common_steps, value_first)
 
     -- a write appends at the entry that is open
     pub appends : {at : ℕ} (new : Vec Entry Global) (count : ℕ) (e : Entry) (bytes : List ℕ) →
@@ -264,7 +231,7 @@ module _ (ins : Inside) {m : MemSpace} (view : mem_space ins ≡ m) where
         → columns_of new.items ≡ with_bytes (columns_of es) at (bytes_at (columns_of es) at ++ take count bytes) →
         Appends (told_space m) (told_space (mem_space (record ins { entries = new }))) bytes count
     appends {at} new count e bytes opened here some within changed =
-        grind (arith, common_steps, stands, held_is, bytes_first, by_name-set, are_even)
+        grind (arith, common_steps, held_is, value_first, by_name-set, are_even)
 
     -- a read takes the next piece
     pub reads_on : {at place : ℕ} (most count : ℕ) (e : Entry) (held piece buf : List ℕ) (after : Space) →
@@ -275,6 +242,8 @@ module _ (ins : Inside) {m : MemSpace} (view : mem_space ins ≡ m) where
         ReadsOn (told_space m) after (piece ++ drop count buf) count
     reads_on {at} {place} most count e held piece buf after opened here had counted copied some moved =
         let next = takes_next (name_at (columns_of es) at) (bytes_at (columns_of es) at) most place count in
-        grind (arith, common_steps, stands, next)
+        grind (arith, common_steps, next)
 
 pub ruleset cut_steps = (map-set, map-set_same, string_bytes)
+
+pub ruleset name_steps = (is_eq-slice_cmp, string_bytes)

@@ -28,6 +28,7 @@ pub(crate) enum State {
     Writes { at: usize },
 }
 
+#[tactic(auto, using(crate::proofs::InMemory::name_steps))]
 fn is_named(entry: &Entry, name: &str) -> bool
     ensures { result ≡ same_name name.now (string_bytes entry.now.name) }
 {
