@@ -27,8 +27,8 @@ pub struct Failed;
 /// An implementation may promise more, by the members `may_fail`, `may_pass`, `may_move`, `gives`, `keeps`,
 /// `unbegun`, `begins`, `counts` and `leaves`. Files that fail only where a test sets them to fail are an example.
 ///
-/// Only `start_write` begins a writing. The calls that read leave all `unbegun`, and those that write need not: so what
-/// leaves any file space unbegun, whichever it is, begins none.
+/// Only `start_write` begins a writing, and it alone need not leave the files `unbegun`. So a call that leaves any file
+/// space unbegun, whichever it is, begins no writing.
 pub trait Files {
     /// The mode, the told contents and the count of faults.
     ghost space: { Self → Space };
@@ -120,6 +120,7 @@ pub trait Files {
         ensures ok { IfOk result (Appends (space self.old) (space self.new) bytes.now) }
         ensures err { OnErr result (Closes (space self.old) (space self.new)) }
         ensures moved { IfOk result (may_move self.old) }
+        ensures unbegun { unbegun self.old self.new }
         ensures answered { HasAnswered space Call.Write may_fail may_pass counts keeps
             self.old self.new result };
 
@@ -128,6 +129,7 @@ pub trait Files {
     fn finish(&mut self) -> Result<(), Failed>
         requires { IsWriting (space self.old).mode }
         ensures closed { Closes (space self.old) (space self.new) }
+        ensures unbegun { unbegun self.old self.new }
         ensures answered { HasAnswered space Call.Finish may_fail may_pass counts keeps
             self.old self.new result };
 
