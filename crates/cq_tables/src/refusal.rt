@@ -48,7 +48,7 @@ impl From<NoMemory> for TableRefusal {
 /// What is wrong with a document.
 #[derive(Clone, Copy)]
 pub enum Wrong {
-    /// The text is no TOML document.
+    /// The text is no TOML document, or has arrays, tables or parts of a dotted key in each other more than 80 deep.
     NotToml = 1,
     /// A key that is required is not there.
     Missing = 2,
