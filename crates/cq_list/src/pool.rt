@@ -85,6 +85,17 @@ fn last_of_some(nodes: &Slab<Node>, _queue: Queue, some: Ahead) -> Node
     nodes[some.last]
 }
 
+// Whether some nodes of a queue are all more urgent, as the last of them shows.
+fn are_sooner(nodes: &Slab<Node>, queue: Queue, some: Ahead, key: Key) -> bool
+    requires chained { IsChained (get nodes.now) queue }
+    requires some { 0 < some.count }
+    requires last { EndsAt (places (linked (get nodes.now) queue)) some.count some.last }
+    ensures { IsTrue result ↔
+        some.count ≤ position_or_len (λ x. not (is_before x.key key)) (cells (linked (get nodes.now) queue)) }
+{
+    last_of_some(nodes, queue, some).queued.key.precedes(key)
+}
+
 // Whether the two keys are one.
 #[tactic(auto, using(crate::proofs::Put::neither_sooner, crate::proofs::Put::same_is_no_sooner))]
 fn is_same(key: Key, other: Key) -> bool
@@ -103,10 +114,7 @@ fn further(nodes: &Slab<Node>, queue: Queue, found: Ahead, finger: Ahead, key: K
     ensures far { finger.count ≤ position_or_len (λ x. not (is_before x.key key)) (cells (linked (get nodes.now) queue))
         → finger.count ≤ result.count }
 {
-    if finger.count <= found.count {
-        return found;
-    }
-    if last_of_some(nodes, queue, finger).queued.key.precedes(key) {
+    if finger.count > found.count && are_sooner(nodes, queue, finger, key) {
         finger
     } else {
         found
@@ -177,8 +185,7 @@ fn is_behind_all(nodes: &Slab<Node>, queue: Queue, key: Key) -> bool
     if queue.len == 0 {
         return true;
     }
-    let last = last_of_some(nodes, queue, all_of(queue));
-    last.queued.key.precedes(key)
+    are_sooner(nodes, queue, all_of(queue), key)
 }
 
 // How many cells of a queue are more urgent, from the nearest finger on, or with no walk where all are.

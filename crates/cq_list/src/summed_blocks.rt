@@ -1,5 +1,5 @@
 //! The blocks of a list behind the first, with the sum of each run of 32 of them.
-ghost use Rattle.std.specs.Prelude.{◌≡◌, ℕ, ◌+◌, ◌<◌, ◌≤◌, ◌^◌, ◌++◌, [], Some, take, drop, IfOk, length, insert, remove, slice_get, slice_set, slice_index_or, ◌*◌, vec_capacity};
+ghost use Rattle.std.specs.Prelude.{◌≡◌, ◌+◌, ◌<◌, ◌≤◌, ◌^◌, ◌++◌, [], Some, take, drop, IfOk, length, insert, remove, slice_get, slice_set, slice_index_or, ◌*◌, vec_capacity};
 ghost use Rattle.std.specs.List.{concat};
 ghost use Rattle.cq_base.specs.Limits.{most_ports};
 ghost use Rattle.cq_list.specs.Block.{half_places, most_places};
