@@ -1,7 +1,7 @@
 -- The places and the pool of a list, before and after its calls. The cells for which they stand are known by the split
 -- alone, so each call has to show no more than the split of the cells that it promises; that these are the cells that
 -- the new places and the new pool stand for follows.
-use Rattle.cq_list.proofs.Terms.{◌+◌, all_insert, all_left, each_pair_left, keys_differ_insert, keeps_order_arrival, common_steps, rules, ◌≡◌, ℕ, ◌<◌, eqb, Bool, cond, List, [], ◌++◌, length, set, take, drop, min, None, Some, sym, ap, ◌∙◌, subst, arith, length-set, get_or-set_same, get_or-set_other, length-map, get_or_past, ◌&&◌, slice_get, remove, insert, position, position_or_len, cond_both, eqb-true, eqb-false, ltb-true, lt-ltb, cases_lt, slice_get-map, slice_get_within, slice_get_cases, find_at, Queued, is_before, HasOtherKey, MoreUrgentAhead, is_for, first_for, without_first, put, place_of_arrival, with_arrival, HaveTold, IsSplit, is_output, place_of_nth, count_of, PlacesView, PoolView, queue_of, Waiting, AreWaiting, StandFor, cells_in, position_or_len-map}
+use Rattle.cq_list.proofs.Terms.{◌+◌, all_insert, all_left, each_pair_left, keys_differ_insert, keeps_order_arrival, common_steps, rules, ◌≡◌, ℕ, ◌<◌, eqb, Bool, cond, List, length, set, take, drop, min, None, Some, sym, ap, ◌∙◌, subst, arith, length-set, get_or-set_same, get_or-set_other, length-map, get_or_past, ◌&&◌, slice_get, remove, insert, position, position_or_len, cond_both, eqb-true, eqb-false, ltb-true, lt-ltb, cases_lt, slice_get-map, slice_get_within, slice_get_cases, find_at, Queued, is_before, HasOtherKey, MoreUrgentAhead, is_for, first_for, without_first, put, place_of_arrival, with_arrival, IsSplit, is_output, place_of_nth, count_of, PlacesView, PoolView, queue_of, Waiting, AreWaiting, StandFor, cells_in, position_or_len-map}
 use Rattle.cq_list.proofs.Split.{merged_queues, split_arrived, split_left, both_is_nth, first-is-head, length-filter-map, cell_at}
 use Rattle.cq_list.proofs.Nth.{nth_is_first}
 
@@ -99,12 +99,6 @@ module _ {outputs : ℕ} {places : PlacesView} {pool : PoolView} {w : Waiting}
       position (is_for j) w.cells ≡ Some (position_or_len (is_output j) places.outputs)
   position-some j x head =
       search (arith, rules, as_many, lt-ltb, find_at, first_is, slice_get_within, position_or_len-map)
-
-  -- ## All cells, told block by block
-
-  pub none_told : {first told : List ℕ} (behind : List ℕ) {heads : List (List Queued)} → told ≡ first →
-      first ++ behind ≡ places.outputs → heads ≡ pool.queues → HaveTold (told ++ behind) (queue_of heads) [] w.cells
-  none_told behind reads parts heads_are = search (arith, rules, counted)
 
   -- ## The cell at a place
 

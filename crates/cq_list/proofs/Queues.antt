@@ -1,8 +1,7 @@
 -- A pool in which one queue changes: each queue is linked as before, and the cells of the others are the same.
-use Rattle.cq_list.proofs.Terms.{common_steps, rules, ◌≡◌, ◌≢◌, ℕ, zero, suc, ◌+◌, ◌<◌, ◌≤◌, List, [], ◌∷◌, replicate, length, get_or, set, drop, Some, refl, ap, arith, length-set, get_or-set_same, get_or-set_other, Bool, position_or_len, cases_lt, cases_eq, length-map, get_or-map, get_or_past, get_or_read, ext_get_or, length-replicate, sum_by-replicate, sum_by-set, slice_get, Slab, get, slab_len, Node, Queued, Queue, PoolView, Nodes, linked, places, cells, IsLinked, OthersStay, AreLinked, IsPool, Ahead, AreFingers, HaveFingers, behind_first, no_queue, queue_at, cells_in_queues, queue_of}
+use Rattle.cq_list.proofs.Terms.{common_steps, rules, ◌≡◌, ◌≢◌, ℕ, zero, suc, ◌+◌, ◌<◌, ◌≤◌, List, [], ◌∷◌, replicate, length, get_or, set, drop, None, refl, set-get_or, slice_get_cases, ap, arith, length-set, get_or-set_same, get_or-set_other, Bool, position_or_len, cases_lt, cases_eq, length-map, get_or-map, get_or_past, get_or_read, ext_get_or, length-replicate, sum_by-replicate, sum_by-set, slice_get, Slab, get, slab_len, Node, Queued, Queue, PoolView, Nodes, linked, places, cells, IsLinked, OthersStay, AreLinked, IsPool, Ahead, AreFingers, HaveFingers, behind_first, IsHead, no_queue, queue_at, cells_in_queues, queue_of}
 use Rattle.cq_list.proofs.Linked.{is_linked_along, cells_behind, linked_behind}
 use Rattle.cq_list.proofs.Chain.{chain_stays}
-use Rattle.cq_list.proofs.Walk.{node_there, cell_shown, reached_first}
 
 -- what is seen of a queue, also beyond the last
 pub queue_seen : (nodes : Nodes) (queues : List Queue) (j : ℕ) →
@@ -115,33 +114,28 @@ module _ {old : Slab Node} (new : Slab Node) {j room : ℕ} {queues : List Queue
 
 -- ## Its head told
 
-module _ (nodes : Nodes) (queues : List Queue) {seen : List (List Queued)} (j : ℕ) {queue : Queue}
-    (had : AreLinked nodes queues) (is : cells_in_queues nodes queues ≡ seen) (some : 0 < length (queue_of seen j))
-    (read : queue ≡ get_or queues j queue) where
-  head_read : IsRead nodes queues seen j queue
-  head_read = search (rules, is_read, inside_seen, inside_some)
+-- where it has none
+pub none_told : (seen : List (List Queued)) (j : ℕ) → None ≡ slice_get (queue_of seen j) 0 →
+    seen ≡ set seen j (drop 1 (queue_of seen j))
+none_told seen j none = grind (arith, common_steps, set-get_or, slice_get_cases)
 
-  pub has_head : 0 < queue.len
-  has_head = let many = as_many head_read in omega arith
+module _ {nodes : Nodes} {queues : List Queue} {j : ℕ} {queue rest : Queue} {node : Node}
+    (had : AreLinked nodes queues) (head : IsHead nodes queues j queue node)
+    (less : rest ≡ behind_first queue node.next) where
+  own : IsLinked nodes j queue
+  own = rw (← head.read) (had j)
 
-  pub head_at : (node : Node) × (nodes queue.first ≡ Some node)
-  head_at = node_there head_read.is_linked.chained (reached_first nodes queue) has_head
+  pub are_linked_behind : AreLinked nodes (set queues j rest)
+  are_linked_behind = rw less (are_linked_changed nodes nodes j queues (behind_first queue node.next) had head.inside
+      (λ i m there ne. there) (linked_behind own head.some head.here))
 
-  module _ {node : Node} {rest : Queue} (here : nodes queue.first ≡ Some node)
-      (less : rest ≡ behind_first queue node.next) where
-    pub head_is : slice_get (queue_of seen j) 0 ≡ Some node.queued
-    head_is = search (rules, head_read, cell_shown, reached_first, has_head)
-
-    pub are_linked_behind : AreLinked nodes (set queues j rest)
-    are_linked_behind = rw less (are_linked_changed nodes nodes j queues (behind_first queue node.next) had
-        head_read.inside (λ i m there ne. there) (linked_behind head_read.is_linked has_head here))
-
-    pub cells_told : cells_in_queues nodes (set queues j rest) ≡ set seen j (drop 1 (queue_of seen j))
-    cells_told =
-        grind (arith, common_steps, cells_changed nodes nodes j queues, cells_behind, head_read, has_head)
+  pub cells_told : {seen : List (List Queued)} → cells_in_queues nodes queues ≡ seen →
+      cells_in_queues nodes (set queues j rest) ≡ set seen j (drop 1 (queue_of seen j))
+  cells_told is =
+      grind (arith, common_steps, cells_changed nodes nodes j queues, queue_seen, cells_behind own head.some head.here)
 
 -- a queue that was read
 pub ruleset read_steps = (read_of, fingers_read, first_seen, as_many, inside_some)
 
 -- a head that is told
-pub ruleset head_steps = (has_head, head_at, cells_told)
+pub ruleset head_steps = (none_told, are_linked_behind, cells_told)

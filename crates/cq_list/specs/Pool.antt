@@ -1,5 +1,5 @@
 -- A pool of cells that are linked into a queue for each output, and what clauses see of it.
-use Rattle.std.specs.Prelude.{◌≡◌, ◌≢◌, ℕ, zero, suc, ◌+◌, ◌-◌, ◌≤◌, Bool, List, [], ◌∷◌, length, map, Option, None, Some, slice_index_or}
+use Rattle.std.specs.Prelude.{◌≡◌, ◌≢◌, ℕ, zero, suc, ◌+◌, ◌-◌, ◌<◌, ◌≤◌, Bool, List, [], ◌∷◌, length, map, Option, None, Some, slice_index_or}
 use Rattle.std.specs.List.{AllByRecursion, position_or_len, sum_by}
 use Rattle.slab.specs.Slab.{Slab, get, slab_len}
 use Rattle.cq_base.specs.declared.cell.Queued.{Queued}
@@ -73,6 +73,13 @@ queue_at queues j = slice_index_or queues j no_queue
 -- each queue is linked
 abbrev pub AreLinked : Nodes → List Queue → Type 0
 AreLinked nodes queues = (j : ℕ) → IsLinked nodes j (queue_at queues j)
+
+-- the queue of output j, which has a cell, and its first node
+pub record IsHead (nodes : Nodes) (queues : List Queue) (j : ℕ) (queue : Queue) (node : Node) : Type 0 where
+  pub inside : j < length queues
+  pub read : queue_at queues j ≡ queue
+  pub some : 0 < queue.len
+  pub here : nodes queue.first ≡ Some node
 
 -- each queue has its fingers
 abbrev pub HaveFingers : Nodes → List Queue → List (List Ahead) → Type 0

@@ -1,5 +1,5 @@
 -- A list of cells, split into the sequence of its outputs and a queue of cells for each output.
-use Rattle.std.specs.Prelude.{◌≡◌, ℕ, ◌+◌, ◌-◌, ◌≤◌, ◌&&◌, ◌==◌, Bool, if◌then◌else◌, List, [], ◌∷◌, ◌++◌, length, map, filter, take, drop}
+use Rattle.std.specs.Prelude.{◌≡◌, ℕ, ◌+◌, ◌-◌, ◌&&◌, ◌==◌, Bool, if◌then◌else◌, List, [], ◌∷◌, ◌++◌, length, map, filter, take, drop}
 use Rattle.cq_base.specs.declared.cell.Queued.{Queued}
 use Rattle.cq_base.specs.Cells.{is_for}
 
@@ -34,12 +34,3 @@ is_output j i = i == j
 -- how many of some places are output j's
 abbrev pub count_of : ℕ → List ℕ → ℕ
 count_of j places = length (filter (is_output j) places)
-
--- the queues have a cell for each of some places
-abbrev pub CanTell : List ℕ → Queues → Type 0
-CanTell places queues = (j : ℕ) → count_of j places ≤ length (queues j)
-
--- what is told, and what the heads of the queues tell at the places that are left, are these cells
-pub record HaveTold (left : List ℕ) (queues : Queues) (told cells : List Queued) : Type 0 where
-  pub all : told ++ merged left queues ≡ cells
-  pub can : CanTell left queues

@@ -5,7 +5,7 @@ ghost use Rattle.cq_base.specs.declared.cell.Queued.{Queued};
 ghost use Rattle.cq_base.specs.Key.{is_before};
 ghost use Rattle.cq_base.specs.Cells.{HasOtherKey, MoreUrgentAhead, is_for, has_id, first_for, without_first, with_arrival};
 ghost use Rattle.cq_base.specs.Limits.{most_ports};
-ghost use Rattle.cq_list.specs.Split.{CanTell, HaveTold, is_output, place_of_nth, count_of};
+ghost use Rattle.cq_list.specs.Split.{is_output, merged, place_of_nth, count_of};
 ghost use Rattle.cq_list.specs.Pool.{queue_of};
 ghost use Rattle.cq_list.specs.InputList.{AreWaiting};
 
@@ -49,17 +49,16 @@ fn place_behind(places: &Places, output: Port, ahead: usize, all: usize) -> usiz
     places.place_of(output, ahead, all)
 }
 
-// Tells the cells at these places, behind those that are told. The places that are left go on telling the same cells.
-// The error is want of memory.
-#[tactic(auto, using(crate::proofs::Told::tell_steps))]
+// Tells the cells at these places, behind those that are told. What is told, and what is told yet at any places that
+// are left, stay the same cells. The error is want of memory.
 fn tell<'a>(cells: &mut Vec<Queued>, heads: &mut Heads<'a>, places: &[Port]) -> Result<(), NoMemory>
-    requires { CanTell places.now (queue_of heads.old) }
-    ensures { OnOk result ((left : List ℕ) (all : List Queued) →
-        HaveTold (places.now ++ left) (queue_of heads.old) cells.old.items all →
-        HaveTold left (queue_of heads.new) cells.new.items all) }
+    ensures { OnOk result ((left : List ℕ) → cells.new.items ++ merged left (queue_of heads.new)
+        ≡ cells.old.items ++ merged (places.now ++ left) (queue_of heads.old)) }
 {
     'places: for output in places {
-        cells.push(heads.next(*output))?;
+        if let Some(queued) = heads.next(*output) {
+            cells.push(queued)?;
+        }
     }
     Ok(())
 }

@@ -1,10 +1,10 @@
 //! The cells that wait, in a queue for each output.
-ghost use Rattle.std.specs.Prelude.{◌≡◌, ◌↔◌, ◌-◌, ◌+◌, ◌<◌, ◌≤◌, ℕ, ◌==◌, ◌^◌, [], ◌∷◌, Some, IfOk, IsTrue, length, replicate, drop, insert, slice_get, slice_set, not, if◌then◌else◌};
+ghost use Rattle.std.specs.Prelude.{◌≡◌, ◌↔◌, ◌-◌, ◌+◌, ◌<◌, ◌≤◌, ℕ, ◌==◌, ◌^◌, [], ◌∷◌, Some, IfOk, IfSome, IsTrue, option_map, length, replicate, drop, insert, slice_get, slice_set, not, if◌then◌else◌};
 ghost use Rattle.std.specs.List.{position_or_len};
 ghost use Rattle.cq_base.specs.Key.{is_before};
 ghost use Rattle.cq_base.specs.Cells.{HasOtherKey, has_id, put};
 ghost use Rattle.cq_list.specs.Fingers.{AreFingers, EndsAt, finger_at};
-ghost use Rattle.cq_list.specs.Pool.{queue_of, behind_first, chain, linked, places, cells, HasOneMore, IsChained, IsLinked, LeadsTo, LeadsTowards};
+ghost use Rattle.cq_list.specs.Pool.{queue_of, behind_first, chain, linked, places, cells, cells_in_queues, AreLinked, HasOneMore, IsChained, IsHead, IsLinked, LeadsTo, LeadsTowards};
 ghost use Rattle.slab.specs.Slab.{get, HasRoomFor};
 
 use crate::fingers::{Ahead, Fingers};
@@ -346,6 +346,20 @@ fn no_fingers(alloc: Global, queues: u16) -> Result<Vec<Fingers>, NoMemory>
     Ok(fingers)
 }
 
+// The queue of an output and its first node, if it has one.
+fn head_of(nodes: &Slab<Node>, queues: &[Queue], output: Port) -> Option<(Queue, Node)>
+    requires { AreLinked (get nodes.now) queues.now }
+    ensures head { IfSome result (λ head. IsHead (get nodes.now) queues.now output head.0 head.1) }
+    ensures first { option_map (λ head. head.1.queued) result
+        ≡ slice_get (queue_of (cells_in_queues (get nodes.now) queues.now) output) 0 }
+{
+    let queue = *queues.get(output as usize)?;
+    if queue.len == 0 {
+        return None;
+    }
+    Some((queue, nodes[queue.first]))
+}
+
 impl Pool {
     /// No cell waits for any of so many outputs, and there is room for so many cells. The error is want of memory.
     #[tactic(auto, using(crate::proofs::Queues::no_cells, crate::proofs::Queues::empty_pool))]
@@ -395,11 +409,8 @@ impl Pool {
     pub fn first(&self, output: Port) -> Option<Queued>
         ensures { result ≡ slice_get (queue_of self.now.queues output) 0 }
     {
-        let queue = *self.queues.get(output as usize)?;
-        if queue.len == 0 {
-            return None;
-        }
-        Some(self.nodes[queue.first].queued)
+        let (_, head) = head_of(&self.nodes, self.queues.as_slice(), output)?;
+        Some(head.queued)
     }
 
     /// How many cells are in a queue.
@@ -484,16 +495,14 @@ impl<'a> Model for Heads<'a> {
 }
 
 impl<'a> Heads<'a> {
-    /// The head of a queue, whose next cell is then its head.
+    /// The head of a queue, if it has one, whose next cell is then its head.
     #[tactic(auto, using(crate::proofs::Queues::head_steps))]
-    pub fn next(&mut self, output: Port) -> Queued
-        requires { 0 < length (queue_of self.old output) }
-        ensures head { slice_get (queue_of self.old output) 0 ≡ Some result }
+    pub fn next(&mut self, output: Port) -> Option<Queued>
+        ensures head { result ≡ slice_get (queue_of self.old output) 0 }
         ensures queues { self.new ≡ slice_set self.old output (drop 1 (queue_of self.old output)) }
     {
-        let queue = self.queues[output as usize];
-        let head = self.nodes[queue.first];
+        let (queue, head) = head_of(self.nodes, self.queues.as_slice(), output)?;
         self.queues[output as usize] = behind_first(queue, head.next);
-        head.queued
+        Some(head.queued)
     }
 }

@@ -1,10 +1,7 @@
-use Rattle.cq_list.proofs.Terms.{ℕ, List, ◌++◌, drop, Queued, CanTell, HaveTold, queue_of}
+use Rattle.cq_list.proofs.Terms.{◌≡◌, ℕ, List, ◌++◌, drop, merged, queue_of}
 use Rattle.cq_list.proofs.input_list.tell.Given as goal
 
--- the places from this one on can be told, and go on telling the same cells
+-- what is told, and what is told yet at the places from this one on and at any behind them, stay the same cells
 abbrev pub invariant-places : goal.invariant-places
-invariant-places l = record {
-  can : CanTell (drop l.output-index l.places) (queue_of l.heads);
-  on : (left : List ℕ) (all : List Queued) → HaveTold (l.places ++ left) (queue_of l.fn.heads) l.fn.cells.items all →
-      HaveTold (drop l.output-index l.places ++ left) (queue_of l.heads) l.cells.items all;
-}
+invariant-places l = (left : List ℕ) → l.cells.items ++ merged (drop l.output-index l.places ++ left) (queue_of l.heads)
+    ≡ l.fn.cells.items ++ merged (l.places ++ left) (queue_of l.fn.heads)

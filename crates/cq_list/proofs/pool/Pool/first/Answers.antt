@@ -1,20 +1,4 @@
-use Rattle.cq_list.proofs.Terms.{rules, ◌<◌, arith, get}
-use Rattle.cq_list.proofs.Queues.{IsRead, is_read}
-use Rattle.cq_list.proofs.Walk.{node_there, cell_shown, reached_first}
 use Rattle.cq_list.proofs.pool.Pool.first.Goals as goal
-use Rattle.cq_list.proofs.pool.Pool.first.Goals.{Else-queue-eq0}
 
--- what is known of the queue, where it has a cell
-record Read (c : Else-queue-eq0) : Type 0 where
-  read : IsRead (get c.self.inside.nodes) c.self.inside.queues.items c.args.self.now.queues c.args.output
-      c.in_ok-queue.field-0.now
-  some : 0 < c.in_ok-queue.field-0.now.len
-
-read_queue : (c : Else-queue-eq0) → Read c
-read_queue c = search (arith, rules, is_read)
-
-pub index-requires : goal.index-requires
-index-requires c = search (arith, rules, read_queue, node_there, reached_first)
-
-pub returns : goal.returns
-returns c = search (arith, rules, read_queue, cell_shown, reached_first)
+pub head_of-requires : goal.head_of-requires
+head_of-requires c = rw c.as_slice.ensures.value c.self.invariant.linked
