@@ -5,9 +5,10 @@ use Rattle.cq_urgency.proofs.Terms.{common_steps, rules, ◌≡◌, ℕ, ◌+◌
 pub length_piece : {X : Type 0} (xs : List X) (h n : ℕ) → h + n ≤ length xs → length (take n (drop h xs)) ≡ n
 length_piece xs h n inside = let few = length-take n (drop h xs) in let left = length-drop h xs in omega arith
 
--- a piece without its first item
-pub popped : {X : Type 0} (xs : List X) (h n m : ℕ) → n ≡ 1 + m → take m (drop (h + 1) xs) ≡ drop 1 (take n (drop h xs))
-popped xs h n m one = cc (drop-drop 1 h xs, drop-take 1 m (drop h xs))
+-- a piece without its first items
+pub behind : {X : Type 0} (xs : List X) (h k n m : ℕ) → n ≡ k + m →
+    take m (drop (h + k) xs) ≡ drop k (take n (drop h xs))
+behind xs h k n m sum = cc (drop-drop k h xs, drop-take k m (drop h xs))
 
 -- ## Items turned by one place, and the first of them written
 

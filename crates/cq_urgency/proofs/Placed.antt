@@ -2,7 +2,7 @@
 -- changed in the pool changes at its one place in the order and nowhere else; a block that comes in under a number that
 -- was free or is new stands nowhere in the order, so that the blocks there stay; and so do the others where the first
 -- one becomes free.
-use Rattle.cq_urgency.proofs.Terms.{common_steps, rules, ◌≡◌, ◌≢◌, ℕ, zero, suc, ◌+◌, ◌<◌, ◌≤◌, List, [], ◌∷◌, ◌++◌, length, get_or, set, take, drop, refl, sym, ap, ◌∙◌, arith, Some, length-set, length-take, length-drop, get_or-set_same, get_or-set_other, get_or-drop, drop-map, ◌==◌, insert, slice_get, sum_by, cases_Bool, cases_eq, cases_lt, ltb-true, lt-ltb, eq-eqb, ne_eqb, cond-false, take_more, drop_more, set-set, length_push, length-map, map-set, take-map, get_or-map, get_or_past, get_or_read, length-insert, insert_end, sum_by-cons, sum_by_push, sum_by-insert, get_or-le-sum_by, slice_get_within, get_or_from_slice_get, Queued, BlocksView, block_at, cells_in_all, counts_behind, get_or-insert_below, halved, without_first, in_order, bit, times, has, parted, ArePlaced, ComesIn, map-insert, most_cells, set-get_or}
+use Rattle.cq_urgency.proofs.Terms.{common_steps, rules, ◌≡◌, ◌≢◌, ℕ, zero, suc, ◌+◌, ◌<◌, ◌≤◌, List, [], ◌∷◌, ◌++◌, length, get_or, set, take, drop, refl, sym, ap, ◌∙◌, arith, Some, length-set, length-take, length-drop, get_or-set_same, get_or-set_other, get_or-drop, drop-map, ◌==◌, insert, slice_get, sum_by, cases_Bool, cases_eq, cases_lt, ltb-true, lt-ltb, eq-eqb, ne_eqb, cond-false, take_more, drop_more, set-set, length_push, length-map, map-set, take-map, get_or-map, get_or_past, get_or_read, length-insert, insert_end, sum_by-cons, sum_by_push, sum_by-insert, get_or-le-sum_by, slice_get_within, get_or_from_slice_get, Queued, BlocksView, block_at, cells_in_all, counts_behind, get_or-insert_below, halved, without_first, in_order, bit, times, has, ArePlaced, ComesIn, map-insert, most_cells, set-get_or}
 use Rattle.std.proofs.lemmas.List.Sums.{sum-map}
 use Rattle.std.proofs.lemmas.List.{drop-set-add, drop-set-lt}
 
@@ -85,6 +85,12 @@ comes_free pool free free' block block' number within whole e =
     let inside = free_there pool free free' number within whole in
     grind (arith, common_steps, get_or-set_same, get_or-set_other, sum_by_push, length-set, length_push)
 
+-- another block in its place
+pub comes_set : (pool pool' : List (List Queued)) (free free' : List ℕ) (block other : List Queued) (number : ℕ) →
+    ComesIn pool free pool' free' block number → ComesIn pool free (set pool' number other) free' other number
+comes_set pool pool' free free' block other number q =
+    grind (arith, common_steps, get_or-set_same, get_or-set_other, length-set, q.others, q.once)
+
 -- ## Fields that stand for blocks
 
 -- the fields are in order, and stand for these blocks
@@ -113,9 +119,6 @@ module _ {pool : List (List Queued)} {first : ℕ} {order counts free : List ℕ
 
     pub in_pool : number < length pool
     in_pool = grind (arith, common_steps, in_order_there, times_read, has_inside)
-
-    pub not_freed : times number free ≡ 0
-    not_freed = search (arith, rules, in_order_there, cases_Bool, times_read)
 
     pub block_same : block_at pool number ≡ block_at blocks i
     block_same = grind (arith, common_steps, get_or-map, in_order_there)
@@ -180,57 +183,6 @@ count_halved_behind (b ∷ bs) counts (suc n) behind is full e =
     search (arith, rules, length-take 32 (block_at bs n), length-drop 32 (block_at bs n), map-insert, map-set)
 count_halved_behind blocks counts i behind is full e = absurd (omega arith)
 
--- ## The upper half of a block goes over to one that came in
-
-module _ (pool pool' : List (List Queued)) (free free' : List ℕ) (block : List Queued) (number other : ℕ)
-    (inside : number < length pool) (used : times number free ≡ 0)
-    (within : (n : ℕ) → times n free ≤ has pool n) (q : ComesIn pool free pool' free' block other) where
-  had : has pool number ≡ 1
-  had = ap bit (lt-ltb number (length pool) inside)
-
-  pub came_apart : other ≢ number
-  came_apart e = grind (arith, common_steps, had, bit_same, cases_Bool)
-
-  pub came_others : block_at pool' number ≡ block_at pool number
-  came_others = q.others number (λ e. came_apart (sym e))
-
-  pub came_there : other < length pool'
-  came_there = grind (arith, common_steps, bit_same other other refl, has_inside pool' other)
-
-  pub comes_parted : (now : List (List Queued)) → now ≡ parted pool' number other →
-      ComesIn (set pool number (take 32 (block_at pool number))) free now free' (drop 32 (block_at pool number)) other
-  comes_parted now e = rw (e, came_others) (search
-      (arith, rules, length-set, get_or-set_other, came_apart, get_or-set_same, came_there, cases_eq, had, has_inside))
-
--- where so many cells of the upper half of one block are in the other
-module _ (pool pool' : List (List Queued)) (from to place : ℕ) (inside : from < length pool) (there : to < length pool)
-    (apart : to ≢ from) (full : length (block_at pool from) ≡ most_cells)
-    (is : pool' ≡ set pool to (take place (drop 32 (block_at pool from)))) where
-  pub read_from : (read : List Queued) → read ≡ get_or pool' from read → read ≡ block_at pool from
-  read_from read e = search (rules, length-set, get_or_read, get_or-set_other)
-
-  pub read_to : (read : List Queued) → read ≡ get_or pool' to read → read ≡ take place (drop 32 (block_at pool from))
-  read_to read e = grind (arith, common_steps, length-set, get_or_read, get_or-set_same)
-
-  pub moved_more : (read block next : List Queued) (x : Queued) → place < 32 → read ≡ get_or pool' to read →
-      block ≡ get_or pool' from block → slice_get block (place + 32) ≡ Some x → next ≡ insert read place x →
-      set pool' to next ≡ set pool to (take (place + 1) (drop 32 (block_at pool from)))
-  moved_more read block next x early e f at is_next =
-      let half = drop 32 (block_at pool from) in
-      let here = get_or_from_slice_get block (place + 32) x x at in
-      let there = get_or-drop 32 (block_at pool from) place x in
-      let size = length-drop 32 (block_at pool from) in
-      grind (arith, common_steps, here, there, take_more half place x, size, read_from, read_to, set-set, insert_end)
-
-  pub moved_all : (block front : List Queued) → place ≡ 32 → block ≡ get_or pool' from block → front ≡ take 32 block →
-      set pool' from front ≡ parted pool from to
-  moved_all block front all e is_front =
-      grind (arith, common_steps, length-drop 32 (block_at pool from), read_from)
-
-pub upper_first : (block : List Queued) (x : Queued) → slice_get block 32 ≡ Some x →
-    x ∷ [] ≡ take 1 (drop 32 block)
-upper_first block x at = search (arith, rules, drop_more block 32 x, slice_get_within, get_or_from_slice_get)
-
 -- ## The first block becomes free
 
 pub freed : (pool : List (List Queued)) (first first' : ℕ) (order counts free : List ℕ) (blocks : List (List Queued)) →
@@ -252,5 +204,3 @@ emptied blocks block one = grind (arith, common_steps, eq-eqb)
 pub without_cell : (blocks : List (List Queued)) → 0 < length blocks → 1 < length (block_at blocks 0) →
     without_first blocks ≡ set blocks 0 (drop 1 (block_at blocks 0))
 without_cell blocks some more = grind (arith, common_steps, cond-false, ne_eqb)
-
-pub ruleset move_steps = (set-get_or, length-take, read_from, read_to, moved_more)

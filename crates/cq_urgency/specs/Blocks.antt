@@ -40,12 +40,6 @@ halved blocks place =
     insert (slice_set blocks place (take half_cells (block_at blocks place))) (place + 1)
     (drop half_cells (block_at blocks place))
 
--- with the upper half of one block in the place of another one
-abbrev pub parted : List (List Queued) → ℕ → ℕ → List (List Queued)
-parted blocks from to =
-    slice_set (slice_set blocks to (drop half_cells (block_at blocks from))) from
-    (take half_cells (block_at blocks from))
-
 -- without the first cell, and without its block where this was the only cell of it
 abbrev pub without_first : List (List Queued) → List (List Queued)
 without_first [] = []
@@ -93,6 +87,7 @@ pub record HaveMemory (most pool in_pool in_order in_counts in_free : ℕ) : Typ
 -- a block came in under this number, which was free or is new
 pub record ComesIn (pool : List (List Queued)) (free : List ℕ) (pool' : List (List Queued)) (free' : List ℕ)
     (block : List Queued) (number : ℕ) : Type 0 where
+  pub inside : number < length pool'
   pub at : block_at pool' number ≡ block
   pub others : (n : ℕ) → n ≢ number → block_at pool' n ≡ block_at pool n
   pub once : (n : ℕ) → times n free' + bit (number == n) + has pool n ≡ times n free + has pool' n

@@ -145,7 +145,7 @@ impl Block {
     }
 
     /// Takes the first cell out. No cell moves.
-    #[tactic(auto, using(crate::proofs::Pieces::length_piece, crate::proofs::Pieces::popped))]
+    #[tactic(auto, using(crate::proofs::Pieces::length_piece, crate::proofs::Pieces::behind))]
     pub fn pop(&mut self) -> Queued
         requires { 0 < length self.old }
         ensures first { slice_get self.old 0 ≡ Some result }
@@ -166,11 +166,18 @@ impl Block {
         self.len = 1;
     }
 
-    /// Leaves the first half of a full block alone.
-    pub fn keep_half(&mut self)
+    /// Takes the second half of a full block out, into a block of its own.
+    #[tactic(auto, using(crate::proofs::Pieces::length_piece, crate::proofs::Pieces::behind))]
+    pub fn split_off(&mut self) -> Block
         requires { length self.old ≡ most_cells }
-        ensures { self.new ≡ take half_cells self.old }
+        ensures front { self.new ≡ take half_cells self.old }
+        ensures back { result ≡ drop half_cells self.old }
     {
         self.len = HALF_CELLS;
+        Block {
+            cells: self.cells,
+            head: self.head + HALF_CELLS,
+            len: HALF_CELLS,
+        }
     }
 }

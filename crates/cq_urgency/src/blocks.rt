@@ -1,7 +1,7 @@
 //! Cells in blocks, in an order of blocks.
 ghost use Rattle.std.specs.Prelude.{◌≡◌, ◌≢◌, ℕ, ◌+◌, ◌<◌, ◌≤◌, ◌^◌, ◌∷◌, ◌++◌, [], Some, IfOk, length, take, drop, insert, slice_get, slice_set, slice_index_or, vec_capacity};
 ghost use Rattle.std.specs.List.{sum_by};
-ghost use Rattle.cq_urgency.specs.Blocks.{flattened, block_at, cells_in_all, half_cells, halved, parted, without_first, times, has, ComesIn, most_cells};
+ghost use Rattle.cq_urgency.specs.Blocks.{flattened, block_at, cells_in_all, half_cells, halved, without_first, times, has, ComesIn, most_cells};
 
 use crate::block::{Block, HALF_CELLS};
 use cq_base::{NoMemory, Queued};
@@ -73,28 +73,12 @@ fn put_block(pool: &mut Vec<Block>, free: &mut Vec<usize>, queued: Queued) -> us
     }
 }
 
-// The upper half of a full block goes over to a block that has its first cell already.
-#[tactic(auto, using(crate::proofs::Placed::move_steps))]
-fn move_upper(pool: &mut Vec<Block>, from: usize, to: usize)
-    requires from { from < length pool.old.items }
-    requires to { to < length pool.old.items }
-    requires apart { to ≢ from }
-    requires full { length (block_at pool.old.items from) ≡ most_cells }
-    requires first { block_at pool.old.items to ≡ take 1 (drop half_cells (block_at pool.old.items from)) }
-    ensures moved { pool.new.items ≡ parted pool.old.items from to }
-    ensures capacity { vec_capacity pool.new ≡ vec_capacity pool.old }
-{
-    'moved: for place in 1..HALF_CELLS {
-        let queued = pool[from].at(place + HALF_CELLS);
-        pool[to].insert(place, queued);
-    }
-    pool[from].keep_half();
-}
-
-// The upper half of a full block becomes a block of its own. The answer is its number.
+// The upper half of a full block becomes a block of its own, in place of a new one of its first cell. The answer is its
+// number. It stands apart as well.
+#[inline(never)]
+#[tactic(auto, using(crate::proofs::Placed::comes_set, cq_base::proofs::Library::get_or_read))]
 fn put_upper(pool: &mut Vec<Block>, free: &mut Vec<usize>, number: usize) -> usize
     requires there { number < length pool.old.items }
-    requires used { times number free.old.items ≡ 0 }
     requires full { length (block_at pool.old.items number) ≡ most_cells }
     requires within { (n : ℕ) → times n free.old.items ≤ has pool.old.items n }
     requires memory { length free.old.items ≡ 0 → length pool.old.items < vec_capacity pool.old }
@@ -103,9 +87,9 @@ fn put_upper(pool: &mut Vec<Block>, free: &mut Vec<usize>, number: usize) -> usi
     ensures pool { vec_capacity pool.new ≡ vec_capacity pool.old }
     ensures free { vec_capacity free.new ≡ vec_capacity free.old }
 {
-    let first = pool[number].at(HALF_CELLS);
-    let other = put_block(pool, free, first);
-    move_upper(pool, number, other);
+    let upper = pool[number].split_off();
+    let other = put_block(pool, free, upper.at(0));
+    pool[other] = upper;
     other
 }
 

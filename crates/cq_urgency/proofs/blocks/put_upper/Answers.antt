@@ -1,12 +1,11 @@
-use Rattle.cq_urgency.proofs.Terms.{rules, arith, get_or_read}
-use Rattle.cq_urgency.proofs.Placed.{came_others, comes_parted, upper_first}
+use Rattle.cq_urgency.proofs.Terms.{[], ap, arith, get_or_read, length, length-drop, length-set}
 use Rattle.cq_urgency.proofs.blocks.put_upper.Goals as goal
 
-pub at-first-requires : goal.at-first-requires
-at-first-requires c = search (arith, rules, get_or_read)
+pub put_block-other-requires-clause-within : goal.put_block-other-requires-clause-within
+put_block-other-requires-clause-within c n = rw length-set (c.requires.within n)
 
-pub move_upper-requires-clause-first : goal.move_upper-requires-clause-first
-move_upper-requires-clause-first c = search (arith, rules, get_or_read, came_others, upper_first)
-
-pub returns-clause-comes : goal.returns-clause-comes
-returns-clause-comes c = search (rules, comes_parted)
+pub at-requires : goal.at-requires
+at-requires c =
+    let block = c.index_mut.result.now in
+    let same = get_or_read c.args.pool.now.items c.args.number block c.requires.there c.index_mut.ensures.value [] in
+    omega (arith, ap length c.split_off-upper.ensures.back, length-drop 32 block, ap length same)

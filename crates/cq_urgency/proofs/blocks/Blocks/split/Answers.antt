@@ -1,12 +1,9 @@
 use Rattle.cq_urgency.proofs.Terms.{◌∙◌, ◌-◌, length, ap, length-set, arith, rules}
-use Rattle.cq_urgency.proofs.Placed.{kept, as_many, as_many_counts, in_pool, not_freed, block_same, split, count_halved, count_halved_behind}
+use Rattle.cq_urgency.proofs.Placed.{kept, as_many, as_many_counts, in_pool, block_same, split, count_halved, count_halved_behind}
 use Rattle.cq_urgency.proofs.blocks.Blocks.split.Goals as goal
 
 pub put_upper-other-requires-clause-there : goal.put_upper-other-requires-clause-there
 put_upper-other-requires-clause-there c = search (arith, rules, in_pool, kept c.self.invariant.0 c.self.view_is)
-
-pub put_upper-other-requires-clause-used : goal.put_upper-other-requires-clause-used
-put_upper-other-requires-clause-used c = search (arith, rules, not_freed, kept c.self.invariant.0 c.self.view_is)
 
 pub put_upper-other-requires-clause-full : goal.put_upper-other-requires-clause-full
 put_upper-other-requires-clause-full c =
