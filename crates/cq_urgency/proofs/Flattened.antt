@@ -1,7 +1,7 @@
 -- Cells in blocks, one after another. What is done to one block is done to the cells where it stands, behind those of
 -- the blocks ahead.
 use Rattle.cq_base.proofs.Library.{append-nil}
-use Rattle.cq_urgency.proofs.Terms.{common_steps, rules, ◌≡◌, ℕ, zero, suc, ◌+◌, ◌<◌, ◌≤◌, ◌-◌, List, [], ◌∷◌, ◌++◌, length, set, take, Some, refl, append_assoc, length-append, take-append-drop, arith, insert, slice_get, insert-append_left, insert-append_right, sum_by-cons, Queued, flattened, block_at, cells_in_all, halved, cases_lt, slice_get_cases, few_kept}
+use Rattle.cq_urgency.proofs.Terms.{common_steps, rules, ◌≡◌, ℕ, zero, suc, ◌+◌, ◌<◌, ◌≤◌, ◌-◌, List, [], ◌∷◌, ◌++◌, length, set, take, Some, refl, append_assoc, length-append, take-append-drop, arith, insert, slice_get, insert-append_left, insert-append_right, sum_by-cons, sum_by_more, take_all, Queued, flattened, block_at, cells_in_all, halved, cases_lt, slice_get_cases, few_kept}
 
 pub length-flattened : (blocks : List (List Queued)) → cells_in_all blocks ≡ length (flattened blocks)
 length-flattened [] = refl
@@ -49,5 +49,8 @@ split_in (b ∷ bs) (suc i) front back inside parts = grind (arith, common_steps
 pub flattened-halved : (blocks : List (List Queued)) (i : ℕ) → i < length blocks →
     flattened (halved blocks i) ≡ flattened blocks
 flattened-halved blocks i inside = search (rules, split_in, take-append-drop)
+
+-- the cell at a place
+pub ruleset at_steps = (sum_by_more, take_all, length-flattened, shown_in)
 
 pub ruleset cushion_steps = (some_blocks, length-flattened, few_kept)

@@ -50,13 +50,6 @@ pub counts_ahead : (blocks : List (List Queued)) (counts : List ℕ) (behind pla
     length (block_at blocks 0) + sum_by (λ n. n) (take behind counts) ≡ cells_in_all (take place blocks)
 counts_ahead blocks counts behind place is some next = grind (arith, common_steps, take-map, sum-map, sum_by-cons)
 
--- where a count is more than nothing, there is a block, of so many cells
-pub count_there : (blocks : List (List Queued)) (counts : List ℕ) (behind within : ℕ) → counts ≡ counts_behind blocks →
-    within < get_or counts behind 0 →
-    (behind + 1 < length blocks) × (within < length (block_at blocks (behind + 1)))
-count_there blocks counts behind within is some =
-    grind (arith, common_steps, length-map, get_or-map, get_or_past, cases_lt, length-drop, get_or-drop)
-
 -- the counts where a block changes
 pub count_first : (blocks : List (List Queued)) (block : List Queued) (i : ℕ) (counts : List ℕ) →
     counts ≡ counts_behind blocks → i ≡ 0 → counts ≡ counts_behind (set blocks i block)

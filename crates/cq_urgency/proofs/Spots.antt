@@ -8,7 +8,7 @@
 -- No block is empty, and each but the first has 32 cells at least. Only the first block gets fewer cells, and a block
 -- that is split has 64. So the blocks are few: 32 times their number is at most 31 more than the number of cells, and
 -- where one is split, so it is afterwards.
-use Rattle.cq_urgency.specs.declared.blocks.Spot.{Spot}
+use Rattle.cq_urgency.specs.declared.output_buffer.Spot.{Spot}
 use Rattle.cq_urgency.proofs.Terms.{cases_lt, rules, ◌≡◌, ℕ, zero, suc, ◌+◌, ◌*◌, ◌/◌, ◌<◌, ◌≤◌, true, false, List, [], ◌∷◌, ◌++◌, length, take, Some, length-append, length-set, length-take, length-drop, get_or-set_same, arith, sym, subst, common_steps, slice_get, AllByRecursion, cases_Bool, take-append-le, take-take, take-set, length-insert, get_or-insert_below, get_or-insert_at, sum_by_more, Key, Queued, is_before, IsBefore, IsRising, cushion, key_laws, all_at, flattened, block_at, halved, AreFilled, AreBegun, IsSpot, starts_before, all_weaker, all_front, all_back, most_cells, ap, few_kept, filter_all, filter_none}
 use Rattle.cq_urgency.proofs.Flattened.{flattened-halved, length-flattened}
 use Rattle.cq_urgency.proofs.Halving.{cushion-append}

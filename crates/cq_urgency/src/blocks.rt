@@ -120,33 +120,6 @@ fn sum_of(counts: &VecDeque<usize>, from: usize, to: usize) -> usize
     sum
 }
 
-/// A place in the order of blocks, and a place in this block.
-#[derive(Clone, Copy)]
-pub struct Spot {
-    /// The place of the block.
-    pub block: usize,
-    /// The place in it.
-    pub within: usize,
-}
-
-// Where the cell stands that has so many ahead, behind the first block.
-#[tactic(auto, using(std::proofs::lemmas::List::Sums::sum_by_more, std::proofs::lemmas::List::take_all))]
-fn place_of(counts: &VecDeque<usize>, ahead: usize) -> Spot
-    requires { ahead < sum_by (λ n. n) counts.now.items }
-    ensures block { sum_by (λ n. n) (take result.block counts.now.items) + result.within ≡ ahead }
-    ensures within { result.within < slice_index_or counts.now.items result.block 0 }
-{
-    let mut within = ahead;
-    'counts: for block in 0..counts.len() {
-        let count = counts[block];
-        if within < count {
-            return Spot { block, within };
-        }
-        within -= count;
-    }
-    unreachable!()
-}
-
 impl Blocks {
     /// No block, and room for so many. The error is want of memory.
     pub fn new(alloc: Global, most: usize) -> Result<Blocks, NoMemory>
@@ -196,17 +169,20 @@ impl Blocks {
     }
 
     /// The cell that has so many ahead.
+    #[tactic(auto, using(crate::proofs::Flattened::at_steps))]
     pub fn at(&self, ahead: usize) -> Queued
         requires { ahead < length (flattened self.now.blocks) }
         ensures { slice_get (flattened self.now.blocks) ahead ≡ Some result }
     {
-        let first = self.block(0);
-        let len = first.len();
-        if ahead < len {
-            return first.at(ahead);
+        let mut within = ahead;
+        'places: for place in 0..self.len() {
+            let block = self.block(place);
+            if within < block.len() {
+                return block.at(within);
+            }
+            within -= block.len();
         }
-        let spot = place_of(&self.counts, ahead - len);
-        self.block(spot.block + 1).at(spot.within)
+        unreachable!()
     }
 
     /// The cells, of which there are so many, block after block. The error is want of memory.

@@ -5,7 +5,7 @@ ghost use Rattle.cq_urgency.specs.Blocks.{flattened, block_at, half_cells, most_
 ghost use Rattle.cq_urgency.specs.OutputBuffer.{AreFilled, AreBegun, IsSpot, starts_before};
 
 use crate::block::{HALF_CELLS, MOST_CELLS};
-use crate::blocks::{Blocks, Spot};
+use crate::blocks::Blocks;
 use cq_base::{Key, NoMemory, Queued, Sequence};
 use std::alloc::Global;
 use std::marker::Model;
@@ -38,6 +38,13 @@ impl Model for OutputBuffer {
     ghost view = { λ b. record { cells = flattened b.blocks.blocks; spare = b.room - b.len } };
 
     ghost invariant = { λ b. IsBuffer b.blocks.blocks b.blocks.most b.len b.room };
+}
+
+// A place in the order of blocks, and a place in this block.
+#[derive(Clone, Copy)]
+struct Spot {
+    block: usize,
+    within: usize,
 }
 
 // Whether a block begins with a lesser key.
