@@ -2,7 +2,7 @@
 -- changed in the pool changes at its one place in the order and nowhere else; a block that comes in under a number that
 -- was free or is new stands nowhere in the order, so that the blocks there stay; and so do the others where the first
 -- one becomes free.
-use Rattle.cq_urgency.proofs.Terms.{common_steps, rules, ◌≡◌, ◌≢◌, ℕ, zero, suc, ◌+◌, ◌<◌, ◌≤◌, List, [], ◌∷◌, ◌++◌, length, get_or, set, take, drop, refl, sym, ap, ◌∙◌, arith, Some, length-set, length-take, length-drop, get_or-set_same, get_or-set_other, get_or-drop, drop-map, ◌==◌, insert, slice_get, sum_by, cases_Bool, cases_eq, cases_lt, ltb-true, lt-ltb, eq-eqb, ne_eqb, cond-false, take_more, drop_more, set-set, length_push, length-map, map-set, take-map, get_or-map, get_or_past, get_or_read, length-insert, insert_end, sum_by-cons, sum_by_push, sum_by-insert, get_or-le-sum_by, slice_get_within, get_or_from_slice_get, Queued, BlocksView, block_at, cells_in_all, counts_behind, get_or-insert_below, halved, without_first, in_order, bit, times, has, ArePlaced, ComesIn, map-insert, most_cells, set-get_or}
+use Rattle.cq_urgency.proofs.Terms.{common_steps, rules, ◌≡◌, ◌≢◌, ℕ, zero, suc, ◌+◌, ◌<◌, ◌≤◌, List, [], ◌∷◌, ◌++◌, length, get_or, set, take, drop, refl, ap, ◌∙◌, arith, length-set, length-take, length-drop, get_or-set_same, get_or-set_other, drop-map, ◌==◌, insert, sum_by, cases_Bool, ltb-true, eq-eqb, ne_eqb, cond-false, length_push, length-map, map-set, take-map, get_or-map, get_or_read, length-insert, sum_by-cons, sum_by_push, sum_by-insert, get_or-le-sum_by, Queued, BlocksView, block_at, cells_in_all, counts_behind, get_or-insert_below, halved, without_first, in_order, bit, times, has, ArePlaced, ComesIn, map-insert, most_cells}
 use Rattle.std.proofs.lemmas.List.Sums.{sum-map}
 use Rattle.std.proofs.lemmas.List.{drop-set-add, drop-set-lt}
 
@@ -51,17 +51,22 @@ pub counts_ahead : (blocks : List (List Queued)) (counts : List ℕ) (behind pla
 counts_ahead blocks counts behind place is some next = grind (arith, common_steps, take-map, sum-map, sum_by-cons)
 
 -- the counts where a block changes
-pub count_first : (blocks : List (List Queued)) (block : List Queued) (i : ℕ) (counts : List ℕ) →
-    counts ≡ counts_behind blocks → i ≡ 0 → counts ≡ counts_behind (set blocks i block)
-count_first blocks block i counts is e = grind (arith, common_steps, drop-set-lt)
+pub count_set : (blocks : List (List Queued)) (block : List Queued) (i : ℕ) (counts : List ℕ) →
+    counts ≡ counts_behind blocks → i < length blocks →
+    drop 1 (set (0 ∷ counts) i (length block)) ≡ counts_behind (set blocks i block)
+count_set [] block i counts is inside = absurd (omega arith)
+count_set (b ∷ bs) block zero counts is inside = is
+count_set (b ∷ bs) block (suc i) counts is inside = grind (arith, common_steps, map-set)
 
--- one cell more behind the first block
-pub count_grown : (blocks : List (List Queued)) (block : List Queued) (i behind : ℕ) {count : ℕ} (counts : List ℕ) →
-    counts ≡ counts_behind blocks → i ≡ behind + 1 → i < length blocks → count ≡ get_or counts behind count →
-    length block ≡ length (block_at blocks i) + 1 →
-    set counts behind (count + 1) ≡ counts_behind (set blocks i block)
-count_grown blocks block i behind counts is e inside read more =
-    grind (arith, common_steps, map-set, drop-set-add, get_or-map, length-map, length-drop, get_or-drop)
+-- and where it is split
+pub count_split : (blocks : List (List Queued)) (i : ℕ) (counts : List ℕ) → counts ≡ counts_behind blocks →
+    length (block_at blocks i) ≡ most_cells →
+    insert (drop 1 (set (0 ∷ counts) i 32)) i 32 ≡ counts_behind (halved blocks i)
+count_split [] i counts is full = absurd (omega arith)
+count_split (b ∷ bs) zero counts is full = rw is (cc (length-drop 32 b))
+count_split (b ∷ bs) (suc n) counts is full =
+    let next : suc n + 1 ≡ suc (n + 1) = omega arith in
+    search (arith, rules, length-take 32 (block_at bs n), length-drop 32 (block_at bs n), map-insert, map-set)
 
 -- ## The number of a free block
 
@@ -139,7 +144,7 @@ module _ {pool : List (List Queued)} {first : ℕ} {order counts free : List ℕ
   -- the first block is in order where it is another one
   pub popped : 0 < length blocks → (block : List Queued) →
       Kept (set pool first block) first order counts free (set blocks 0 block)
-  popped some block = search (rules, changed, count_first, as_many_counts)
+  popped some block = changed 0 some w.placed.led block counts (count_set blocks block 0 counts as_many_counts some)
 
 -- ## A block that comes in
 
@@ -160,21 +165,6 @@ split {pool = pool} {first = first} {order = order} w i {number = number} {other
     q counted =
     let fronted = changed w i inside is (take 32 (block_at pool number)) _ refl in
     search (arith, rules, get_or-insert_below, block_same w i, in_order_there w i, come fronted q first (i + 1) counts')
-
--- the counts where a block is split
-pub count_halved : (blocks : List (List Queued)) (counts : List ℕ) (i : ℕ) → counts ≡ counts_behind blocks →
-    length (block_at blocks i) ≡ most_cells → i ≡ 0 → 32 ∷ counts ≡ counts_behind (halved blocks i)
-count_halved [] counts i is full e = absurd (omega arith)
-count_halved (b ∷ bs) counts i is full e = rw e (cc (length-drop 32 b))
-
-pub count_halved_behind : (blocks : List (List Queued)) (counts : List ℕ) (i behind : ℕ) →
-    counts ≡ counts_behind blocks → length (block_at blocks i) ≡ most_cells → i ≡ behind + 1 →
-    insert (set counts behind 32) i 32 ≡ counts_behind (halved blocks i)
-count_halved_behind (b ∷ bs) counts (suc n) behind is full e =
-    let same : behind ≡ n = omega arith in
-    let next : suc n + 1 ≡ suc (n + 1) = omega arith in
-    search (arith, rules, length-take 32 (block_at bs n), length-drop 32 (block_at bs n), map-insert, map-set)
-count_halved_behind blocks counts i behind is full e = absurd (omega arith)
 
 -- ## The first block becomes free
 
@@ -197,3 +187,6 @@ emptied blocks block one = grind (arith, common_steps, eq-eqb)
 pub without_cell : (blocks : List (List Queued)) → 0 < length blocks → 1 < length (block_at blocks 0) →
     without_first blocks ≡ set blocks 0 (drop 1 (block_at blocks 0))
 without_cell blocks some more = grind (arith, common_steps, cond-false, ne_eqb)
+
+-- the count of a block that is set
+pub ruleset set_steps = (drop-set-lt, drop-set-add)

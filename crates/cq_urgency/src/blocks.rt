@@ -1,6 +1,7 @@
 //! Cells in blocks, in an order of blocks.
 ghost use Rattle.std.specs.Prelude.{◌≡◌, ◌≢◌, ℕ, ◌+◌, ◌<◌, ◌≤◌, ◌^◌, ◌∷◌, ◌++◌, [], Some, IfOk, length, take, drop, insert, slice_get, slice_set, slice_index_or, vec_capacity};
 ghost use Rattle.std.specs.List.{sum_by};
+ghost use Rattle.std.specs.VecDeque.{deque_capacity};
 ghost use Rattle.cq_urgency.specs.Blocks.{flattened, block_at, cells_in_all, half_cells, halved, without_first, times, has, ComesIn, most_cells};
 
 use crate::block::{Block, HALF_CELLS};
@@ -103,6 +104,19 @@ fn number_at(first: usize, order: &VecDeque<usize>, place: usize) -> usize
         return first;
     }
     order[place]
+}
+
+// Counts the cells of a block anew, where it is not the first.
+#[tactic(auto, using(crate::proofs::Placed::set_steps))]
+fn set_count(counts: &mut VecDeque<usize>, block: usize, count: usize)
+    requires { block ≤ length counts.old.items }
+    ensures counts { counts.new.items ≡ drop 1 (slice_set (0 ∷ counts.old.items) block count) }
+    ensures capacity { deque_capacity counts.new ≡ deque_capacity counts.old }
+{
+    if block == 0 {
+        return;
+    }
+    counts[block - 1] = count;
 }
 
 // The sum of the counts from one place up to another.
@@ -219,11 +233,10 @@ impl Blocks {
         ensures most { self.new.most ≡ self.old.most }
     {
         let number = number_at(self.first, &self.order, block);
-        self.pool[number].insert(place, queued);
-        if block == 0 {
-            return;
-        }
-        self.counts[block - 1] += 1;
+        let cells = &mut self.pool[number];
+        cells.insert(place, queued);
+        let count = cells.len();
+        set_count(&mut self.counts, block, count);
     }
 
     /// Splits a full block in two halves.
@@ -237,11 +250,7 @@ impl Blocks {
         let number = number_at(self.first, &self.order, block);
         let other = put_upper(&mut self.pool, &mut self.free, number);
         self.order.insert(block + 1, other).unwrap();
-        if block == 0 {
-            self.counts.push_front_reserved(HALF_CELLS);
-            return;
-        }
-        self.counts[block - 1] = HALF_CELLS;
+        set_count(&mut self.counts, block, HALF_CELLS);
         self.counts.insert(block, HALF_CELLS).unwrap();
     }
 

@@ -1,5 +1,5 @@
-use Rattle.cq_urgency.proofs.Terms.{◌∙◌, ◌-◌, length, ap, length-set, arith, rules}
-use Rattle.cq_urgency.proofs.Placed.{kept, as_many, as_many_counts, in_pool, block_same, split, count_halved, count_halved_behind}
+use Rattle.cq_urgency.proofs.Terms.{◌∙◌, length, ap, length-set, arith, rules}
+use Rattle.cq_urgency.proofs.Placed.{kept, as_many, as_many_counts, in_pool, block_same, split, count_split}
 use Rattle.cq_urgency.proofs.blocks.Blocks.split.Goals as goal
 
 pub put_upper-other-requires-clause-there : goal.put_upper-other-requires-clause-there
@@ -14,21 +14,7 @@ pub invariant_of-self : goal.invariant_of-self
 invariant_of-self c =
     let w = kept c.self.invariant.0 c.self.view_is in
     let k = split w c.args.block c.requires.block c.number_at-number.ensures c.put_upper-other.ensures.comes
-    (count_halved _ _ c.args.block (as_many_counts w) c.requires.full c.if-block-eq0.true) in
-    search (arith, rules, k, as_many w, length-set, c.insert.ensures)
-
-pub returns-then-block-eq0-clause-blocks : goal.returns-then-block-eq0-clause-blocks
-returns-then-block-eq0-clause-blocks c =
-    let w = kept c.self.invariant.0 c.self.view_is in
-    let k = split w c.args.block c.requires.block c.number_at-number.ensures c.put_upper-other.ensures.comes
-    (count_halved _ _ c.args.block (as_many_counts w) c.requires.full c.if-block-eq0.true) in
-    rw (rw c.unwrap.ensures at c.insert.ensures.items) k.seen
-
-pub invariant_of-self-2 : goal.invariant_of-self-2
-invariant_of-self-2 c =
-    let w = kept c.self.invariant.0 c.self.view_is in
-    let k = split w c.args.block c.requires.block c.number_at-number.ensures c.put_upper-other.ensures.comes
-    (count_halved_behind _ _ c.args.block (c.args.block - 1) (as_many_counts w) c.requires.full (omega arith)) in
+    (count_split _ c.args.block _ (as_many_counts w) c.requires.full) in
     let order = rw c.unwrap.ensures at c.insert.ensures.items in
     let counts = rw c.unwrap-2.ensures at c.insert-2.ensures.items in
     search (arith, rules, k, order, counts, as_many w, length-set)
@@ -37,5 +23,5 @@ pub returns-clause-blocks : goal.returns-clause-blocks
 returns-clause-blocks c =
     let w = kept c.self.invariant.0 c.self.view_is in
     let k = split w c.args.block c.requires.block c.number_at-number.ensures c.put_upper-other.ensures.comes
-    (count_halved_behind _ _ c.args.block (c.args.block - 1) (as_many_counts w) c.requires.full (omega arith)) in
+    (count_split _ c.args.block _ (as_many_counts w) c.requires.full) in
     rw (rw c.unwrap.ensures at c.insert.ensures.items) k.seen
