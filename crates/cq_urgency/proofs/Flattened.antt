@@ -1,7 +1,7 @@
 -- Cells in blocks, one after another. What is done to one block is done to the cells where it stands, behind those of
 -- the blocks ahead.
 use Rattle.cq_base.proofs.Library.{append-nil}
-use Rattle.cq_urgency.proofs.Terms.{common_steps, rules, ◌≡◌, ℕ, zero, suc, ◌+◌, ◌<◌, ◌≤◌, ◌-◌, List, [], ◌∷◌, ◌++◌, length, set, take, Some, refl, append_assoc, length-append, take-append-drop, arith, insert, slice_get, insert-append_left, insert-append_right, sum_by-cons, sum_by_more, take_all, Queued, flattened, block_at, cells_in_all, halved, cases_lt, slice_get_cases, few_kept}
+use Rattle.cq_urgency.proofs.Terms.{common_steps, rules, ◌≡◌, ℕ, zero, suc, ◌+◌, ◌<◌, ◌≤◌, ◌-◌, List, [], ◌∷◌, ◌++◌, length, set, take, drop, Some, refl, append_assoc, length-append, take-append-drop, arith, insert, slice_get, insert-append_left, insert-append_right, sum_by-cons, sum_by_more, take_all, Queued, flattened, block_at, cells_in_all, halved, cases_lt, slice_get_cases, few_kept}
 
 pub length-flattened : (blocks : List (List Queued)) → cells_in_all blocks ≡ length (flattened blocks)
 length-flattened [] = refl
@@ -13,9 +13,8 @@ some_blocks blocks some = grind (arith, common_steps, cases_lt)
 -- the cells of one block more stand behind those of the blocks so far
 pub one_more : (blocks : List (List Queued)) (i : ℕ) → i < length blocks →
     flattened (take (i + 1) blocks) ≡ flattened (take i blocks) ++ block_at blocks i
-one_more [] i inside = absurd (omega arith)
-one_more (b ∷ bs) zero inside = append-nil b
-one_more (b ∷ bs) (suc i) inside = search (rules, append_assoc, one_more bs i)
+one_more blocks zero inside = search (arith, rules, append-nil)
+one_more blocks (suc i) inside = search (arith, rules, append_assoc, one_more (drop 1 blocks) i)
 
 -- ## One block
 
@@ -42,9 +41,8 @@ insert_in (b ∷ bs) (suc i) o n y inside le place =
 
 pub split_in : (blocks : List (List Queued)) (i : ℕ) (front back : List Queued) → i < length blocks →
     front ++ back ≡ block_at blocks i → flattened (insert (set blocks i front) (i + 1) back) ≡ flattened blocks
-split_in [] i front back inside parts = absurd (omega arith)
-split_in (b ∷ bs) zero front back inside parts = grind (arith, common_steps, append_assoc)
-split_in (b ∷ bs) (suc i) front back inside parts = grind (arith, common_steps, split_in bs i front back)
+split_in blocks zero front back inside parts = grind (arith, common_steps, append_assoc)
+split_in blocks (suc i) front back inside parts = grind (arith, common_steps, split_in (drop 1 blocks) i front back)
 
 pub flattened-halved : (blocks : List (List Queued)) (i : ℕ) → i < length blocks →
     flattened (halved blocks i) ≡ flattened blocks

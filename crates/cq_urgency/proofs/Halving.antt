@@ -12,15 +12,12 @@ lesser_part key xs r i j d le lt e = search (rules, cases_eq, each_pair_at, slic
 -- as many pass as stand before the point
 pub passed_at_point : {X : Type 0} (p : X → Bool) (xs : List X) (n : ℕ) → n ≤ length xs →
     IsPartitionPoint (λ x. p x ≡ true) (λ x. p x ≡ false) xs n → n ≡ length (filter p xs)
-passed_at_point p [] n few point = omega arith
-passed_at_point p (x ∷ xs) zero few point =
-    ap length (sym (filter_none p (x ∷ xs) (recursion_from_All _ (x ∷ xs) (λ k d. point.1 k d (omega arith)))))
+passed_at_point p xs zero few point =
+    ap length (sym (filter_none p xs (recursion_from_All _ xs (λ k d. point.1 k d (omega arith)))))
+passed_at_point p [] (suc n) few point = absurd (omega arith)
 passed_at_point p (x ∷ xs) (suc n) few point =
-    let rest = passed_at_point p xs n (omega arith) (
-      (λ k d from to. point.0 (suc k) d (omega arith) (omega arith)),
-      (λ k d from to. point.1 (suc k) d (omega arith) (omega arith)),
-    ) in
-    search (arith, rules, point.0 zero x)
+    let from = λ (k : ℕ). point.1 (suc k) in
+    search (arith, rules, point.0 zero x, λ (k : ℕ). point.0 (suc k), from, passed_at_point p xs n)
 
 -- ## How many pass
 
