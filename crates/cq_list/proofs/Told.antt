@@ -1,6 +1,6 @@
 -- What is told of a list, place after place: each place takes the head of the queue of its output. What is told, and
 -- what the queues tell at the places that are left, stay the same cells, so no cell is looked for.
-use Rattle.cq_list.proofs.Terms.{common_steps, rules, ◌≡◌, ℕ, List, ◌∷◌, ◌++◌, length, drop, take, Option, sym, ap, ◌∙◌, arith, concat, slice_get, cond_both, cases_lt, get_or_past, set, set_past, Queued, merged, without_head, queue_of}
+use Rattle.cq_list.proofs.Terms.{common_steps, rules, ◌≡◌, ℕ, List, ◌∷◌, ◌++◌, drop, take, Option, sym, ap, ◌∙◌, arith, concat, slice_get, cond_both, cases_lt, get_or_past, set, set_past, Queued, merged, without_head, queue_of}
 use Rattle.cq_list.proofs.Kept.{queue_of-set}
 use Rattle.std.proofs.Math.Path.{fun_ext}
 use Rattle.std.specs.Option.{option_to_list}
@@ -12,7 +12,7 @@ first_told o q is = grind (arith, common_steps)
 module _ (j : ℕ) (queues : List (List Queued)) where
   head_left : (i : ℕ) → queue_of (set queues j (drop 1 (queue_of queues j))) i ≡ without_head j (queue_of queues) i
   head_left i =
-      search (arith, rules, cases_lt j (length queues), queue_of-set queues j (drop 1), set_past, get_or_past, cond_both)
+      search (arith, rules, cases_lt j, queue_of-set queues j (drop 1), set_past, get_or_past, cond_both)
 
   pub told_next : {new : List (List Queued)} {head : Option Queued} → head ≡ slice_get (queue_of queues j) 0 →
       new ≡ set queues j (drop 1 (queue_of queues j)) → (places : List ℕ) →
