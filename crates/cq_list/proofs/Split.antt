@@ -13,7 +13,7 @@
 --
 -- Last what is looked up: a cell at a place, and the place of the first cell for an output that passes a test, which is
 -- the place of the number k of its output where the number k of the queue is the first that passes.
-use Rattle.cq_list.proofs.Terms.{common_steps, rules, ◌≡◌, ℕ, zero, suc, eqb, Bool, false, cond, List, [], ◌∷◌, ◌++◌, length, take, drop, map, Some, refl, sym, ap, ◌∙◌, arith, take-append-drop, take-map, ◌&&◌, slice_get, remove, insert, filter, AllByRecursion, position_or_len, cond_both, eqb-true, eq-eqb, filter-append, Queued, IsBefore, IsRising, KeepsOrder, HasOtherKey, MoreUrgentAhead, is_for, first_for, without_first, put, place_of_arrival, with_arrival, key_laws, keeps_order_arrival, first_here, first_later, Queues, without_head, merged, IsSplit, place_of_nth, is_output, count_of, all_back, map-insert}
+use Rattle.cq_list.proofs.Terms.{common_steps, rules, ◌≡◌, ℕ, zero, suc, Bool, false, cond, List, [], ◌∷◌, ◌++◌, length, take, drop, map, Some, refl, sym, ap, ◌∙◌, arith, take-append-drop, take-map, ◌&&◌, slice_get, remove, insert, filter, AllByRecursion, position_or_len, cond_both, eqb-true, eq-eqb, filter-append, Queued, IsBefore, IsRising, KeepsOrder, HasOtherKey, MoreUrgentAhead, is_for, first_for, without_first, put, place_of_arrival, with_arrival, key_laws, keeps_order_arrival, first_here, first_later, Queues, without_head, merged, IsSplit, place_of_nth, is_output, count_of, all_back, map-insert}
 use Rattle.cq_list.proofs.Nth.{passes, fails, first_of_both, place_of_nth-map}
 
 -- ## One filter
@@ -86,14 +86,10 @@ pub first-is-head : (j : ℕ) (xs : List Queued) → first_for j xs ≡ slice_ge
 first-is-head j [] = refl
 first-is-head j (x ∷ xs) = grind (arith, common_steps, cond_both, first-is-head j xs)
 
-own_left : (j : ℕ) (xs : List Queued) → filter (is_for j) (without_first j xs) ≡ drop 1 (filter (is_for j) xs)
-own_left j [] = refl
-own_left j (x ∷ xs) = grind (arith, common_steps, cond_both, passes, fails, own_left j xs)
-
-other_left : (i j : ℕ) (xs : List Queued) → eqb j i ≡ false →
-    filter (is_for i) (without_first j xs) ≡ filter (is_for i) xs
-other_left i j [] ne = refl
-other_left i j (x ∷ xs) ne = grind (arith, common_steps, cond_both, fails, eqb-true, other_left i j xs ne)
+left_queued : (i j : ℕ) (xs : List Queued) →
+    filter (is_for i) (without_first j xs) ≡ without_head j (λ k. filter (is_for k) xs) i
+left_queued i j [] = grind (arith, common_steps)
+left_queued i j (x ∷ xs) = grind (arith, common_steps, cond_both, passes, fails, eqb-true, left_queued i j xs)
 
 outputs_left : (j : ℕ) (xs : List Queued) →
     map (λ c. c.cell.output) (without_first j xs) ≡ remove (map (λ c. c.cell.output) xs)
@@ -108,7 +104,7 @@ outputs_left j (x ∷ xs) =
 
 pub split_left : (places : List ℕ) (queues : Queues) (xs : List Queued) (j : ℕ) → IsSplit places queues xs →
     IsSplit (remove places (position_or_len (is_output j) places)) (without_head j queues) (without_first j xs)
-split_left places queues xs j s = search (rules, outputs_left, cond_both, s.queued, own_left, eqb-true, other_left)
+split_left places queues xs j s = search (rules, outputs_left, s.queued, left_queued)
 
 -- ## What is looked up
 
