@@ -10,7 +10,7 @@ pub use Rattle.cq_base.specs.Limits.{most_ports}
 pub use Rattle.cq_base.specs.{Key.is_before, declared.cell.Cell.Cell, declared.cell.Queued.Queued}
 pub use Rattle.cq_rank.specs.Machine.{Machine}
 pub use Rattle.cq_ideal.proofs.Changed.{at_end, at_place, changed_to, item_inside, map_next, map_same, next_place, none_wait, seen_at, take_next}
-pub use Rattle.cq_ideal.proofs.Refusals.{each_once}
+pub use Rattle.cq_ideal.proofs.Counting.{each_once}
 pub use Rattle.cq_ideal.specs.Admission.{Marked, admitted, marked, marks_after}
 unfoldable pub use Rattle.cq_ideal.specs.Admission.{admission}
 pub use Rattle.cq_ideal.specs.Ideal.{count_for}
@@ -29,7 +29,7 @@ pub use Rattle.cq_prefs.specs.Pairing.{IsInputBest, IsMatching, IsStable, Partne
 pub use Rattle.cq_xbar.proofs.OneEach.{partner_or_free, without_length}
 pub use Rattle.cq_xbar.proofs.Turns.{cells-at, cells_in-at}
 pub use Rattle.cq_xbar.specs.Crossbar.{HaveCells, HaveRoom, MovesRoom, buffer_spare, list_at, list_spare, no_buffer, no_list}
-pub use Rattle.cq_laws.proofs.Came.{came_cell, came_from, keyed_from}
+pub use Rattle.cq_laws.proofs.AfterPhases.{came_cell, came_from, keyed_from}
 pub use Rattle.cq_laws.proofs.AfterPhases.{rest_of}
 pub use Rattle.cq_laws.proofs.Sound.{among_insert, from_first, was_waiting, Sound, not_before_itself}
 pub use Rattle.cq_laws.specs.Agreement.{Agrees, SendsAlike}
@@ -46,11 +46,11 @@ pub use Rattle.cq_fabric.specs.Queues.{AreSquare, CanCross, ComeApart, Comes, Fi
 pub use Rattle.cq_fabric.specs.Telling.{AllAreFilled, AreFilled, IsFilled}
 pub use Rattle.cq_fabric.specs.Terms.{IsNewest}
 pub use Rattle.cq_base.proofs.Putting.{length_put}
-pub use Rattle.cq_ideal.proofs.{Admitted.admitted_at, Holding.holds_filled, Sending.length-told, Sending.told_next, Slot.by_marks, Slot.sent_from, Waiting.came_for}
+pub use Rattle.cq_ideal.proofs.{Admitted.admitted_at, Waiting.holds_filled, Sending.length-told, Sending.told_next, Slot.by_marks, Waiting.sent_from, Waiting.came_for}
 pub use Rattle.cq_ideal.specs.IdealRun.{empty_ideal}
 pub use Rattle.cq_prefs.proofs.{Changes.IsSameBut, Changes.same_list, Changes.same_but_arrival, Changes.same_but_taken, Changes.same_without, OneOrder.one_orders, OutputOrder.is_output_order, Places.place_in-le-length}
 pub use Rattle.cq_prefs.specs.Renewal.{AreSameWithout}
 pub use Rattle.cq_laws.proofs.WholeRuns.{empty_agree_at, empty_list}
-pub use Rattle.cq_laws.proofs.{AfterPhases.Keyed, AfterPhases.arrived_sound, AfterPhases.came_or_was, AfterPhases.sent_sound, AfterPhases.moved_sound, Held.hold_as_many, Held.nothing_for, NothingRefused.none_come, NothingRefused.run_with, OneSlot.same_slot, OneSlot.sound_from, QuietSlots.empty_is, QuietSlots.quiet_run}
+pub use Rattle.cq_laws.proofs.{AfterPhases.Keyed, AfterPhases.arrived_sound, AfterPhases.came_or_was, AfterPhases.sent_sound, AfterPhases.moved_sound, IdealOf.hold_as_many, IdealOf.nothing_for, NothingRefused.none_come, NothingRefused.run_with, OneSlot.same_slot, OneSlot.sound_from, QuietSlots.empty_is, QuietSlots.quiet_run}
 pub use Rattle.cq_laws.specs.{LimitedQuiet.quiet_limited_slots}
 pub use Rattle.cq_base.proofs.Having.{all_from_has}

@@ -13,11 +13,11 @@ pub use Rattle.cq_rank.specs.Machine.{Machine, machine_at}
 pub use Rattle.cq_ideal.proofs.Counting.{all_counted_both, counts_fit, counts_left, fewer_left, none_counted, zero_fits}
 pub use Rattle.cq_ideal.specs.{Ending.slots_of, declared.refused.Refused.Refused}
 unfoldable pub use Rattle.cq_ideal.specs.Ending.{arriving_from}
-pub use Rattle.cq_ideal.specs.Refused.{refused_at, refused_in, with_cells, with_refused}
+pub use Rattle.cq_ideal.specs.Refused.{refused_at, refused_in, with_refused}
 unfoldable pub use Rattle.cq_ideal.specs.Refused.{cells_refused, packets_refused, refused_counts}
 pub use Rattle.cq_state.specs.State.{IsInRange, IsNamed}
 pub use Rattle.cq_state.specs.{declared.state.Named.Named, declared.state.Seen.Seen, declared.state.Sent.Sent, declared.state.State.State}
-pub use Rattle.cq_laws.specs.Fabric.{Fabric, IsEmptyFabric, IsFabric, ListsKeepOrder, buffer, cushion_of, empty_fabric, input}
+pub use Rattle.cq_laws.specs.Fabric.{Fabric, IsEmptyFabric, IsFabric, ListsKeepOrder, buffer, cushion_of, input}
 pub use Rattle.cq_laws.specs.Frozen.{AreCountsOf, AreOwn, HasPorts, IsSoundFabric, fabric_in, marked_in}
 pub use Rattle.cq_resume.specs.Counted.{IsTally, departure_of, input_told, latest, output_told, sent_told}
 unfoldable pub use Rattle.cq_resume.specs.Counted.{figures_told, frozen_told}
@@ -36,9 +36,9 @@ pub use Rattle.cq_pcap.specs.Captured.{Captured}
 pub use Rattle.cq_cells.specs.{NextArrival.ArrivesIn, NextArrival.IsNextArrival}
 pub use Rattle.cq_cells.proofs.{Looked.piece, Packets.ends_before, Pieces.cells_above}
 pub use Rattle.cq_rank.specs.{Classes.row_at, Switch.AreSized}
-pub use Rattle.cq_ideal.proofs.{Admitted.no_arrivals_refuse_none, Parted.arriving_length, Parted.arriving_parts, Parted.quiet_from, Refusals.counts_more}
+pub use Rattle.cq_ideal.proofs.{Admitted.no_arrivals_refuse_none, Parted.arriving_length, Parted.arriving_parts, Parted.quiet_from, Counting.counts_more}
 pub use Rattle.cq_prefs.specs.Pairing.{IsInputBest}
 pub use Rattle.cq_laws.proofs.{AddingUp.map-constant, Parted.all_go_on, Parted.departures_on, Parted.transfers_both, NothingRefused.none_come, NothingRefused.run_with, OneRun.only_limited_run, Parted.parts, Parted.run_length, QuietSlots.empty_is, QuietSlots.adds_nothing, QuietSlots.quiet_run, Sound.Apart, Sound.Early, Sound.all_before, Sound.differ_from}
-pub use Rattle.cq_laws.specs.{Holding.held_for, Holding.waiting_for, LimitedFabric.IsLimitedFault, LimitedFabric.LimitedFabricSlot, LimitedFabric.LimitedRecord, LimitedFabric.admissions_in, LimitedFabric.slots_in, LimitedQuiet.quiet_limited_slots, Quiet.idled, Quiet.idled_for, Quiet.quiet_slots, SlotBySlot.GoOn, SlotBySlot.IsOneRun, SlotBySlot.RunBy, SlotBySlot.StopBy, declared.frozen.Frozen.Frozen}
+pub use Rattle.cq_laws.specs.{Holding.held_for, Holding.waiting_for, LimitedFabric.IsLimitedFault, LimitedFabric.LimitedFabricSlot, LimitedFabric.LimitedRecord, LimitedFabric.admissions_in, LimitedFabric.slots_in, LimitedQuiet.quiet_limited_slots, Quiet.idled, Quiet.quiet_slots, SlotBySlot.GoOn, SlotBySlot.IsOneRun, SlotBySlot.RunBy, SlotBySlot.StopBy, declared.frozen.Frozen.Frozen}
 pub use Rattle.cq_base.proofs.Having.{all_from_has, all_has, all_of_has, any_alike, has_all, has_at, has_cases, has_image, has_kept, has_left, has_right, has_there, image_has, kept_has, pair_of_has}
 pub use Rattle.cq_base.proofs.Pooled.{AreApart, all_pairs, each_pair, image_at, kept_few, looked_few, looked_up, no_more, numbers_few, pairs_cross, pairs_kept_with, pairs_left, pairs_looked_up, pairs_mapped}

@@ -3,10 +3,10 @@
 -- The departures are the arrivals, and every packet leaves with its last cell, which alone is marked as last.
 use Rattle.cq_run.proofs.Terms.{common_steps, ◌≡◌, ℕ, zero, suc, ◌+◌, ◌≤◌, Bool, List, [], ◌∷◌, map, replicate, Option, Some, None, Ok, refl, sym, arith, rules, ◌-◌, ◌*◌, flat_map, ◌==◌, append-nil, AllByRecursion, range_with_len, filter, cases_eq, eq-eqb, Arrival, arriving, arriving_at, end_of, enough, Departure, filter-append, arrivals, arrivals_at, arrivals_of, cell_of, cells, t0_of, packet_at, start, IsInRange, IsLater, IsTraffic, traffic_is, all_weaker, run_as_before, same_sent, Captured, AreTables, classes_of, ports_of, Tables, machines_of, openings_of, ideal_departures, ran_ideal, ends_packet_at, leaving, packets_out, all_leave, as_it_leaves, ne_eqb, Cell, Queued, Machine, arriving_is, first_slot, ranked_none, NoLimits, all_slots, before_end, OutPacket, one_is, most_ports, EachPair, all_both, ◌++◌, length}
 use Rattle.cq_base.proofs.{Each.filter_all, Each.filter_none, Pooled.each_pair}
-use Rattle.cq_base.proofs.Library.{filter_agree, le-leb, lt-leb, map-append}
+use Rattle.cq_base.proofs.Library.{filter_agree, le-leb, lt-leb, map-append, option_to_list}
 use Rattle.cq_cells.proofs.Pieces.{cells_above}
 use Rattle.cq_ideal.proofs.{Came.nobody_left, Resting.none_at, Waiting.filled_next}
-use Rattle.cq_ideal.proofs.FlowCount.{all_found, cell_listed, found, found_here, found_none, other_slot}
+use Rattle.cq_ideal.proofs.FlowCount.{all_found, found, found_here, found_none, other_slot}
 use Rattle.cq_ideal.specs.Ending.{arriving_from}
 use Rattle.cq_ideal.specs.IdealRun.{Ran, departures_of, ideal_run}
 use Rattle.cq_ideal.specs.IdealSlot.{IdealState, Sent, departures_in, filled, ideal_slot}
@@ -66,9 +66,9 @@ pub record AreInSlot (came : List Arrival) (sent : List Departure) : Type 0 wher
 
 module _ (ms : List Machine) (slot : ℕ) (ranks : List (List ℕ)) where
   -- the cell that comes, if one does, leaves
-  slot_sent : (n : ℕ) (o : Option Cell) (sent : Sent) → AllByRecursion (λ cell. cell.output ≡ 0) (cell_listed o) →
+  slot_sent : (n : ℕ) (o : Option Cell) (sent : Sent) → AllByRecursion (λ cell. cell.output ≡ 0) (option_to_list o) →
       ideal_slot ms slot (o ∷ replicate n None) (alone ranks) ≡ Ok sent →
-      AreInSlot (map (as_come slot) (cell_listed o)) (departures_in slot sent.gone)
+      AreInSlot (map (as_come slot) (option_to_list o)) (departures_in slot sent.gone)
       × (sent.after ≡ alone sent.after.ranks)
   unfolding departures_in ideal_slot
   slot_sent n o sent out h =

@@ -21,7 +21,7 @@ pub use Rattle.cq_rank.specs.Switch.{class_count}
 pub use Rattle.cq_scfq.specs.Discipline.{machine_from}
 pub use Rattle.cq_scfq.specs.Disciplines.{machine_of, machines_of, openings_of}
 pub use Rattle.cq_ideal.proofs.AtInput.{come_in_order, comes_at_input, comes_from, line_at, rest_of}
-pub use Rattle.cq_ideal.proofs.Counting.{counts_fit, none_counted, zero_fits}
+pub use Rattle.cq_ideal.proofs.Counting.{counts_fit, none_counted, zero_fits, counts_more, each_once}
 pub use Rattle.cq_ideal.proofs.Parted.{all_slots, none_waits, nothing_left, arriving_here, arriving_length, arriving_parts, departures_append}
 pub use Rattle.cq_ideal.proofs.FlowCount.{come_count-first, come_count-traffic_of, none_after, all_found, all_present}
 unfoldable pub use Rattle.cq_ideal.proofs.FlowCount.{found}
@@ -31,7 +31,6 @@ unfoldable pub use Rattle.cq_ideal.proofs.FlowRun.{come_count}
 unfoldable pub use Rattle.cq_ideal.proofs.FlowStands.{of_flow}
 pub use Rattle.cq_ideal.proofs.LimitedEnds.{limited_found_end, limited_same_sent, limited_whole_fault, run_as_before, slots_as_before}
 pub use Rattle.cq_ideal.proofs.LimitedRuns.{is_run_of, judged, run_fault}
-pub use Rattle.cq_ideal.proofs.Refusals.{counts_more, each_once}
 pub use Rattle.cq_ideal.proofs.Waiting.{counted, total_same}
 unfoldable pub use Rattle.cq_ideal.proofs.Waiting.{total, waiting}
 pub use Rattle.cq_ideal.specs.Admission.{Admission, Marked, NoLimits, admitted, is_first, nothing_refused, refused}
@@ -55,9 +54,9 @@ pub use Rattle.cq_reasm.specs.Joining.{JoinerView, open_at}
 pub use Rattle.cq_state.specs.{State.IsInRange, declared.state.Sent.Sent, declared.state.State.State}
 pub use Rattle.cq_prefs.specs.FirstCells.{list_of, orders_of, output_order}
 pub use Rattle.cq_prefs.specs.Pairing.{IsInputBest, IsMatching, IsStable, Partners, partner_of, proposals, spent}
-pub use Rattle.cq_laws.proofs.{IdealOf.agrees_of, Recorded.recorded}
+pub use Rattle.cq_laws.proofs.{IdealOf.agrees_of, LimitedWhole.recorded}
 pub use Rattle.cq_laws.proofs.InputBest.{stable_limited_slot, stable_limited_too, stable_slot}
-pub use Rattle.cq_laws.proofs.LimitedEnds.{limited_ends, one_limited_whole}
+pub use Rattle.cq_laws.proofs.EndsTogether.{limited_ends, one_limited_whole}
 pub use Rattle.cq_laws.proofs.LimitedSlots.{admission_for_ports, same_limited_slot}
 pub use Rattle.cq_laws.proofs.OneRun.{only_limited_run, outputs_at}
 pub use Rattle.cq_laws.proofs.OneSlot.{after_sent, arrived, same_slot, slack_arrived}
@@ -108,13 +107,13 @@ pub use Rattle.cq_base.proofs.Having.{all_from_has, all_has, all_of_has, any_ali
 pub use Rattle.cq_base.proofs.Pooled.{each_pair, has_looked_up, looked_up, pairs_joined, pairs_kept, pairs_kept_with, pairs_looked_up, pairs_mapped, pairs_with, same_pairs}
 pub use Rattle.cq_cells.proofs.Stamps.{length-rows_from}
 pub use Rattle.cq_ideal.proofs.EnoughSlots.{waiting-empty}
-pub use Rattle.cq_ideal.proofs.{EachLeaves.each_leaves_or_is_refused, EachLeaves.refuses_none_elsewhere, FlowLaw.all_in_range, FlowLaw.class_in_slot, FlowLaw.none_came, FlowOn.flow_on, FlowOn.flows_leave_in_packets, FlowOn.whole_on, LastSlot.slots_within, LimitedLast.last_departs, LimitedLast.limited_slots, AtInput.StandAt, AtInput.stand_in}
+pub use Rattle.cq_ideal.proofs.{EachLeaves.each_leaves_or_is_refused, EachLeaves.refuses_none_elsewhere, FlowLaw.all_in_range, FlowLaw.class_in_slot, FlowLaw.none_came, FlowLaw.flow_on, FlowLaw.flows_leave_in_packets, FlowLaw.whole_on, LastSlot.slots_within, LastSlot.last_departs, LastSlot.limited_slots, AtInput.StandAt, AtInput.stand_in}
 pub use Rattle.cq_ideal.specs.{EachOnce.KeepTheirOutput, EachOnce.LeaveOrAreRefused, OneSlot.CanHaveSlot, OneSlot.HasHadSlot, OneSlot.IsSameSwitch}
 pub use Rattle.cq_reasm.specs.{Open.Open}
 pub use Rattle.cq_state.specs.declared.state.Named.{Named}
 pub use Rattle.cq_prefs.specs.Orders.{Orders}
 pub use Rattle.cq_prefs.proofs.{InputOrder.OutputsInRange, InputOrder.are_offers, Places.outputs_at_most}
 pub use Rattle.cq_laws.specs.{Frozen.fabric_in, Frozen.IsSoundFabric, LimitedQuiet.quiet_limited_slots, Phases.Transfers, Phases.came_to, Phases.list_arrived}
-pub use Rattle.cq_laws.proofs.{ActingAlike.best_act_alike_from_empty, ActingAlike.best_act_alike, AddingUp.figures_fold, Came.came_from, EndsTogether.slots_of_figures, Held.hold_as_many, Held.nothing_for, Parted.all_go_on, Parted.departures_one, Parted.transfers_one, Sound.first_at, Parted.run_length, Parted.run_of_whole}
+pub use Rattle.cq_laws.proofs.{ActingAlike.best_act_alike_from_empty, ActingAlike.best_act_alike, AddingUp.figures_fold, AfterPhases.came_from, EndsTogether.slots_of_figures, IdealOf.hold_as_many, IdealOf.nothing_for, Parted.all_go_on, Parted.departures_one, Parted.transfers_one, Sound.first_at, Parted.run_length, Parted.run_of_whole}
 pub use Rattle.cq_resume.specs.Parts.{IsParted}
 pub use Rattle.cq_engine.proofs.{Kept.limited_lists_kept, Kept.limited_outputs_kept}

@@ -1,7 +1,7 @@
 -- Arrivals at the ports of a switch. No arrivals are for any ports, and one cell more, for one of the ports, is for
 -- them too. And no more cells come for an output, are admitted there, or are refused than there are places.
 use Rattle.cq_slot_trials.proofs.Terms.{rules, ◌≡◌, ℕ, ◌<◌, ◌≤◌, Bool, List, [], ◌∷◌, length, Option, Some, ap, ◌⊎◌, arith, get_or-set_same, get_or-set_other, cases_lt, set_past, unwrap_or-slice_get, Cell, arrival_at, no_arrivals, with_arrival, Admission, admission, refused, count_for, AreForPorts, common_steps, cases_eq, arrival_at-no_arrivals}
-use Rattle.cq_ideal.proofs.Refusals.{each_once}
+use Rattle.cq_ideal.proofs.Counting.{each_once}
 
 -- nothing comes where nothing came
 none_at : (input : ℕ) (cell : Cell) → arrival_at no_arrivals input ≡ Some cell → ⊥

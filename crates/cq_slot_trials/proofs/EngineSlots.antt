@@ -6,7 +6,7 @@ use Rattle.cq_base.specs.Room.{RoomView}
 use Rattle.cq_laws.proofs.InputBest.{stable_slot}
 use Rattle.cq_laws.specs.Fabric.{input}
 use Rattle.cq_laws.specs.Holding.{held_for}
-use Rattle.cq_laws.proofs.Held.{nothing_for}
+use Rattle.cq_laws.proofs.IdealOf.{nothing_for}
 use Rattle.cq_laws.proofs.WholeRuns.{empty_list}
 use Rattle.cq_fabric.proofs.Kept.{lists_kept, outputs_kept}
 use Rattle.cq_slot_trials.proofs.Arriving.{admitted_most, count_most, refusals_most}

@@ -3,7 +3,7 @@
 -- a run: what a slot adds to the departures, at each output the cell that it sent, if it sent one; that those of a slot
 -- stand in order, by output; what is asked of transfers; and the figures that are read off the departures. Last the
 -- arrivals at one input, which tell the marks.
-use Rattle.cq_stopped.proofs.Terms.{list_any, filter_none, ◌≡◌, ℕ, zero, suc, ◌+◌, ◌<◌, List, [], ◌∷◌, ◌++◌, Option, Some, None, refl, arith, rules, length, map, ◌-◌, Bool, eq-eqb, ne_eqb, and_parts, cases_lt, eqb-true, common_steps, map-append, get_or_past, length-map, filter-append, sum_by-cons, AllByRecursion, range_with_len, cons_option, enumerate_from, ◌==◌, filter, slice_index_or, count_by, filter_map, is_some, option_map, Departure, Queued, Transfer, listed, departures_of, departures_from, departures_in, SlotRecord, LimitedRecord, slots_in, output_figures, sent_by, wait_at, came_to, gone_in, EachPair, Differ, all_from_has, Has, has_image, has_kept, kept_has, AreApart, no_more, pairs_kept, input_told, output_told, seen_as, IsTransferBefore, Named, State, has_number, AreNumbered, IsMoved, range_rises, any_has, has_any, InputFigures, Seen, true, ⊎_elim, AllPairs, flat_map, append-nil, all_pairs, pairs_with, has_left, has_right, has_cases, sym, fill_by_all, pairs_joined, pairs_mapped, all_give, filter_all, fits_ok, after_input_ok, only_ok, Ok, ranking, Ranking, Machine, sum_by, eqb, false, length-append, and_right, cases_Bool, le-ltb, lt-leb, not, arrival_at, Arrival, arriving, arriving_at, Cell, is_from, admitted_at, marks_kept, Marked, admission, held_after, mark_after, mark_at, marks_after, arriving_from, cells_refused, packets_refused, with_refused, Fabric, fabric_held, admissions_in, found_at, ComeBehind, IsLine, coming, has_limit, mark_on, Runs, Switch, ArrivesIn, refused_here, where_up, Refused, is_between, one_comes, whole, cells_in, most_ports}
+use Rattle.cq_stopped.proofs.Terms.{list_any, filter_none, ◌≡◌, ℕ, zero, suc, ◌+◌, ◌<◌, List, [], ◌∷◌, ◌++◌, Option, Some, None, refl, arith, rules, length, map, ◌-◌, Bool, eq-eqb, ne_eqb, and_parts, cases_lt, eqb-true, common_steps, map-append, get_or_past, length-map, filter-append, sum_by-cons, AllByRecursion, range_with_len, cons_option, enumerate_from, ◌==◌, filter, slice_index_or, count_by, filter_map, is_some, option_map, Departure, Queued, Transfer, option_to_list, departures_of, departures_from, departures_in, SlotRecord, LimitedRecord, slots_in, output_figures, sent_by, wait_at, came_to, gone_in, EachPair, Differ, all_from_has, Has, has_image, has_kept, kept_has, AreApart, no_more, pairs_kept, input_told, output_told, seen_as, IsTransferBefore, Named, State, has_number, AreNumbered, IsMoved, range_rises, any_has, has_any, InputFigures, Seen, true, ⊎_elim, AllPairs, flat_map, append-nil, all_pairs, pairs_with, has_left, has_right, has_cases, sym, fill_by_all, pairs_joined, pairs_mapped, all_give, filter_all, fits_ok, after_input_ok, only_ok, Ok, ranking, Ranking, Machine, sum_by, eqb, false, length-append, and_right, cases_Bool, le-ltb, lt-leb, not, arrival_at, Arrival, arriving, arriving_at, Cell, is_from, admitted_at, marks_kept, Marked, admission, held_after, mark_after, mark_at, marks_after, arriving_from, cells_refused, packets_refused, with_refused, Fabric, fabric_held, admissions_in, found_at, ComeBehind, IsLine, coming, has_limit, mark_on, Runs, Switch, ArrivesIn, refused_here, where_up, Refused, is_between, one_comes, whole, cells_in, most_ports}
 use Rattle.cq_stopped.proofs.Ran.{DepartsBefore, left_at, came_in, came_of, is_name_at}
 use Rattle.cq_ideal.proofs.AtInput.{is_shown}
 
@@ -113,7 +113,7 @@ module _ (j : ℕ) where
 
   -- what left an output with this slot
   pub left_more : (slot : ℕ) (sent : List Departure) (gone : List (Option Queued)) →
-      left_at j (sent ++ departures_in slot gone) ≡ left_at j sent ++ listed (slice_index_or gone j None)
+      left_at j (sent ++ departures_in slot gone) ≡ left_at j sent ++ option_to_list (slice_index_or gone j None)
   unfolding departures_in
   left_more slot sent gone = grind (arith, common_steps, filter-append, map-append, its_one slot 0 j)
 

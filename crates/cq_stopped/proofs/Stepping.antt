@@ -5,7 +5,7 @@
 -- more than came. The ranks of what comes and of what leaves fit, so the numbers of the rank states do. A slot that
 -- proposes sends a cell, which pays for what it proposes (`slot_proposed` of `cq_simulate`). So a run proposes no more
 -- than the cells that came pay for.
-use Rattle.cq_stopped.proofs.Terms.{rules, ◌≡◌, ℕ, zero, suc, ◌+◌, ◌<◌, ◌≤◌, List, [], ◌∷◌, ◌++◌, length, Option, Some, None, Ok, ◌∙◌, ◌⊎◌, ⊎_elim, arith, length-append, cases_lt, common_steps, append_assoc, get_or-append-add, get_or-map, get_or_append_left, get_or_past, length-map, ◌↔◌, append-nil, get_or-replicate, length-replicate, AllByRecursion, slice_get, slice_index_or, arrival_at, arriving, arriving_at, Cell, Departure, Queued, admitted_arrives, Came, came_from, present, Served, listed, served, HasWaited, Marked, admission, arriving_from, departures_of, empty_ideal, IdealState, departures_from, departures_in, filled, ideal_slot, put_all, AreForPorts, ranking, CameFor, Keyed, limited_empty_agree, keyed, ports_kept, same_slot, SendsAlike, Fabric, input, empty_fabric, FabricSlot, LimitedFabricSlot, LimitedRecord, slots_in, came_to, gone_in, list_of, IsInputBest, IsStable, all_both, all_weaker, found_at, has_there, Has, all_from_has, all_of_has, has_cases, has_left, has_right, Runs, Switch, fewer, length-filled, rest_of, among_put_all, list_after, put_all_keeps, put_all_new, stable_slot, admission_for_ports, arrivals_for, place_of, came_or_was, was_waiting, marks_kept, IsBefore, EachPair, pairs_cross, pairs_joined, IsFabric, IsCount, get_or-map-range_with_len, length-map-range_with_len, ◌*◌, ◌-◌, fold, max, length-insert, sum_by-append, sum_by-cons, flat_map, sum, buffer, SlotRecord, fabric_held, proposals_in, waiting-empty, all_wait, All-set, All-from_recursion, recursion_from_All, ◌^◌, true, refl, cases_eq, ltb-true, eq-eqb, le-ltb, lt-ltb, get_or-set_other, get_or-set_same, length-set, same_Some, slice_set, only_ok, all_told, Ranking, KeepLaws, Machine, machine_at, after_input_ok, Key, given_floor, all_made, IsRising, never_both, not_before_itself, pair_of_has, pairs_left, pairs_right, rising_put_all}
+use Rattle.cq_stopped.proofs.Terms.{rules, ◌≡◌, ℕ, zero, suc, ◌+◌, ◌<◌, ◌≤◌, List, [], ◌∷◌, ◌++◌, length, Option, Some, None, Ok, ◌∙◌, ◌⊎◌, ⊎_elim, arith, length-append, cases_lt, common_steps, append_assoc, get_or-append-add, get_or-map, get_or_append_left, get_or_past, length-map, ◌↔◌, append-nil, get_or-replicate, length-replicate, AllByRecursion, slice_get, slice_index_or, arrival_at, arriving, arriving_at, Cell, Departure, Queued, admitted_arrives, Came, came_from, present, Served, option_to_list, served, HasWaited, Marked, admission, arriving_from, departures_of, empty_ideal, IdealState, departures_from, departures_in, filled, ideal_slot, put_all, AreForPorts, ranking, CameFor, Keyed, limited_empty_agree, keyed, ports_kept, same_slot, SendsAlike, Fabric, input, empty_fabric, FabricSlot, LimitedFabricSlot, LimitedRecord, slots_in, came_to, gone_in, list_of, IsInputBest, IsStable, all_both, all_weaker, found_at, has_there, Has, all_from_has, all_of_has, has_cases, has_left, has_right, Runs, Switch, fewer, length-filled, rest_of, among_put_all, list_after, put_all_keeps, put_all_new, stable_slot, admission_for_ports, arrivals_for, place_of, came_or_was, was_waiting, marks_kept, IsBefore, EachPair, pairs_cross, pairs_joined, IsFabric, IsCount, get_or-map-range_with_len, length-map-range_with_len, ◌*◌, ◌-◌, fold, max, length-insert, sum_by-append, sum_by-cons, flat_map, sum, buffer, SlotRecord, fabric_held, proposals_in, waiting-empty, all_wait, All-set, All-from_recursion, recursion_from_All, ◌^◌, true, refl, cases_eq, ltb-true, eq-eqb, le-ltb, lt-ltb, get_or-set_other, get_or-set_same, length-set, same_Some, slice_set, only_ok, all_told, Ranking, KeepLaws, Machine, machine_at, after_input_ok, Key, given_floor, all_made, IsRising, never_both, not_before_itself, pair_of_has, pairs_left, pairs_right, rising_put_all}
 use Rattle.cq_ideal.proofs.Waiting.{sent_by}
 use Rattle.std.proofs.lemmas.List.Sums.{get_or-le-sum_by}
 use Rattle.cq_ideal.proofs.FlowRun.{come_count}
@@ -256,7 +256,9 @@ module _ (w : Switch) (ranks : List (List ℕ)) (configured : IsConfigured w ran
 
     -- what left and what waits
     pool_is : (j : ℕ) → j < length w.machines → pool_at j sent_next next ≡ left j ++ full j
-    pool_is j inside = grind (arith, common_steps, left_more, listed, gone_is, made_is, rest_of, full_is, append_assoc)
+    pool_is j inside =
+        let more = left_more j n sent r.of_slot.gone in
+        grind (arith, common_steps, more, option_to_list, gone_is, made_is, rest_of, full_is, append_assoc)
 
     -- it did so before the slot, or came
     was_or_new : (j : ℕ) (q : Queued) → Has (left j ++ full j) q → Has (left j ++ waiting j) q ⊎ CameFor came j q

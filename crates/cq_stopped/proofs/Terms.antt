@@ -1,5 +1,5 @@
 -- The words of this crate's proofs that stand elsewhere, each passed on from its place.
-pub use Rattle.cq_base.proofs.Library.{All-from_recursion, All-replicate, All-set, AllByRecursion, AllPairs, Bool, IsSome, List, None, Ok, Option, Some, [], and_from, and_parts, and_right, ap, append-nil, append_assoc, arith, cases_Bool, cases_eq, cases_lt, common_steps, cons_option, count_by, enumerate_from, eq-eqb, eqb, eqb-true, false, fill_by_all, filter, filter-append, filter_map, flat_map, fold, get_or-append-add, get_or-map, get_or-map-range_with_len, get_or-replicate, get_or-set_other, get_or-set_same, get_or_append_left, get_or_default, get_or_past, inl, inr, is_some, le-ltb, length, length-append, length-insert, length-map, length-map-range_with_len, length-replicate, length-set, list_any, lt-leb, lt-ltb, ltb-true, map, map-append, max, min, ne_eqb, not, option_map, range_with_len, recursion_from_All, refl, rules, same_Some, slice_get, slice_index_or, slice_set, suc, sum, sum_by, sum_by-append, sum_by-cons, sym, true, zero, ℕ, ⊎_elim, ◌&&◌, ◌*◌, ◌++◌, ◌+◌, ◌-◌, ◌<◌, ◌==◌, ◌^◌, ◌↔◌, ◌∙◌, ◌∷◌, ◌≡◌, ◌≢◌, ◌≤◌, ◌⊎◌}
+pub use Rattle.cq_base.proofs.Library.{All-from_recursion, All-replicate, All-set, AllByRecursion, AllPairs, Bool, IsSome, List, None, Ok, Option, Some, [], and_from, and_parts, and_right, ap, append-nil, append_assoc, arith, cases_Bool, cases_eq, cases_lt, common_steps, cons_option, count_by, enumerate_from, eq-eqb, eqb, eqb-true, false, fill_by_all, filter, filter-append, filter_map, flat_map, fold, get_or-append-add, get_or-map, get_or-map-range_with_len, get_or-replicate, get_or-set_other, get_or-set_same, get_or_append_left, get_or_default, get_or_past, inl, inr, is_some, le-ltb, length, length-append, length-insert, length-map, length-map-range_with_len, length-replicate, length-set, list_any, lt-leb, lt-ltb, ltb-true, map, map-append, max, min, ne_eqb, not, option_map, range_with_len, recursion_from_All, refl, rules, same_Some, slice_get, slice_index_or, slice_set, suc, sum, sum_by, sum_by-append, sum_by-cons, sym, true, zero, ℕ, ⊎_elim, ◌&&◌, ◌*◌, ◌++◌, ◌+◌, ◌-◌, ◌<◌, ◌==◌, ◌^◌, ◌↔◌, ◌∙◌, ◌∷◌, ◌≡◌, ◌≢◌, ◌≤◌, ◌⊎◌, option_to_list}
 pub use Rattle.cq_base.specs.{Arrivals.arrival_at, declared.cell.Cell.Cell, declared.cell.Departure.Departure, declared.cell.Queued.Queued, declared.cell.Transfer.Transfer}
 pub use Rattle.cq_base.specs.Arriving.{Arrival, arriving_at}
 unfoldable pub use Rattle.cq_base.specs.Arriving.{arriving}
@@ -16,7 +16,7 @@ pub use Rattle.cq_ideal.proofs.Admitted.{admitted_arrives, admitted_at, marks_ke
 pub use Rattle.cq_ideal.proofs.Came.{Came, came_from}
 pub use Rattle.cq_ideal.proofs.{EnoughSlots.fewer, FlowStands.HasWaited}
 pub use Rattle.cq_ideal.proofs.FlowStands.{after_input_ok, fits_ok, only_ok, present}
-pub use Rattle.cq_ideal.proofs.FlowRun.{Served, listed, served}
+pub use Rattle.cq_ideal.proofs.FlowRun.{Served, served}
 pub use Rattle.cq_ideal.specs.Admission.{Marked, held_after, mark_after, mark_at, marks_after}
 unfoldable pub use Rattle.cq_ideal.specs.Admission.{admission}
 pub use Rattle.cq_ideal.specs.{IdealRun.empty_ideal}
@@ -71,9 +71,9 @@ pub use Rattle.cq_laws.proofs.AddingUp.{figures_fold}
 pub use Rattle.cq_ideal.proofs.Waiting.{length-filled}
 pub use Rattle.cq_base.proofs.Having.{all_from_has, all_of_has, any_has, has_all, has_any, has_cases, has_image, has_kept, has_left, has_right, has_there, image_has, kept_has, pair_of_has}
 pub use Rattle.cq_base.proofs.Pooled.{AreApart, all_pairs, each_pair, has_number, no_more, pairs_cross, pairs_joined, pairs_kept, pairs_left, pairs_mapped, pairs_right, pairs_with}
-pub use Rattle.cq_laws.proofs.{EndsTogether.slots_of_figures, Recorded.recorded}
+pub use Rattle.cq_laws.proofs.{EndsTogether.slots_of_figures, LimitedWhole.recorded}
 pub use Rattle.cq_ideal.proofs.EnoughSlots.{waiting-empty}
-pub use Rattle.cq_ideal.proofs.{FlowCount.come_count-first, FlowLaw.all_in_range, Packets.refused_here, Parted.arriving_length, Refusals.counts_more}
+pub use Rattle.cq_ideal.proofs.{FlowCount.come_count-first, FlowLaw.all_in_range, Packets.refused_here, Parted.arriving_length, Counting.counts_more}
 pub use Rattle.cq_ideal.specs.{Limiter.where_up, declared.refused.Refused.Refused}
 pub use Rattle.cq_state.specs.declared.state.Seen.{Seen}
 pub use Rattle.cq_laws.proofs.{AfterPhases.rest_of, IdealLists.among_put_all, IdealLists.list_after, IdealLists.put_all_keeps, IdealLists.put_all_new, IdealLists.rising_put_all, InputBest.stable_slot, InputBest.stable_limited_too, LimitedSlots.admission_for_ports, WholeRuns.empty_list}

@@ -1,7 +1,7 @@
 -- What arrives in a slot is for the ports and of the classes, and each cell comes at its own input. It is found among
 -- all cells that come, and what holds of each of these holds of it. And stretches of slots in which no cell arrives: no
 -- cell comes before the next arrival, so up to it there is nothing that comes at any input.
-use Rattle.cq_traffic.proofs.Terms.{is_shown, length-arriving, common_steps, ◌≡◌, ℕ, ◌<◌, List, [], ◌∷◌, rules, Some, arith, AllByRecursion, cases_lt, get_or_past, unwrap_or-slice_get, Cell, arrival_at, Arrival, arriving, arriving_at, IsInRange, IsTraffic, arriving_from, cell_listed, found, most_ports, fill_by_all, sym, length-replicate, get_or-replicate, zero, suc, ◌+◌, ◌≤◌, replicate, Option, None, refl, ◌∙◌, min, unwrap_or, ne_eqb, no_arrivals, end_of, arriving_is, all_weaker}
+use Rattle.cq_traffic.proofs.Terms.{is_shown, length-arriving, common_steps, ◌≡◌, ℕ, ◌<◌, List, [], ◌∷◌, rules, Some, arith, AllByRecursion, cases_lt, get_or_past, unwrap_or-slice_get, Cell, arrival_at, Arrival, arriving, arriving_at, IsInRange, IsTraffic, arriving_from, option_to_list, found, most_ports, fill_by_all, sym, length-replicate, get_or-replicate, zero, suc, ◌+◌, ◌≤◌, replicate, Option, None, refl, ◌∙◌, min, unwrap_or, ne_eqb, no_arrivals, end_of, arriving_is, all_weaker}
 use Rattle.cq_ideal.proofs.FlowLaw.{all_in_range}
 use Rattle.cq_ideal.specs.Ranking.{AreForPorts}
 use Rattle.cq_cells.specs.NextArrival.{ArrivesIn, IsNextArrival}
@@ -18,7 +18,7 @@ record Fits (ports classes k : ℕ) (cell : Cell) : Type 0 where
 pub one_found : (P : Cell → Type 0) (came : List Arrival) (t k : ℕ) (cell : Cell) →
     AllByRecursion P (found came t k) → arriving_at came t k ≡ Some cell → P cell
 unfolding found
-one_found P came t k cell all is = grind (arith, common_steps, cell_listed)
+one_found P came t k cell all is = grind (arith, common_steps, option_to_list)
 
 arriving_fits : (ports classes : ℕ) (came : List Arrival) (t k : ℕ) (cell : Cell) →
     AllByRecursion (IsInRange ports classes) came → arriving_at came t k ≡ Some cell → Fits ports classes k cell

@@ -1,7 +1,7 @@
 -- What is still to come at one input, and for one output. Each arrival adds one cell at most to what comes at its
 -- input. Cells that are for an output weigh one, and the others nothing: so no more cells come for it than there are
 -- arrivals for it.
-use Rattle.cq_traffic.proofs.Terms.{rules, common_steps, ◌≡◌, ℕ, zero, suc, ◌+◌, ◌≤◌, Bool, cond, List, [], ◌∷◌, ◌++◌, length, Option, Some, None, refl, arith, is_some, cases_eq, eq-eqb, map-range_with_len_more, arrival_at, Arrival, arriving, Cell, number_of, is_from, found, found_here, found_none, other_slot, other_input, total, total_none, total_more, arriving_from, first_slots, map, range_with_len, enough, traffic_of, is_to, cell_listed, sum_by, sum_by-cons, sum_by-append}
+use Rattle.cq_traffic.proofs.Terms.{rules, common_steps, ◌≡◌, ℕ, zero, suc, ◌+◌, ◌≤◌, Bool, cond, List, [], ◌∷◌, ◌++◌, length, Option, Some, None, refl, arith, is_some, cases_eq, eq-eqb, map-range_with_len_more, arrival_at, Arrival, arriving, Cell, number_of, is_from, found, found_here, found_none, other_slot, other_input, total, total_none, total_more, arriving_from, first_slots, map, range_with_len, enough, traffic_of, is_to, option_to_list, sum_by, sum_by-cons, sum_by-append}
 use Rattle.cq_traffic.proofs.Arriving.{place_of}
 use Rattle.cq_ideal.proofs.FlowCount.{weighed}
 use Rattle.cq_ideal.specs.Ideal.{count_for}
@@ -84,7 +84,7 @@ module _ (j : ℕ) where
   count_to cells = count_for j (map (λ (cell : Cell). Some cell) cells)
 
   count_for-cons : (o : Option Cell) (cells : List (Option Cell)) →
-      count_for j (o ∷ cells) ≡ count_to (cell_listed o) + count_for j cells
+      count_for j (o ∷ cells) ≡ count_to (option_to_list o) + count_for j cells
   count_for-cons o cells = grind (arith, common_steps)
 
   one_more_to : (a : Arrival) (came : List Arrival) →
