@@ -1,6 +1,6 @@
 -- Pieces of an array. The piece of n items from h on is take n (drop h xs). A part of the array that is written anew
 -- leaves what stands ahead of it and behind it.
-use Rattle.cq_urgency.proofs.Terms.{common_steps, rules, ◌≡◌, ℕ, ◌+◌, ◌-◌, ◌<◌, ◌≤◌, List, ◌∷◌, ◌++◌, length, set, take, drop, append_assoc, length-append, length-take, length-drop, arith, insert, take-take, take_at, drop-drop, drop-append-le, drop_more, drop_all, drop-take, take-paste, take_all}
+use Rattle.cq_urgency.proofs.Terms.{common_steps, rules, ◌≡◌, ℕ, ◌+◌, ◌-◌, ◌<◌, ◌≤◌, List, ◌∷◌, ◌++◌, length, set, take, drop, append_assoc, length-append, length-take, length-drop, arith, insert, take-take, take_at, drop-drop, drop-append-le, drop_more, drop_all, drop-take, take-paste, take_all, ◌∙◌, ap}
 
 pub length_piece : {X : Type 0} (xs : List X) (h n : ℕ) → h + n ≤ length xs → length (take n (drop h xs)) ≡ n
 length_piece xs h n inside = let few = length-take n (drop h xs) in let left = length-drop h xs in omega arith
@@ -33,3 +33,23 @@ pub put_on_front : {X : Type 0} (xs ys rest : List X) (y : X) (n p m : ℕ) → 
 put_on_front xs ys rest y n p m sum inside = grind (arith, common_steps, put_on xs ys rest y 0 n p m sum)
 
 pub ruleset piece_steps = (length_piece, take-take, take-paste, length-drop, take_all, put_on, put_on_front)
+
+-- ## The second half of a full array taken over
+
+-- a piece of as many items as the array is the array
+pub whole_piece : {X : Type 0} (xs : List X) (h n : ℕ) → h + n ≤ length xs →
+    length (take n (drop h xs)) ≡ length xs → take n (drop h xs) ≡ xs
+whole_piece xs h n inside all =
+    let size = length_piece xs h n inside in
+    let none : h ≡ 0 = omega arith in
+    rw none (take_all n xs (omega arith))
+
+pub taken_over : {X : Type 0} (xs ys front : List X) → length xs ≡ 64 → length ys ≡ 64 →
+    front ≡ take 32 (drop 32 ys) →
+    (length (front ++ drop 32 xs) ≡ 64) × (take 32 (front ++ drop 32 xs) ≡ drop 32 ys)
+taken_over xs ys front long many is =
+    let half = length-drop 32 ys in
+    let rest = length-drop 32 xs in
+    let same : front ≡ drop 32 ys = is ∙ take_all 32 (drop 32 ys) (omega arith) in
+    let size : length front ≡ 32 = ap length same ∙ omega arith in
+    (omega (arith, length-append front (drop 32 xs)), take_at front (drop 32 xs) 32 size ∙ same)

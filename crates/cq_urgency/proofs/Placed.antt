@@ -2,9 +2,9 @@
 -- changed in the pool changes at its one place in the order and nowhere else; a block that comes in under a number that
 -- was free or is new stands nowhere in the order, so that the blocks there stay; and so do the others where the first
 -- one becomes free.
-use Rattle.cq_urgency.proofs.Terms.{common_steps, rules, ◌≡◌, ◌≢◌, ℕ, zero, suc, ◌+◌, ◌<◌, ◌≤◌, List, [], ◌∷◌, ◌++◌, length, get_or, set, take, drop, refl, ap, ◌∙◌, arith, length-set, length-take, length-drop, get_or-set_same, get_or-set_other, drop-map, ◌==◌, insert, sum_by, cases_Bool, ltb-true, eq-eqb, ne_eqb, cond-false, length_push, length-map, map-set, take-map, get_or-map, get_or_read, length-insert, sum_by-cons, sum_by_push, sum_by-insert, get_or-le-sum_by, Queued, BlocksView, block_at, cells_in_all, counts_behind, get_or-insert_below, halved, without_first, in_order, bit, times, has, ArePlaced, ComesIn, map-insert, most_cells}
+use Rattle.cq_urgency.proofs.Terms.{common_steps, rules, ◌≡◌, ◌≢◌, ℕ, zero, suc, ◌+◌, ◌<◌, ◌≤◌, List, [], ◌∷◌, ◌++◌, length, get_or, set, take, drop, refl, ap, ◌∙◌, arith, length-set, length-take, length-drop, get_or-set_same, get_or-set_other, drop-map, ◌==◌, insert, sum_by, cases_Bool, cases_eq, lt-ltb, sym, ltb-true, eq-eqb, ne_eqb, cond-false, length_push, length-map, map-set, take-map, get_or-map, get_or_read, length-insert, sum_by-cons, sum_by_push, sum_by-insert, get_or-le-sum_by, Queued, BlocksView, block_at, cells_in_all, counts_behind, get_or-insert_below, halved, parted, without_first, in_order, bit, times, has, ArePlaced, ComesIn, map-insert, most_cells, ◌-◌}
 use Rattle.std.proofs.lemmas.List.Sums.{sum-map}
-use Rattle.std.proofs.lemmas.List.{drop-set-add, drop-set-lt}
+use Rattle.std.proofs.lemmas.List.{drop-set-add, drop-set-lt, get_or-append_right, get_or_append_left, set-append_left, set-append_right}
 
 -- ## How often a number stands in a list
 
@@ -83,11 +83,36 @@ comes_free pool free free' block block' number within whole e =
     let inside = free_there pool free free' number within whole in
     grind (arith, common_steps, get_or-set_same, get_or-set_other, sum_by_push, length-set, length_push)
 
--- another block in its place
-pub comes_set : (pool pool' : List (List Queued)) (free free' : List ℕ) (block other : List Queued) (number : ℕ) →
-    ComesIn pool free pool' free' block number → ComesIn pool free (set pool' number other) free' other number
-comes_set pool pool' free free' block other number q =
-    grind (arith, common_steps, get_or-set_same, get_or-set_other, length-set, q.others, q.once)
+-- the second half of a block goes over to one behind it, or ahead of it, in the pool
+pub parted_behind : (front back : List (List Queued)) (from to : ℕ) → from < to → length front ≡ to →
+    parted (front ++ back) from to ≡ set front from (take 32 (block_at front from))
+    ++ set back 0 (drop 32 (block_at front from))
+parted_behind front back from to less mid =
+    let same = get_or_append_left front back [] from (omega arith) in
+    let none : to - to ≡ 0 = omega arith in
+    search (arith, rules, same, none, set-append_right front back to to (drop 32 (block_at front from)) mid, set-append_left)
+
+pub parted_ahead : (front back : List (List Queued)) (from to : ℕ) → to < from → length front ≡ from →
+    parted (front ++ back) from to ≡ set front to (drop 32 (block_at back 0)) ++ set back 0 (take 32 (block_at back 0))
+parted_ahead front back from to less mid =
+    let same = get_or-append_right front back from from [] mid in
+    let none : from - from ≡ 0 = omega arith in
+    search (arith, rules, same, none, set-append_left front back to, set-append_right, length-set)
+
+-- the second half of a block goes over to one that came in
+module _ (pool pool' : List (List Queued)) (free free' : List ℕ) (block : List Queued) (number other : ℕ)
+    (inside : number < length pool) (used : times number free ≡ 0)
+    (within : (n : ℕ) → times n free ≤ has pool n) (q : ComesIn pool free pool' free' block other) where
+  had : has pool number ≡ 1
+  had = ap bit (lt-ltb number (length pool) inside)
+
+  pub came_apart : other ≢ number
+  came_apart e = grind (arith, common_steps, had, bit_same, cases_Bool)
+
+  pub comes_parted : (now : List (List Queued)) → now ≡ parted pool' number other →
+      ComesIn (set pool number (take 32 (block_at pool number))) free now free' (drop 32 (block_at pool number)) other
+  comes_parted now e = rw (e, q.others number (λ same. came_apart (sym same))) (search
+      (arith, rules, length-set, get_or-set_other, came_apart, get_or-set_same, q.inside, cases_eq, had, has_inside))
 
 -- ## Fields that stand for blocks
 
@@ -117,6 +142,9 @@ module _ {pool : List (List Queued)} {first : ℕ} {order counts free : List ℕ
 
     pub in_pool : number < length pool
     in_pool = grind (arith, common_steps, in_order_there, times_read, has_inside)
+
+    pub not_freed : times number free ≡ 0
+    not_freed = search (arith, rules, in_order_there, cases_Bool, times_read)
 
     pub block_same : block_at pool number ≡ block_at blocks i
     block_same = grind (arith, common_steps, get_or-map, in_order_there)

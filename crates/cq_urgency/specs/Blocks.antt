@@ -40,6 +40,12 @@ halved blocks place =
     insert (slice_set blocks place (take half_cells (block_at blocks place))) (place + 1)
     (drop half_cells (block_at blocks place))
 
+-- with the second half of one block in the place of another one
+abbrev pub parted : List (List Queued) → ℕ → ℕ → List (List Queued)
+parted blocks from to =
+    slice_set (slice_set blocks to (drop half_cells (block_at blocks from))) from
+    (take half_cells (block_at blocks from))
+
 -- without the first cell, and without its block where this was the only cell of it
 abbrev pub without_first : List (List Queued) → List (List Queued)
 without_first [] = []

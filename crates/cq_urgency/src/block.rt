@@ -166,18 +166,15 @@ impl Block {
         self.len = 1;
     }
 
-    /// Takes the second half of a full block out, into a block of its own.
-    #[tactic(auto, using(crate::proofs::Pieces::length_piece, crate::proofs::Pieces::behind))]
-    pub fn split_off(&mut self) -> Block
-        requires { length self.old ≡ most_cells }
-        ensures front { self.new ≡ take half_cells self.old }
-        ensures back { result ≡ drop half_cells self.old }
+    /// Takes the second half of a full block over from it, in place of the cells that this one had.
+    pub fn take_half(&mut self, from: &mut Block)
+        requires { length from.old ≡ most_cells }
+        ensures half { self.new ≡ drop half_cells from.old }
+        ensures left { from.new ≡ take half_cells from.old }
     {
+        self.cells[..HALF_CELLS].copy_from_slice(&from.cells[HALF_CELLS..]);
+        self.head = 0;
         self.len = HALF_CELLS;
-        Block {
-            cells: self.cells,
-            head: self.head + HALF_CELLS,
-            len: HALF_CELLS,
-        }
+        from.len = HALF_CELLS;
     }
 }

@@ -2,7 +2,7 @@
 ghost use Rattle.std.specs.Prelude.{◌≡◌, ◌≢◌, ℕ, ◌+◌, ◌<◌, ◌≤◌, ◌^◌, ◌∷◌, ◌++◌, [], Some, IfOk, length, take, drop, insert, slice_get, slice_set, slice_index_or, vec_capacity};
 ghost use Rattle.std.specs.List.{sum_by};
 ghost use Rattle.std.specs.VecDeque.{deque_capacity};
-ghost use Rattle.cq_urgency.specs.Blocks.{flattened, block_at, cells_in_all, half_cells, halved, without_first, times, has, ComesIn, most_cells};
+ghost use Rattle.cq_urgency.specs.Blocks.{flattened, block_at, cells_in_all, half_cells, halved, parted, without_first, times, has, ComesIn, most_cells};
 
 use crate::block::{Block, HALF_CELLS};
 use cq_base::{NoMemory, Queued};
@@ -74,12 +74,27 @@ fn put_block(pool: &mut Vec<Block>, free: &mut Vec<usize>, queued: Queued) -> us
     }
 }
 
-// The upper half of a full block becomes a block of its own, in place of a new one of its first cell. The answer is its
-// number. It stands apart as well.
-#[inline(never)]
-#[tactic(auto, using(crate::proofs::Placed::comes_set, cq_base::proofs::Library::get_or_read))]
-fn put_upper(pool: &mut Vec<Block>, free: &mut Vec<usize>, number: usize) -> usize
+// The second half of a full block goes over to another one, in place of the cells that it had.
+fn move_half(pool: &mut [Block], from: usize, to: usize)
+    requires from { from < length pool.old }
+    requires to { to < length pool.old }
+    requires apart { to ≢ from }
+    requires full { length (block_at pool.old from) ≡ most_cells }
+    ensures { pool.new ≡ parted pool.old from to }
+{
+    if from < to {
+        let (front, back) = pool.split_at_mut(to);
+        back[0].take_half(&mut front[from]);
+    } else {
+        let (front, back) = pool.split_at_mut(from);
+        front[to].take_half(&mut back[0]);
+    }
+}
+
+// The second half of a full block becomes a block of its own. The answer is its number.
+fn put_half(pool: &mut Vec<Block>, free: &mut Vec<usize>, number: usize) -> usize
     requires there { number < length pool.old.items }
+    requires used { times number free.old.items ≡ 0 }
     requires full { length (block_at pool.old.items number) ≡ most_cells }
     requires within { (n : ℕ) → times n free.old.items ≤ has pool.old.items n }
     requires memory { length free.old.items ≡ 0 → length pool.old.items < vec_capacity pool.old }
@@ -88,9 +103,9 @@ fn put_upper(pool: &mut Vec<Block>, free: &mut Vec<usize>, number: usize) -> usi
     ensures pool { vec_capacity pool.new ≡ vec_capacity pool.old }
     ensures free { vec_capacity free.new ≡ vec_capacity free.old }
 {
-    let upper = pool[number].split_off();
-    let other = put_block(pool, free, upper.at(0));
-    pool[other] = upper;
+    let first = pool[number].at(HALF_CELLS);
+    let other = put_block(pool, free, first);
+    move_half(pool, number, other);
     other
 }
 
@@ -248,7 +263,7 @@ impl Blocks {
         ensures most { self.new.most ≡ self.old.most }
     {
         let number = number_at(self.first, &self.order, block);
-        let other = put_upper(&mut self.pool, &mut self.free, number);
+        let other = put_half(&mut self.pool, &mut self.free, number);
         self.order.insert(block + 1, other).unwrap();
         set_count(&mut self.counts, block, HALF_CELLS);
         self.counts.insert(block, HALF_CELLS).unwrap();
