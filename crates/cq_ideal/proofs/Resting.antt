@@ -40,7 +40,8 @@ module _ (ms : List Machine) (n : ℕ) where
       let none = nobody_left (replicate most_ports None) (replicate n []) (λ k q at. cc (none_at most_ports k, at)) in
       cc (ranked_none ms slot 0 most_ports ranks, none, nobody_sends n, nothing_left n)
 
-  -- So many slots end in some rank states: in those of one slot, where a second one changes nothing.
+  -- So many slots end in some rank states: in those of one slot, where a second one changes nothing, and in those
+  -- before, where there is no slot.
   pub idle_run : (count slot : ℕ) (ranks : List (List ℕ)) → (rested : List (List ℕ))
       × (ideal_run ms slot (replicate count no_arrivals) (empty_ideal n ranks)
       ≡ Ok (nothing_sent count n (empty_ideal n rested)))
