@@ -13,6 +13,8 @@
 -- cell for an output is never left: it would have slack 1, so a cushion, so a more urgent cell for the same output.
 -- Each cell is where it was or has crossed to its output, and the first cell for an output that a list gave is in it
 -- no more: so no key is twice, and the cells for each output stay the same.
+-- Last what ranking gives, as the fabric sees it: each cell that came has the slot, the input at which it came, and is
+-- the one that arrived there.
 use Rattle.cq_laws.proofs.Terms.{rules, ◌≡◌, ◌≢◌, ℕ, suc, ◌+◌, ◌<◌, ◌≤◌, ◌⊎◌, ◌↔◌, List, Option, Some, None, refl, sym, ap, ◌∙◌, inl, inr, ⊎_elim, arith, common_steps, slice_get, eq-eqb, same_Some, cushion_of, Queued, Fabric, input, buffer, IsAmong, IsFabric, ListsKeepOrder, Transfers, EachRises, HasSlack, put, KeepsOrder, is_for, first_for, place_for, without_first, key_laws, first_le, each_pair_left, IsListed, place_in, outputs_of, partner_of, depth, HasBetterInput, IsOutputOrder, AreOrdersOf, orders_of, list_taken, HasFor, IsMostUrgentFor, has_there, stands_at, Partners, IsStable, zero, [], ◌∷◌, cases_lt, cases_eq, eqb-true, IsBefore, each_pair_at, length, Key, Cell, Machine, came_to, list_arrived, Arrives, keeps_order_arrival, all_from_has, drop, Departs, rests, list_of, EachFalls, EachArrivesOrFalls, length-map, IsRising, take-append-drop, has_right, Ok, Ranking, ranking, arrival_at, AreForPorts}
 use Rattle.cq_laws.proofs.Sound.{from_first, first_at, first_of, left_at, left_or_first, among_put, rising_put, was_waiting, same_cell, Apart, Sound, one_in_order, orders_are, among_insert, insert_has, inserted_at}
 use Rattle.cq_laws.proofs.Cushions.{bit_true, cushion_cons, cushion_has, cushion_put, cushion_rises}
