@@ -49,8 +49,8 @@ fn place_behind(places: &Places, output: Port, ahead: usize, all: usize) -> usiz
     places.place_of(output, ahead, all)
 }
 
-// Tells the cells at these places, behind those that are told. What is told, and what is told yet at any places that
-// are left, stay the same cells. The error is want of memory.
+// Tells the cells at these places, behind those that are told. What is told, and what is still to be told at any places
+// that are left, stay the same cells. The error is want of memory.
 fn tell<'a>(cells: &mut Vec<Queued>, heads: &mut Heads<'a>, places: &[Port]) -> Result<(), NoMemory>
     ensures { OnOk result ((left : List ℕ) → cells.new.items ++ merged left (queue_of heads.new)
         ≡ cells.old.items ++ merged (places.now ++ left) (queue_of heads.old)) }
