@@ -106,5 +106,5 @@ module _ (old new : Slab OpenPacket) (keys : List (Option ℕ)) (seen : List (Op
         let there = seen_at_one (packet_under old) (packet_under new) keys place (Some key) None (Some now) stored in
         search (rules, there, seen_alike, others, view)
 
--- what a cell that is put in follows from
+-- a piece that is put in
 pub ruleset add_steps = (on_ok_weaker, grown_seen, started_table)
