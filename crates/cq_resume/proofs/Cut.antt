@@ -69,9 +69,10 @@ pub filter_both : {X : Type 0} (p q : X → Bool) (xs : List X) → filter p (fi
 filter_both p q [] = refl
 filter_both p q (x ∷ xs) = grind (arith, common_steps, filter_both p q xs)
 
--- the names of one queue more, and one item more that was found
+-- the names of one queue more
 pub ruleset naming_steps = (take_more, flat_map-append, append-nil, map-append)
 
+-- one item more that was found
 pub ruleset finding_steps = (All-from_recursion, has_at, take_all)
 
 -- what a chain of items serves, and what is asked of each item

@@ -2,9 +2,9 @@
 -- test of neighbours decides it. And it is enough to compare an item with the last one of its lane, for which a place
 -- is kept: that decides whether the relation holds of each and each later one of one lane, since of the earlier items
 -- of the lane each is the last one, or stands before it. The orders of cells and of names are such relations, and so
--- are those of cells in lists and of names in flows. Of cells or names that stand by input, those of one list or of one
--- flow stand in order exactly where those of one lane do, by input first. And the cells of lists have slack where those
--- of the list of each port have.
+-- are those of cells in lists and of names in flows (`specs/Laned.antt`). Of cells or names that stand by input, those
+-- of one list or of one flow stand in order exactly where those of one lane do, by input first. And the cells of lists
+-- have slack where those of the list of each port have.
 use Rattle.cq_resume.proofs.Terms.{common_steps, rules, ap, ◌==◌, ◌≡◌, ℕ, ◌+◌, ◌<◌, ◌⊎◌, ◌↔◌, Bool, true, false, List, length, get_or, set, replicate, Option, None, Some, refl, inl, inr, arith, ◌*◌, IfSome, AllPairs, AllByRecursion, cases_eq, cases_lt, get_or-replicate, get_or-set_other, get_or-set_same, get_or_default, get_or_past, length-replicate, get_or_read, FlowsStand, IsNameBefore, IsBefore, Queued, Name, ne_eqb, SlackStands, slice_get-get_or, key_laws, most_classes, All-from_recursion, zero, suc, AllAdjacentBelow, all_weaker, filter, HasRoom, IsAheadInFlow, flow_of, filter_none}
 use Rattle.cq_resume.specs.Neighbours.{IsOfNeighbours}
 use Rattle.cq_base.proofs.Each.{one_there}
