@@ -1,7 +1,7 @@
 //! The fields of a frame.
 ghost use Rattle.std.specs.Prelude.{◌≡◌, ◌≤◌, false, true};
 ghost use Rattle.std.specs.Option.{option_map_or};
-ghost use Rattle.cq_frame.specs.Frame.{code_point, code_point_at, destination, ether_type, is_tag, number_at, priority, type_offset};
+ghost use Rattle.cq_frame.specs.Frame.{code_point, code_point_at, destination, ether_type, has_tag_at, is_tag, number_at, priority, priority_at};
 
 /// The fields of a frame. One that the frame does not have is `None`.
 #[derive(Clone, Copy, Debug, PartialEq, Eq)]
@@ -42,34 +42,42 @@ pub fn destination(bytes: &[u8]) -> Option<[u8; 6]>
 
 /// Finds the fields of a frame. It may be any bytes: a field has to stand in it whole, and where the
 /// frame ends before, the field is `None`.
-#[tactic(auto, unfolding(crate::specs::Frame::ether_type, crate::specs::Frame::code_point))]
+#[tactic(auto, unfolding(crate::specs::Frame::priority, crate::specs::Frame::ether_type, crate::specs::Frame::code_point))]
 pub fn parts(bytes: &[u8]) -> FrameParts
     ensures dest { result.dest ≡ destination bytes.now }
     ensures pcp { result.pcp ≡ priority bytes.now }
     ensures ether_type { result.ether_type ≡ ether_type bytes.now }
     ensures dscp { result.dscp ≡ code_point bytes.now }
 {
-    let at = type_offset(bytes);
-    let ether_type = number_at(bytes, at);
-    FrameParts {
-        dest: destination(bytes),
-        pcp: priority(bytes),
-        ether_type,
-        dscp: packet_code_point(bytes, at, ether_type),
+    let outer = number_at(bytes, ADDRESSES);
+    if !is_tag(outer) {
+        return parts_with(bytes, None, ADDRESSES, outer);
     }
+    let priority = tag_priority(bytes);
+    let inner = number_at(bytes, ADDRESSES + TAG);
+    if !is_tag(inner) {
+        return parts_with(bytes, priority, ADDRESSES + TAG, inner);
+    }
+    let at = ADDRESSES + 2 * TAG;
+    parts_with(bytes, priority, at, number_at(bytes, at))
 }
 
-// The offset of the type of what the frame carries.
-fn type_offset(bytes: &[u8]) -> usize
-    ensures offset { result ≡ type_offset bytes.now }
-    ensures inside { result ≤ 20 }
+// The fields of a frame whose outermost tag has this priority. At the offset stands its EtherType, which is given.
+fn parts_with(bytes: &[u8], pcp: Option<u8>, at: usize, ether_type: Option<u16>) -> FrameParts
+    requires inside { at ≤ 20 }
+    requires ether_type { ether_type ≡ number_at bytes.now at }
+    ensures { result ≡ record {
+      dest = destination bytes.now;
+      pcp = pcp;
+      ether_type = ether_type;
+      dscp = code_point_at bytes.now at;
+    } }
 {
-    if !is_tag(number_at(bytes, ADDRESSES)) {
-        ADDRESSES
-    } else if !is_tag(number_at(bytes, ADDRESSES + TAG)) {
-        ADDRESSES + TAG
-    } else {
-        ADDRESSES + 2 * TAG
+    FrameParts {
+        dest: destination(bytes),
+        pcp,
+        ether_type,
+        dscp: packet_code_point(bytes, at, ether_type),
     }
 }
 
@@ -90,12 +98,12 @@ fn is_tag(kind: Option<u16>) -> bool
     matches!(kind, Some(CUSTOMER_TAG | PROVIDER_TAG))
 }
 
-// The priority of the tag behind the addresses, if one is there whole.
-#[tactic(auto, unfolding(crate::specs::Frame::priority))]
-fn priority(bytes: &[u8]) -> Option<u8>
-    ensures { result ≡ priority bytes.now }
+// The priority of the tag behind the addresses, if it is there whole.
+fn tag_priority(bytes: &[u8]) -> Option<u8>
+    requires { has_tag_at bytes.now 12 ≡ true }
+    ensures { result ≡ priority_at bytes.now 12 }
 {
-    if !is_tag(number_at(bytes, ADDRESSES)) || bytes.len() < ADDRESSES + TAG {
+    if bytes.len() < ADDRESSES + TAG {
         return None;
     }
     Some(bytes[ADDRESSES + 2] >> 5)

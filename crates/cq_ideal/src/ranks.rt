@@ -1,5 +1,5 @@
 //! The rank machines of all outputs.
-ghost use Rattle.std.specs.Prelude.{◌≡◌, ◌↔◌, ◌+◌, ◌<◌, ◌≤◌, ◌^◌, ◌∷◌, List, Option, Ok, Err, IfErr, IfOk, IfSome, IsErr, None, OnErr, OnOk, Some, length, map, slice_index_or, slice_set, []};
+ghost use Rattle.std.specs.Prelude.{◌≡◌, ◌↔◌, ◌+◌, ◌<◌, ◌≤◌, ◌^◌, ◌∷◌, List, Option, Ok, Err, IfErr, IfOk, IsErr, None, OnErr, OnOk, Some, length, map, slice_index_or, slice_set, []};
 ghost use Rattle.cq_ideal.specs.Terms.{Cell, machine_at, told, AreForOneSwitch, AreSized, class_count, admitted, idled, given_at, level_at, rank_at, AreForPorts, after_input, keyed, ranking, most_ports};
 
 use crate::limiter::Limiter;
@@ -165,29 +165,19 @@ impl<R: Rank> Ranks<R> {
         self.ranks[output as usize].rank(class)
     }
 
-    // A cell that arrives at an input, if one does, gets its key by its level and the rank that the output's machine
-    // gives it.
-    fn keyed(
-        &mut self,
-        slot: Slot,
-        input: Port,
-        cell: Option<Cell>,
-    ) -> Result<Option<Queued>, TagFault>
-        requires output { IfSome cell (λ c. c.output < length self.old.fixed) }
-        requires class { IfSome cell (λ c. c.class
-            < (machine_at (map R.machine self.old.fixed) c.output).classes) }
+    // A cell arrives at an input. It gets its key by its level and the rank that the output's machine gives it.
+    fn keyed(&mut self, slot: Slot, input: Port, cell: Cell) -> Result<Queued, TagFault>
+        requires output { cell.output < length self.old.fixed }
+        requires class { cell.class < (machine_at (map R.machine self.old.fixed) cell.output).classes }
         ensures fixed { self.new.fixed ≡ self.old.fixed }
         ensures came { IfOk result (λ queued. (cells : List (Option Cell)) →
-            ranking (map R.machine self.old.fixed) slot input (cell ∷ cells) self.old.states
-            ≡ after_input queued (ranking (map R.machine self.old.fixed) slot (input + 1) cells
+            ranking (map R.machine self.old.fixed) slot input (Some cell ∷ cells) self.old.states
+            ≡ after_input (Some queued) (ranking (map R.machine self.old.fixed) slot (input + 1) cells
             self.new.states)) }
         ensures many { length self.new.states ≡ length self.old.states }
         ensures fault { IfErr result (λ fault. (cells : List (Option Cell)) →
-            ranking (map R.machine self.old.fixed) slot input (cell ∷ cells) self.old.states ≡ Err fault) }
+            ranking (map R.machine self.old.fixed) slot input (Some cell ∷ cells) self.old.states ≡ Err fault) }
     {
-        let Some(cell) = cell else {
-            return Ok(None);
-        };
         let level = self.level(cell.output, cell.class);
         match self.rank(cell.output, cell.class) {
             Err(_) => Err(TagFault {
@@ -195,7 +185,7 @@ impl<R: Rank> Ranks<R> {
                 input,
                 output: cell.output,
             }),
-            Ok(rank) => Ok(Some(Queued {
+            Ok(rank) => Ok(Queued {
                 cell,
                 key: Key {
                     level,
@@ -203,7 +193,7 @@ impl<R: Rank> Ranks<R> {
                     slot,
                     input,
                 },
-            })),
+            }),
         }
     }
 
@@ -234,9 +224,13 @@ impl<R: Rank> Ranks<R> {
         let ports = self.len();
         came.begin(ports);
         'inputs: for input in 0..ports {
-            let cell = limiter.admitted(arrivals, input);
-            let queued = self.keyed(slot, input, cell)?;
-            came.put(input, queued);
+            match limiter.admitted(arrivals, input) {
+                None => came.put(input, None),
+                Some(cell) => {
+                    let queued = self.keyed(slot, input, cell)?;
+                    came.put(input, Some(queued));
+                }
+            }
         }
         Ok(())
     }
