@@ -10,7 +10,7 @@ use cq_base::{Departure, Port, Queued, Room, Slot};
 use cq_rank::Rank;
 
 // The departure of a cell from an output is put at the end of what was sent, if it sent one.
-fn depart(slot: Slot, output: Port, gone: Option<Queued>, sent: &mut Room<Departure>)
+fn note_departure(slot: Slot, output: Port, gone: Option<Queued>, sent: &mut Room<Departure>)
     requires { IfSome gone (λ _. 0 < sent.old.spare) }
     ensures items { sent.new.items ≡ sent.old.items ++ departures_from slot output (gone ∷ []) }
     ensures spare { sent.new.spare + length (departures_from slot output (gone ∷ [])) ≡ sent.old.spare }
@@ -48,6 +48,6 @@ pub fn send<R: Rank>(
         let gone = queues.pop(output);
         ranks.told(output, gone);
         limiter.sent(output, gone);
-        depart(slot, output, gone, sent);
+        note_departure(slot, output, gone, sent);
     }
 }

@@ -4,7 +4,7 @@
 -- it is the same. Before that, the cells of a list as members and by their places: where the first cell for an
 -- output stands, and what becomes of the members where it is taken out, where a cell is put in the order of keys,
 -- and where one is inserted at a place.
-use Rattle.cq_laws.proofs.Terms.{rules, common_steps, ◌≡◌, ◌≢◌, ◌∷◌, ℕ, ◌<◌, List, Some, refl, sym, ◌∙◌, arith, slice_get, cases_lt, true≢false, Queued, Fabric, input, buffer, IsAmong, IsFabric, ListsKeepOrder, IsBefore, IsRising, EachPair, key_laws, each_pair_at, AreOrdersOf, FirstKeysDiffer, orders_of, are_orders, HasFor, Waiting, Crossed, NoKeyTwice, AllBefore, all_of_has, has_there, stands_at, ◌↔◌, zero, suc, ◌+◌, ◌≤◌, ◌⊎◌, Bool, true, [], ap, inl, inr, ⊎_elim, find, insert, position_or_len, eqb-true, cond_both, put, is_for, first_for, place_for, without_first, first_here, first_later, all_from_has, has_cases, has_left, has_right, drop, take, take-append-drop, Partners, list_of}
+use Rattle.cq_laws.proofs.Terms.{rules, common_steps, ◌≡◌, ◌≢◌, ◌∷◌, ℕ, ◌<◌, List, Some, refl, sym, ◌∙◌, arith, slice_get, cases_lt, true≢false, Queued, Fabric, input, buffer, IsAmong, IsFabric, ListsKeepOrder, IsBefore, IsRising, EachPair, key_laws, each_pair_at, AreOrdersOf, FirstKeysDiffer, orders_of, are_orders, HasFor, Waiting, Crossed, NoKeyTwice, AllBefore, all_of_has, has_there, stands_at, ◌↔◌, zero, suc, ◌≤◌, ◌⊎◌, Bool, true, [], ap, inl, inr, ⊎_elim, find, insert, position_or_len, eqb-true, cond_both, put, is_for, first_for, place_for, without_first, first_here, first_later, all_from_has, has_cases, has_left, has_right, drop, take, take-append-drop, Partners, list_of}
 use Rattle.cq_base.proofs.Putting.{rising_put as put_rises}
 use Rattle.cq_prefs.specs.Moves.{Moves}
 

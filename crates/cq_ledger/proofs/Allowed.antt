@@ -2,7 +2,7 @@
 -- the hand's input on the state that words and views show: the list of events behind the rule is longer by that input.
 -- A seat keeps the numbers of its view through each kind of step, and a call on a ledger finds there what it was
 -- promised of the seat.
-use Rattle.cq_ledger.proofs.Terms.{rules, ℕ, suc, ◌≡◌, ◌*◌, ◌<◌, ◌≤◌, ◌^◌, min, List, get_or, set, Some, None, arith, bit_or, common_steps, none, cases_eq, get_or-le-sum_by, set_here, set_else, set_again, Orders, ports, position_of, IsOffered, state_after, events_at_most, output_in_range, sound-after, next_output-offered, View, Seated, Ruled, proposal, IsClaim, claim, look, IsLedger, output_at, words_proposed, proposed, words_claimed, claim_taken, claim_refused, Sits, bit, claim_word, [], ◌∙◌, ap, set-get_or, next_place, IsClaimed, ◌+◌, Option, Outcome, IsProposal, hand_at, hand_after, answer_of}
+use Rattle.cq_ledger.proofs.Terms.{rules, ℕ, suc, ◌≡◌, ◌*◌, ◌<◌, ◌≤◌, ◌^◌, min, List, get_or, set, Some, None, arith, bit_or, common_steps, none, cases_eq, get_or-le-sum_by, set_here, set_else, set_again, Orders, ports, position_of, IsOffered, state_after, events_at_most, output_in_range, sound-after, next_output-offered, View, Seated, Ruled, proposal, IsClaim, claim, look, IsLedger, output_at, words_proposed, proposed, words_claimed, claim_taken, claim_refused, Sits, bit, claim_word, ◌∙◌, ap, set-get_or, next_place, IsClaimed, ◌+◌, Option, Outcome, IsProposal, hand_at, hand_after, answer_of}
 use Rattle.atomic_table.specs.Table.{step, Allows}
 use Rattle.cq_ledger.proofs.Proposing.{propose-keeps, claim-keeps, refuse-keeps}
 use Rattle.cq_ledger.proofs.Seats.{split-keeps, join-keeps}

@@ -1,6 +1,6 @@
 -- What is read in lists of views, and the bits of numbers; then a view in another one's place, and the rule where the
 -- words stay and the views alone change.
-use Rattle.cq_ledger.proofs.Terms.{ℕ, suc, ◌≡◌, ◌≢◌, ◌⊎◌, ◌<◌, ◌≤◌, ◌^◌, List, [], ◌∷◌, length, get_or, sym, ◌∙◌, arith, bit_or, some, some-injective, some-ne-none, get_elem?, cases_eq, bit_at_or, bit_at-pow_same, bit_at-pow_other, bit_at-zero, bit_at-lt, same_from_bits, bit, common_steps, rules, ◌+◌, set, Some, None, IsFree, next_place, sum_by, sum_by-set, at_set, set_here, set_else, Orders, State, state_after, View, AreClaims, AreHands, IsLedger, IsViewOf, Sits, HasClaimed, HasSeen, IsClaimed, IsClaimedByOne, IsInAHand, Waits, claim_word, shr_and_one, eqb-true, eq-eqb, ltb-true}
+use Rattle.cq_ledger.proofs.Terms.{ℕ, suc, ◌≡◌, ◌≢◌, ◌⊎◌, ◌<◌, ◌≤◌, ◌^◌, List, ◌∷◌, length, get_or, sym, ◌∙◌, arith, bit_or, some, some-injective, some-ne-none, get_elem?, cases_eq, bit_at_or, bit_at-pow_same, bit_at-pow_other, bit_at-zero, bit_at-lt, same_from_bits, bit, common_steps, rules, ◌+◌, set, Some, None, IsFree, next_place, sum_by, sum_by-set, at_set, set_here, set_else, Orders, State, state_after, View, AreClaims, AreHands, IsLedger, IsViewOf, Sits, HasClaimed, HasSeen, IsClaimed, IsClaimedByOne, IsInAHand, Waits, claim_word, shr_and_one, eqb-true, eq-eqb, ltb-true}
 use Rattle.std.proofs.lemmas.Nat.Bits.{bit_at_above}
 
 -- a view that stands at a place of the list

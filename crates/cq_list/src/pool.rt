@@ -86,7 +86,7 @@ fn last_of_some(nodes: &Slab<Node>, _queue: Queue, some: Ahead) -> Node
 }
 
 // Whether some nodes of a queue are all more urgent, as the last of them shows.
-fn are_sooner(nodes: &Slab<Node>, queue: Queue, some: Ahead, key: Key) -> bool
+fn are_more_urgent(nodes: &Slab<Node>, queue: Queue, some: Ahead, key: Key) -> bool
     requires chained { IsChained (get nodes.now) queue }
     requires some { 0 < some.count }
     requires last { EndsAt (places (linked (get nodes.now) queue)) some.count some.last }
@@ -114,7 +114,7 @@ fn further(nodes: &Slab<Node>, queue: Queue, found: Ahead, finger: Ahead, key: K
     ensures far { finger.count ≤ position_or_len (λ x. not (is_before x.key key)) (cells (linked (get nodes.now) queue))
         → finger.count ≤ result.count }
 {
-    if finger.count > found.count && are_sooner(nodes, queue, finger, key) {
+    if finger.count > found.count && are_more_urgent(nodes, queue, finger, key) {
         finger
     } else {
         found
@@ -185,7 +185,7 @@ fn is_behind_all(nodes: &Slab<Node>, queue: Queue, key: Key) -> bool
     if queue.len == 0 {
         return true;
     }
-    are_sooner(nodes, queue, all_of(queue), key)
+    are_more_urgent(nodes, queue, all_of(queue), key)
 }
 
 // How many cells of a queue are more urgent, from the nearest finger on, or with no walk where all are.

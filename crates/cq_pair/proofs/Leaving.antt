@@ -1,6 +1,6 @@
 -- Inputs that leave. The last of the free ones is taken out where it stands, since no input is free twice. And inputs
 -- that are parted one after another, from the first on, leave no pair.
-use Rattle.cq_pair.proofs.Terms.{common_steps, ◌≡◌, ℕ, suc, ◌+◌, ◌-◌, ◌<◌, eqb, List, [], ◌∷◌, length, take, replicate, Some, None, arith, slice_get, IsDistinct, nil_from_length, same_Some, Partners, Apart, without_here, without_there, without, Has, has_there, ap, sym, ◌∙◌, get_or, place_in, place_in-get_or, left_by, not_there, length-set, take_all, take_more_set}
+use Rattle.cq_pair.proofs.Terms.{common_steps, ◌≡◌, ℕ, suc, ◌+◌, ◌-◌, ◌<◌, eqb, List, ◌∷◌, length, take, replicate, Some, None, arith, slice_get, IsDistinct, nil_from_length, same_Some, Partners, Apart, without_here, without_there, without, Has, has_there, ap, sym, ◌∙◌, get_or, place_in, place_in-get_or, left_by, not_there, length-set, take_all, take_more_set}
 use Rattle.cq_prefs.proofs.OneOrder.{apart}
 use Rattle.cq_prefs.proofs.Offering.{few_offers, offers-more, offers-same}
 

@@ -120,7 +120,7 @@ pub trait Files {
         ensures ok { IfOk result (Appends (space self.old) (space self.new) bytes.now) }
         ensures err { OnErr result (Closes (space self.old) (space self.new)) }
         ensures moved { IfOk result (may_move self.old) }
-        ensures unbegun { unbegun self.old self.new }
+        ensures kept { unbegun self.old self.new }
         ensures answered { HasAnswered space Call.Write may_fail may_pass counts keeps
             self.old self.new result };
 
@@ -129,7 +129,7 @@ pub trait Files {
     fn finish(&mut self) -> Result<(), Failed>
         requires { IsWriting (space self.old).mode }
         ensures closed { Closes (space self.old) (space self.new) }
-        ensures unbegun { unbegun self.old self.new }
+        ensures kept { unbegun self.old self.new }
         ensures answered { HasAnswered space Call.Finish may_fail may_pass counts keeps
             self.old self.new result };
 

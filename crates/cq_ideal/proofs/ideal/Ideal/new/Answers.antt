@@ -1,4 +1,4 @@
-use Rattle.cq_ideal.proofs.Terms.{[], length, map, sym, ap, subst, length-map, length-replicate, AreForOneSwitch, arith, rules}
+use Rattle.cq_ideal.proofs.Terms.{length, map, sym, ap, subst, length-map, length-replicate, AreForOneSwitch, arith, rules}
 use Rattle.cq_ideal.proofs.Changed.{map-replicate, same_at}
 use Rattle.cq_ideal.proofs.ideal.Ideal.new.Goals as goal
 

@@ -1,4 +1,4 @@
-use Rattle.cq_urgency.proofs.Terms.{◌≡◌, ◌∙◌, List, ap, arith, drop, length, sym, Queued}
+use Rattle.cq_urgency.proofs.Terms.{◌∙◌, List, ap, arith, drop, length, sym, Queued}
 use Rattle.cq_urgency.proofs.Pieces.{taken_over, whole_piece}
 use Rattle.cq_urgency.proofs.block.Block.take_half.Goals as goal
 

@@ -1,6 +1,6 @@
 use Rattle.cq_list.proofs.Terms.{arith, common_steps, cases_Bool}
 use Rattle.cq_list.proofs.Put.{all_sooner, one_later}
-use Rattle.cq_list.proofs.pool.are_sooner.Goals as goal
+use Rattle.cq_list.proofs.pool.are_more_urgent.Goals as goal
 
 pub returns : goal.returns
 returns c =
