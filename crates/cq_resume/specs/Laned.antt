@@ -1,3 +1,4 @@
+-- Only proofs use this.
 -- That what stands before in a lane goes on from one to the next. It stands here since impls cite it.
 use Rattle.std.proofs.Common.{arith}
 use Rattle.std.proofs.lemmas.Grind.{common_steps}
