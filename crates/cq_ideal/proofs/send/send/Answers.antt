@@ -11,7 +11,7 @@ outputs-preserved g c =
     let holds : HoldsLists c.pop-gone.new.self.lists c.sent.new.self =
     grind (arith, common_steps, set-get_or, get_or-map, map-set) in
     let next = sending_next c.outputs.invariant c.pop-gone.result c.told.new.self c.pop-gone.new.self c.sent.new.self in
-    search (arith, rules, next c.depart.new.sent, holds)
+    search (arith, rules, next c.note_departure.new.sent, holds)
 
 pub returns : goal.returns
 returns g c = grind (arith, common_steps, fit_same, length-told, length-map)
