@@ -6,17 +6,14 @@ pub all_counted : {X : Type 0} (P : X → Type 0) (f : ℕ → X) (n : ℕ) → 
     All P (map f (range_with_len 0 n))
 all_counted P f n h k d l = grind (arith, common_steps, length-map-range_with_len, get_or-map-range_with_len)
 
-pub soak_ports : (ports : ℕ) → ports_of (soak_setup ports) ≡ ports
-soak_ports ports = length-map-range_with_len soak_kind 0 ports
-
 pub tables_ports : (ports : ℕ) → ports_of (soak_tables ports).setup ≡ ports
 unfolding soak_tables
-tables_ports ports = soak_ports ports
+tables_ports ports = length-map-range_with_len soak_kind 0 ports
 
 pub tables_in_range : (ports : ℕ) → IsInRange 1 64 ports → AreTables (soak_tables ports)
 unfolding soak_tables plain_tables
 tables_in_range ports range =
-    let count : ports_of (soak_setup ports) ≡ ports = soak_ports ports in
+    let count : ports_of (soak_setup ports) ≡ ports = length-map-range_with_len soak_kind 0 ports in
     let low : 1 ≤ ports = range.0 in
     let high : ports ≤ 64 = range.1 in
     let no_limit : Option ℕ = None in
@@ -36,3 +33,5 @@ tables_in_range ports range =
       inputs = search (arith, rules, all_counted);
       rule_classes = all_counted (λ (row : RuleRow). row.class < 8) soak_rule 8 (λ k l. l);
     }
+
+pub ruleset make_steps = (tables_ports, length-map-range_with_len)

@@ -38,6 +38,7 @@ fn capture_at(
 
 /// The captures of all inputs, in order, where the words are those of all slots. The error is want of
 /// memory.
+#[tactic(auto, using(cq_base::proofs::Each::counted_more))]
 pub fn captures_of(
     alloc: Global,
     words: &[u32],

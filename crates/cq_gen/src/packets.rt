@@ -59,6 +59,7 @@ fn put_made(
 
 /// The bytes of the capture of the packets that come to the input, where the words are those of all slots. The error is
 /// want of memory.
+#[tactic(auto, unfolding(crate::specs::Packets::packets_to))]
 pub fn file_to(
     alloc: Global,
     words: &[u32],

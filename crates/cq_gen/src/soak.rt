@@ -32,6 +32,7 @@ pub struct Soak {
 /// class and a rule.
 ///
 /// The error is want of memory. The same seed, ports and slots make the same traffic.
+#[tactic(auto, using(crate::proofs::InRange::make_steps), unfolding(crate::specs::Packets::soak_captures))]
 pub fn make(alloc: Global, seed: u64, ports: u16, slots: u32) -> Result<Soak, NoMemory>
     requires ports { IsInRange 1 most_ports ports }
     requires slots { IsInRange 1 most_soak_slots slots }

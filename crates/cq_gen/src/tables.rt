@@ -85,6 +85,7 @@ fn kinds(alloc: Global, ports: Port) -> Result<Vec<Kind>, AllocError>
 }
 
 // The ports, none of which has a file.
+#[tactic(auto, using(std::proofs::lemmas::List::replicate_more))]
 fn port_rows(alloc: Global, ports: Port) -> Result<Vec<PortRow>, NoMemory>
     ensures { IfOk result (λ rows. rows.items ≡ replicate ports soak_port) }
 {

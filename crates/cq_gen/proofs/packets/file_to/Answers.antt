@@ -1,10 +1,5 @@
-use Rattle.cq_gen.proofs.Terms.{packets_to}
 use Rattle.cq_gen.proofs.Small.{one_put}
 use Rattle.cq_gen.proofs.packets.file_to.Goals as goal
-
-pub slots-init : goal.slots-init
-unfolding packets_to
-slots-init c = c.in_ok-bytes.ensures
 
 pub slots-preserved : goal.slots-preserved
 slots-preserved c = one_put c.args.words.now c.args.ports c.args.input c.slots.slot c.slots.bytes.items

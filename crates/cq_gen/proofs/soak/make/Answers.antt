@@ -1,5 +1,5 @@
-use Rattle.cq_gen.proofs.Terms.{soak_captures, rules, arith, mul-le, most_ports, most_soak_slots, ◌≡◌, List, length, length-map-range_with_len, Captured}
-use Rattle.cq_gen.proofs.InRange.{tables_in_range, tables_ports, all_counted}
+use Rattle.cq_gen.proofs.Terms.{arith, mul-le, most_ports, most_soak_slots, ◌≡◌, List, length, Captured}
+use Rattle.cq_gen.proofs.InRange.{tables_in_range, all_counted}
 use Rattle.cq_gen.proofs.Small.{length-packets_to}
 use Rattle.cq_gen.proofs.soak.make.Goals as goal
 
@@ -9,16 +9,6 @@ overflow_mul-slots c =
 
 pub returns-clause-in_range : goal.returns-clause-in_range
 returns-clause-in_range c = rw c.in_ok-tables.ensures (tables_in_range c.args.ports c.requires.ports)
-
-pub returns-clause-ports : goal.returns-clause-ports
-returns-clause-ports c = rw c.in_ok-tables.ensures (tables_ports c.args.ports)
-
-pub returns-clause-captures : goal.returns-clause-captures
-unfolding soak_captures
-returns-clause-captures c = search (arith, rules)
-
-pub returns-clause-inputs : goal.returns-clause-inputs
-returns-clause-inputs c = search (arith, rules, length-map-range_with_len)
 
 pub returns-clause-packets : goal.returns-clause-packets
 returns-clause-packets c = rw c.in_ok-captures.ensures
