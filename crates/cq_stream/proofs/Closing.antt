@@ -3,11 +3,8 @@
 -- the rows of the file. Then both ends of the ring in one thread show that what was taken, and what still waits, is
 -- what was sent. The last item that was taken says that there are no more, and only the last one sent says so. So
 -- nothing waits, and the rows taken are the rows sent. Where nothing was sent, nothing was taken either.
-use Rattle.cq_stream.proofs.Terms.{rules, arith, ◌≡◌, ℕ, List, [], ◌∷◌, ◌++◌, refl, common_steps, Err, IfSome, Some, PacketRow, AreRowsUntil, Item, HasRun, all_sent, bytes_of, fault_found, items_of, length, map, append_assoc, map-append, None, AreRowsTo, Row, HasSent}
-use Rattle.cq_pcap.specs.declared.read.PcapRefusal.{PcapRefusal}
-use Rattle.cq_pcap.specs.Faults.{IsFaulty, fault_of}
-use Rattle.cq_pcap.specs.Reading.{packets_of}
-use Rattle.cq_pcap.proofs.Refused.{named_fault}
+use Rattle.cq_stream.proofs.Terms.{rules, arith, ◌≡◌, ℕ, List, [], ◌∷◌, ◌++◌, refl, common_steps, PacketRow, AreRowsUntil, Item, HasRun, all_sent, bytes_of, fault_found, items_of, length, map, append_assoc, map-append, None, AreRowsTo, Row, HasSent}
+use Rattle.cq_pcap.proofs.Refused.{named_fault, some_is}
 use Rattle.cq_pcap.proofs.SpeltIsRead.{fault_is_read}
 use Rattle.cq_stream.specs.declared.outcome.Done.{Done}
 use Rattle.cq_pcap.specs.declared.form.Form.{Form}
@@ -32,16 +29,6 @@ pub sends_all : (form : Form) (bytes : List ℕ) (at : ℕ) (before after : List
     → SendsTo form bytes at before after → HasSent bytes None before after
 sends_all form bytes at before after e s = grind (arith, common_steps, rows_all)
 
--- a fault that is found is one of the file, and is read
-pub faulty : (bytes : List ℕ) (refusal : PcapRefusal) (rows : List PacketRow)
-    → AreRowsUntil bytes (Some refusal) rows → IfSome (fault_of refusal) (IsFaulty bytes)
-faulty bytes refusal rows until = named_fault (IsFaulty bytes) refusal until.1.faulty
-
-pub unread : (bytes : List ℕ) (refusal : PcapRefusal) (rows : List PacketRow)
-    → AreRowsUntil bytes (Some refusal) rows → IfSome (fault_of refusal) (λ fault. packets_of bytes ≡ Err fault)
-unread bytes refusal rows until =
-    named_fault (λ fault. packets_of bytes ≡ Err fault) refusal (fault_is_read bytes refusal until.1.faulty)
-
 -- the items of a file have one end
 one_end : (rows others : List PacketRow) (rest : List Item)
     → items_of rows ++ rest ≡ items_of others → rows ≡ others
@@ -58,3 +45,7 @@ pub closes : (done : Done) (rows : List PacketRow) (taken after waiting : List I
     → taken ≡ items_of rows → after ≡ taken → after ++ waiting ≡ all_sent done
     → AreRowsUntil (bytes_of done) (fault_found done) rows
 closes done rows taken after waiting ran t a fifo = search (arith, rules, one_end, some_item)
+
+pub ruleset send_steps = (some_is, sends_more, sends_all)
+
+pub ruleset answer_steps = (named_fault, fault_is_read)

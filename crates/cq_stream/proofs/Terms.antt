@@ -1,5 +1,5 @@
 -- The words of this crate's proofs that stand elsewhere, each passed on from its place.
-pub use Rattle.cq_base.proofs.Library.{Err, IfSome, List, None, Some, [], append_assoc, arith, common_steps, length, map, map-append, refl, rules, ℕ, ◌++◌, ◌-◌, ◌∷◌, ◌≡◌}
+pub use Rattle.cq_base.proofs.Library.{List, None, [], append_assoc, arith, common_steps, length, map, map-append, refl, rules, ℕ, ◌++◌, ◌-◌, ◌∷◌, ◌≡◌}
 pub use Rattle.rtrb.specs.Ring.{SameConsumer, SameProducer, received, sent}
 pub use Rattle.cq_pcap.specs.Rows.{AreRowsTo, AreRowsUntil}
 pub use Rattle.cq_pcap.specs.declared.capture.PacketRow.{PacketRow}

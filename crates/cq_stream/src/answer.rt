@@ -6,6 +6,7 @@ ghost use Rattle.cq_stream.specs.Stream.{AnswersOn};
 use cq_pcap::{Capture, PacketRow, PcapRefusal};
 
 /// That of `read_capture`, where these are the rows up to the end of the bytes or up to their fault.
+#[tactic(auto, using(crate::proofs::Closing::answer_steps))]
 pub(crate) fn answer(
     bytes: Vec<u8>,
     fault: Option<PcapRefusal>,

@@ -31,6 +31,7 @@ pub(crate) fn next_order<R: Wait>(rt: &R, orders: &mut Consumer<Order>) -> Order
 }
 
 /// Does what the order says. Told to send, it tells the watch first. The answer is the fault that it met, if it did.
+#[tactic(auto, using(crate::proofs::Closing::sends_all))]
 pub(crate) fn obey<R: Wait, W: Watch>(
     rt: &R,
     order: Order,
@@ -74,6 +75,7 @@ fn send_rows<R: Wait>(rt: &R, items: &mut Producer<Item>, bytes: &[u8]) -> Optio
     }
 }
 
+#[tactic(auto, using(crate::proofs::Closing::send_steps))]
 fn send_records<R: Wait>(
     rt: &R,
     items: &mut Producer<Item>,

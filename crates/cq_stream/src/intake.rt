@@ -69,6 +69,7 @@ impl Intake {
     /// these are the rows taken. Each record ahead of the end, or of the first at fault, has one of them, there
     /// is no other, and they stand as the records do. A refusal is the fault that the reader found, and never want of
     /// memory.
+    #[tactic(auto, using(crate::proofs::Closing::closes))]
     pub fn close(self, done: Done, rows: Vec<PacketRow>) -> Result<Capture, PcapRefusal>
         requires done { IsLeftTo self done }
         requires taken { taken self ≡ items_of rows.items }
