@@ -17,14 +17,6 @@ module _ {X : Type 0} (f : ℕ → X → X) (xs : List X) where
   at-by_place i d inside =
       search (arith, rules, get_or-map, length-enumerate_from 0 xs, get_or-enumerate_from 0 xs i (0, d) inside)
 
-  -- one item more is changed
-  by_place_next : (now : List X) (i : ℕ) (y d : X) →
-      now ≡ changed_to (map (λ at. f at.0 at.1) (enumerate_from 0 xs)) xs i → i < length xs →
-      y ≡ f i (get_or now i d) → set now i y ≡ changed_to (map (λ at. f at.0 at.1) (enumerate_from 0 xs)) xs (i + 1)
-  by_place_next now i y d so_far inside is =
-      let next = next_place (map (λ at. f at.0 at.1) (enumerate_from 0 xs)) xs i y d length-by_place inside in
-      search (arith, rules, next, at_place, length-by_place, at-by_place)
-
 -- the items before a place are changed, and the others are as they were
 pub record IsChangedTo {X : Type 0} (f : ℕ → X → X) (xs : List X) (n : ℕ) (now : List X) : Type 0 where
   pub items : now ≡ changed_to (map (λ at. f at.0 at.1) (enumerate_from 0 xs)) xs n
@@ -40,7 +32,9 @@ module _ {X : Type 0} {f : ℕ → X → X} {xs : List X} {n : ℕ} {now : List 
   -- it is changed
   pub next_changed : (d y : X) → n < length xs → (seen : List X) → seen ≡ now → y ≡ f n (get_or seen n d) →
       (more : List X) → more ≡ set now n y → IsChangedTo f xs (n + 1) more
-  next_changed d y inside seen is one more put = grind (arith, common_steps, by_place_next, length-set)
+  next_changed d y inside seen is one more put =
+      let next = next_place (map (λ at. f at.0 at.1) (enumerate_from 0 xs)) xs n y d (length-by_place f xs) inside in
+      search (arith, rules, next, at_place, length-by_place, at-by_place, length-set)
 
   -- or is what it would be
   pub next_kept : (d : X) → n < length xs → get_or now n d ≡ f n (get_or now n d) → (more : List X) → more ≡ now →

@@ -1,7 +1,7 @@
 -- Cells that come into an empty list or an empty buffer in the order in which they are to stand. Each finds those
 -- ahead of it alone: in a list all more urgent cells for its output stand there, and no less urgent one, so that it
 -- goes in at the end; in a buffer all have lesser keys.
-use Rattle.cq_fabric.proofs.Terms.{rules, ◌≡◌, ◌≢◌, ℕ, zero, suc, ◌+◌, ◌<◌, ◌≤◌, List, [], ◌∷◌, ◌++◌, length, map, get_or, take, refl, ap, ◌∙◌, arith, common_steps, AllByRecursion, eqb-true, drop_all, get_or-map, get_or_read, length-map, length-take-le, take_all, take_more, All-from_recursion, Queued, EachPair, HasOtherKey, IsBefore, IsRising, MoreUrgentAhead, place_of_later, put, with_arrival, key_laws, ahead_of_end, first_later, Waiting, list_of, map_next, map_same, take_next, not_before_itself, AreFilled, IsFilled}
+use Rattle.cq_fabric.proofs.Terms.{rules, ◌≡◌, ◌≢◌, ℕ, zero, suc, ◌+◌, ◌<◌, List, [], ◌∷◌, ◌++◌, length, map, get_or, take, refl, ap, ◌∙◌, arith, common_steps, AllByRecursion, eqb-true, drop_all, get_or-map, length-map, length-take-le, take_all, take_more, All-from_recursion, Queued, EachPair, HasOtherKey, IsBefore, IsRising, MoreUrgentAhead, place_of_later, put, with_arrival, key_laws, ahead_of_end, first_later, Waiting, take_next, map_next, map_same, get_or_read, not_before_itself}
 use Rattle.cq_fabric.specs.Holding.{CanWait}
 
 -- ## A cell behind those that stand before its place
@@ -60,33 +60,6 @@ module _ (cells : List Queued) (rising : IsRising cells) (at : ℕ) (inside : at
   stands_last =
       search (arith, rules, put_last, before_place IsBefore cells at d inside rising, take_more cells at d inside)
 
--- ## Room
-
--- what is spare as the cells before a place stand there
-module _ (cells : List Queued) (at : ℕ) (inside : at < length cells) (xs : List Queued) (spare room : ℕ)
-    (so_far : xs ≡ take at cells) (is : length xs + spare ≡ room) where
-  pub still_spare : length cells ≤ room → 0 < spare
-  still_spare fits = let long = ap length so_far in omega (arith, length-take-le at cells (omega arith))
-
-  pub room_stays : (more : List Queued) (left : ℕ) → more ≡ take (at + 1) cells → left + 1 ≡ spare →
-      length more + left ≡ room
-  room_stays more left next one = grind (arith, common_steps, length-take-le)
-
--- ## All items
-
--- what is read of one of some lists
-pub given_at : (lists : List (List Queued)) (i : ℕ) {n : ℕ} {list cells : List Queued} → list ≡ get_or lists i list →
-    i < n → length lists ≡ n → cells ≡ list → cells ≡ list_of lists i
-given_at lists i {n} {list} read inside as_many is = search (arith, rules, get_or_read)
-
-pub one_filled : {X : Type 0} {cells_at : X → List Queued} {room_of number : X → ℕ} {m : ℕ} {sizes : List ℕ}
-    {cells : List (List Queued)} {n : ℕ} {items more : List X} (x : X) →
-    AreFilled cells_at room_of number m sizes cells n items → more ≡ items ++ x ∷ [] → n < length sizes →
-    length cells ≡ length sizes → IsFilled cells_at room_of number m (list_of cells n) (get_or sizes n 0) x →
-    AreFilled cells_at room_of number m sizes cells (n + 1) more
-one_filled {X} {cells_at} {room_of} {number} {m} {sizes} {cells} {n} {items} {more} x so_far is inside as_many one =
-    grind (arith, common_steps, map_next, map_same)
-
 -- ## What waits
 
 -- the cells of one item behind those of the items before it
@@ -96,4 +69,7 @@ pub one_told : {X : Type 0} (f : X → List Queued) (items : List X) (i : ℕ) (
 one_told f items i x all more cells so_far is inside read told =
     let nil = [] in search (arith, rules, take_next, length-map, get_or-map f items i x nil)
 
-pub ruleset fill_steps = (still_spare, stands_anew, take_all)
+pub ruleset fill_steps = (stands_anew, take_all)
+
+-- what stands beside a room is what one item more is made of
+pub ruleset filled_steps = (get_or_read, map_next, map_same, take_all)

@@ -99,12 +99,9 @@ module _ (limits : List (Option ℕ)) (ms : List Machine) (slot : ℕ) (cells : 
   pub limited_lists_kept : (i : ℕ) →
       length (input g.state i) ≤ length (input f.state i) + (if is_some (arrival_at cells i) then 1 else 0)
   unfolding admission
-  limited_lists_kept i =
-      let kept = lists_kept ms slot r.admission.cells f.state g.state r.of_slot s.runs i in
-      search (arith, rules, admitted_at)
+  limited_lists_kept i = search (arith, rules, admitted_at, lists_kept ms slot _ f.state g.state r.of_slot s.runs i)
 
   pub limited_outputs_kept : (j : ℕ) → held_for j g.state ≤ held_for j f.state + count_for j cells
   unfolding admission
   limited_outputs_kept j =
-      let kept = outputs_kept ms slot r.admission.cells f.state g.state r.of_slot s.runs j in
-      grind (arith, common_steps, each_once)
+      grind (arith, common_steps, each_once, outputs_kept ms slot _ f.state g.state r.of_slot s.runs j)

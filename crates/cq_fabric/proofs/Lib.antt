@@ -3,7 +3,6 @@ pub mod Changed
 pub mod Queued
 pub mod Offered
 pub mod Newest
-pub mod Rooms
 pub mod Kept
 pub mod Known
 pub mod Limits

@@ -1,7 +1,7 @@
 -- What the outputs of a fabric hold. Between two slots these are as many cells as the lists of an ideal switch have
 -- with which the fabric agrees. So the numbers that a limiter keeps are followed through a slot by the lists of that
 -- switch: it takes in the same cells and sends the same, and agrees again.
-use Rattle.cq_fabric.proofs.Terms.{common_steps, rules, ◌≡◌, ◌≢◌, ℕ, ◌+◌, ◌<◌, ◌≤◌, ◌^◌, Bool, List, [], length, map, get_or, drop, replicate, Option, Ok, refl, arith, get_or-set_same, get_or-set_other, length-set, IfSome, slice_get, ext_get_or, get_or-replicate, length-map, length-replicate, get_or-map-range_with_len, length-map-range_with_len, Cell, Queued, Machine, admission, admitted, marked, marks_after, count_for, IdealState, filled, fronts, ideal_slot, rests, HoldsLists, LimiterView, held_without, Ranking, ranking, each_once, Agrees, SendsAlike, Fabric, fabric_held, held_for, fabric_admission, came_to, list_of, HoldsFabric, Queues, fabric_of, holds_filled, by_marks, sent_from, came_for, hold_as_many, empty_list, nothing_for, slice_get_cases, length-drop}
+use Rattle.cq_fabric.proofs.Terms.{common_steps, rules, ◌≡◌, ℕ, ◌+◌, ◌<◌, ◌≤◌, ◌^◌, Bool, List, [], length, map, get_or, drop, replicate, Option, Ok, refl, arith, slice_get, ext_get_or, get_or-replicate, length-map, length-replicate, get_or-map-range_with_len, length-map-range_with_len, Cell, Queued, Machine, admission, admitted, marked, marks_after, count_for, IdealState, filled, fronts, ideal_slot, rests, HoldsLists, LimiterView, Ranking, ranking, each_once, Agrees, SendsAlike, Fabric, fabric_held, held_for, fabric_admission, came_to, list_of, HoldsFabric, Queues, fabric_of, holds_filled, by_marks, sent_from, came_for, hold_as_many, empty_list, nothing_for, slice_get_cases, length-drop}
 use Rattle.std.proofs.Math.ListN.{get_or-map as get_or_map}
 use Rattle.cq_fabric.specs.Released.{HasReleased}
 use Rattle.cq_fabric.proofs.Known.{AreRanked, BuffersHaveRoom, HaveJudged, bit}
@@ -51,13 +51,6 @@ holds_ideal slot f ideal l agrees holds = grind (arith, common_steps, hold_as_ma
 
 one_less : (xs : List Queued) (n : ℕ) → n + bit (slice_get xs 0) ≡ length xs → n ≡ length (drop 1 xs)
 one_less xs n e = grind (arith, common_steps, length-drop, slice_get_cases)
-
--- the number of an output that sent a cell, or none, and the numbers of the others
-pub released : (o : Option Queued) (output : ℕ) (held held' : List ℕ) → output < length held →
-    held' ≡ held_without o output held → IfSome o (λ _. 0 < get_or held output 0) →
-    (get_or held' output 0 + bit o ≡ get_or held output 0)
-    × ((j : ℕ) → j ≢ output → get_or held' j 0 ≡ get_or held j 0) × (length held' ≡ length held)
-released o output held held' inside is some = grind (arith, common_steps, get_or-set_same, get_or-set_other, length-set)
 
 -- each output that sent a cell holds one less
 holds_rests : (lists : List (List Queued)) (judged after : LimiterView) → HoldsLists lists judged →

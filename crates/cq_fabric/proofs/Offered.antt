@@ -3,27 +3,14 @@
 -- is transferred, the lists change in its pairs. All keys of waiting cells differ before and after: a cell that comes
 -- has a key that none had, and cells that leave take theirs away. So the first cells of different lists have
 -- different keys, as the offers ask.
-use Rattle.cq_fabric.proofs.Terms.{common_steps, rules, ◌≡◌, ◌≢◌, ℕ, ◌+◌, ◌<◌, ◌≤◌, ◌⊎◌, true, List, [], length, map, get_or, set, replicate, Option, Some, None, sym, ap, ◌∙◌, arith, All, insert, IsDistinct, cases_eq, cases_lt, length-map, length-replicate, get_or_default, get_or_past, get_or-replicate, get_or-set_same, get_or-set_other, length-set, Queued, MoreUrgentAhead, cushion, with_arrival, place_of_arrival, Waiting, cells_of, list_of, FirstKeysDiffer, AreOrdersOf, first_key, key_before, orders_of, Moves, list_taken, Orders, no_offers, ports, Partners, partner_of, with_pair, are_orders, IsAmong, came_to, among_insert, was_waiting, KeysApart, ComeApart, Comes, list_at, list_with, empty_list, AreSameWithout, one_orders, place_in-le-length, IsSameBut, same_list, same_but_arrival, same_but_taken, same_without, most_ports, cells-at}
+use Rattle.cq_fabric.proofs.Terms.{common_steps, rules, ◌≡◌, ◌≢◌, ℕ, ◌+◌, ◌<◌, ◌≤◌, ◌⊎◌, true, List, length, map, get_or, set, replicate, Option, Some, None, sym, ap, ◌∙◌, arith, All, insert, cases_eq, cases_lt, length-map, length-replicate, get_or_default, get_or-set_same, get_or-set_other, length-set, Queued, MoreUrgentAhead, cushion, with_arrival, place_of_arrival, Waiting, cells_of, list_of, FirstKeysDiffer, first_key, key_before, orders_of, Moves, list_taken, Orders, ports, Partners, partner_of, with_pair, IsAmong, came_to, among_insert, was_waiting, KeysApart, ComeApart, Comes, list_at, list_with, AreSameWithout, IsSameBut, same_list, same_but_arrival, same_but_taken, same_without, most_ports, cells-at}
 use Rattle.std.proofs.Math.ListN.{get_or-map}
 use Rattle.cq_prefs.proofs.BehindFirst.{comes_behind, same_offers}
-use Rattle.cq_fabric.proofs.Queued.{firsts_apart, new_square}
+use Rattle.cq_fabric.proofs.Queued.{firsts_apart}
 
 -- the lists are as many as ports are offered
 pub as_offered : (lists : List Waiting) (o : Orders) → o ≡ orders_of (cells_of lists) → ports o ≡ length lists
 as_offered lists o e = grind (arith, common_steps, length-map)
-
--- ## No cell
-
-nothing_offered : (k : ℕ) → AreOrdersOf (replicate k []) (no_offers k)
-unfolding IsDistinct
-nothing_offered k =
-    search (arith, rules, get_or-replicate, get_or_past, length-replicate, cases_lt, empty_list, place_in-le-length)
-
-pub none_offered : (lists : List Waiting) (k : ℕ) → cells_of lists ≡ replicate k [] →
-    no_offers k ≡ orders_of (cells_of lists)
-none_offered lists k e =
-    let differ : FirstKeysDiffer (replicate k []) = λ j i l c d a b same. cc (empty_list k i) in
-    search (rules, one_orders, nothing_offered, are_orders, differ, e)
 
 -- ## One cell comes
 
@@ -130,4 +117,4 @@ module _ (m : Partners) (lists lists' : List Waiting) (buffers buffers' : List (
       map (λ w. w.outputs) lists' ≡ map (λ w. w.outputs) lists → All (λ list. list.outputs ≡ length lists) lists'
   moved_outputs all outputs k d l = search (arith, rules, length-map, get_or-map (λ (w : Waiting). w.outputs))
 
-pub ruleset new_steps = (none_offered, new_square, length-map, length-replicate)
+pub ruleset new_steps = (length-replicate)

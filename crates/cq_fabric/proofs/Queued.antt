@@ -1,6 +1,6 @@
 -- Lists and buffers with their rooms. A cell that goes into a list takes the room that the list has for it, and a
 -- cell that leaves gives it back, so that no list and no buffer can hold more cells, or fewer, than before.
-use Rattle.cq_fabric.proofs.Terms.{common_steps, rules, ◌≡◌, ℕ, ◌+◌, ◌<◌, ◌≤◌, cond, List, [], ◌∷◌, length, map, get_or, drop, Option, Some, ◌∙◌, ⊎_elim, arith, replicate, is_some, slice_get, cond_both, length-map, ext_get_or, get_or-replicate, length-insert, Queued, first_for, without_first, rests, Waiting, cells_of, Buffered, cells_in, list_of, FirstKeysDiffer, orders_of, output_order, Moves, Orders, Partners, IsMatching, are_orders, HaveCells, HaveRoom, MovesRoom, list_spare, buffer_spare, partner_or_free, length_put, came_to, from_first, Queues, FitLists, KeysApart, CanCross, FitEach, AreSquare, list_room, buffer_room, no_list, list_at, list_with, popped, most_ports, cells-at, cells_in-at, no_buffer, whole}
+use Rattle.cq_fabric.proofs.Terms.{common_steps, rules, ◌≡◌, ℕ, ◌+◌, ◌<◌, ◌≤◌, ◌^◌, All, cases_lt, get_or_past, cond, List, [], ◌∷◌, length, map, get_or, drop, Option, Some, ◌∙◌, ⊎_elim, arith, replicate, is_some, slice_get, cond_both, length-map, ext_get_or, get_or-replicate, length-insert, Queued, first_for, without_first, rests, Waiting, cells_of, Buffered, cells_in, list_of, FirstKeysDiffer, orders_of, output_order, Moves, Partners, IsMatching, are_orders, HaveCells, HaveRoom, MovesRoom, list_spare, buffer_spare, partner_or_free, length_put, came_to, from_first, Queues, FitLists, KeysApart, CanCross, FitEach, AreSquare, list_room, buffer_room, no_list, list_at, list_with, popped, most_ports, cells-at, cells_in-at, no_buffer, whole}
 use Rattle.std.proofs.Math.ListN.{get_or-map}
 use Rattle.std.proofs.lemmas.Simd.{map-map}
 
@@ -26,6 +26,10 @@ pub buffer_room_is : (buffers : List Buffered) (j : ℕ) →
     get_or (map buffer_room buffers) j 0 ≡ length (list_of (cells_in buffers) j) + buffer_spare buffers j
 buffer_room_is buffers j =
     rw (cells_in-at buffers j) (get_or-map (λ (b : Buffered). length b.cells + b.spare) buffers j no_buffer)
+
+-- a number of 64 bits counts how many cells any buffer can hold
+pub rooms_fit : (rooms : List ℕ) → All (λ room. room < 2 ^ 64) rooms → (j : ℕ) → get_or rooms j 0 < 2 ^ 64
+rooms_fit rooms all j = grind (arith, common_steps, get_or_past, cases_lt)
 
 -- ## Lists of lists
 
@@ -68,11 +72,9 @@ pub firsts_apart : (lists : List (List Queued)) → KeysApart lists → FirstKey
 firsts_apart lists apart j i k c d a b e =
     apart i k c d (from_first j (list_of lists i) c a).0 (from_first j (list_of lists k) d b).0 e
 
-pub has_cell : (lists : List (List Queued)) (buffers : List (List Queued)) (from to : List ℕ) (o : Orders)
-    (m : Partners) → CanCross (record { inputs = lists; buffers = buffers; from_inputs = from; to_outputs = to }) →
-    o ≡ orders_of lists → IsMatching o m → HaveCells m lists
-has_cell lists buffers from to o m can is matching i j p =
-    grind (arith, common_steps, are_orders lists, firsts_apart lists can.apart, matching.offered i j p)
+pub has_cell : (q : Queues) (m : Partners) → CanCross q → IsMatching (orders_of q.inputs) m → HaveCells m q.inputs
+has_cell q m can matching i j p =
+    grind (arith, common_steps, are_orders q.inputs, firsts_apart q.inputs can.apart, matching.offered i j p)
 
 -- a matching has a place for each input
 pub matched_long : (inputs : List (List Queued)) (m : Partners) → IsMatching (orders_of inputs) m →

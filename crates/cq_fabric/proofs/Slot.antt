@@ -115,7 +115,7 @@ module _ {ms : List Machine} {slot : ℕ} {q0 : Queues} {ranks0 : List (List ℕ
       module _ {m1 : Partners} {q2 : Queues} (moved1 : HaveMoved m1 q1 q2) where
         -- the first cell for an output at the input that is its partner
         crossing : HaveCells m1 q1.inputs
-        crossing = has_cell _ _ _ _ _ m1 can_cross_first refl moved1.stable.matching
+        crossing = has_cell q1 m1 can_cross_first moved1.stable.matching
 
         -- an output that sends a cell held one: it stood in its buffer, or crossed to it now
         sent_was_held : (j : ℕ) → 1 ≤ length (list_of q2.buffers j) →

@@ -14,4 +14,4 @@ pub use Rattle.cq_fabric.specs.Crossing.{CanCrossInPairs, CanFollow}
 pub use Rattle.cq_fabric.specs.Holding.{CanHold, CanStand, CanWait}
 pub use Rattle.cq_fabric.specs.{Newest.IsNewest, Released.HasReleased}
 pub use Rattle.cq_fabric.specs.Queues.{front_of, popped, CanCross, ComeApart, Comes, FitEach, FitLists, Fits, buffer_room, fabric_of, list_room, list_with}
-pub use Rattle.cq_fabric.specs.Telling.{AllAreFilled, AllAreTold, CanFill}
+pub use Rattle.cq_fabric.specs.Telling.{AllAreTold}

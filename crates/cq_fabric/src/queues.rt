@@ -6,7 +6,7 @@ ghost use Rattle.cq_base.specs.Cells.{MoreUrgentAhead, with_arrival};
 ghost use Rattle.cq_fabric.specs.Terms.{cushion, fronts, rests, cells_of, cells_in, first_key, key_before, list_of, orders_of, Moves, transfers_of, IsMatching, HasTransferred, came_to, list_arrived, CanCrossInPairs, CanFollow, CanHold, IsNewest, CanCross, ComeApart, Comes, FitEach, FitLists, Fits, buffer_room, fabric_of, list_at, list_room, list_with, most_ports, either_by, slacks};
 
 use crate::gone::Gone;
-use crate::standing::{all_told, filled_buffer, filled_each, filled_list};
+use crate::standing::{all_told, filled_buffers, filled_lists};
 use cq_base::{Key, NoMemory, Port, Queued, Room, Sequence, Slot, Transfer};
 use cq_ideal::Newcomers;
 use cq_list::InputList;
@@ -160,32 +160,16 @@ fn cross_matched(
     offers.renew(lists, matching);
 }
 
-// A list for each of these rooms, over as many outputs.
-fn new_lists(alloc: Global, rooms: &[u64]) -> Result<Vec<InputList>, NoMemory>
-    requires { length rooms.now ≤ most_ports }
-    ensures cells { IfOk result (λ lists. cells_of lists.items ≡ replicate (length rooms.now) []) }
-    ensures rooms { IfOk result (λ lists. map list_room lists.items ≡ rooms.now) }
-    ensures outputs { IfOk result (λ lists. map (λ list. list.outputs) lists.items
-        ≡ replicate (length rooms.now) (length rooms.now)) }
+// No cell, for each of so many ports. The error is want of memory.
+#[tactic(auto, using(std::proofs::lemmas::List::replicate_more))]
+fn no_cells(alloc: Global, ports: usize) -> Result<Vec<Sequence<Queued>>, NoMemory>
+    ensures { IfOk result (λ none. none.items ≡ replicate ports []) }
 {
-    let mut lists = Vec::with_capacity(alloc, rooms.len())?;
-    for room in rooms {
-        lists.push(InputList::new(alloc, rooms.len() as u16, *room)?)?;
+    let mut none = Vec::with_capacity(alloc, ports)?;
+    'ports: for _ in 0..ports {
+        none.push(Sequence::of(Vec::new(alloc)))?;
     }
-    Ok(lists)
-}
-
-// A buffer for each of these rooms.
-fn new_buffers(alloc: Global, rooms: &[u64]) -> Result<Vec<OutputBuffer>, NoMemory>
-    ensures cells { IfOk result (λ buffers. cells_in buffers.items ≡ replicate (length rooms.now) []) }
-    ensures rooms { IfOk result (λ buffers. map buffer_room buffers.items ≡ rooms.now) }
-    ensures few { IfOk result (λ _. All (λ room. room < 2 ^ 64) rooms.now) }
-{
-    let mut buffers = Vec::with_capacity(alloc, rooms.len())?;
-    for room in rooms {
-        buffers.push(OutputBuffer::new(alloc, *room)?)?;
-    }
-    Ok(buffers)
+    Ok(none)
 }
 
 // Whether each of the lists is empty.
@@ -213,11 +197,8 @@ impl Queues {
         ensures from_inputs { IfOk result (λ q. q.from_inputs ≡ from_inputs.now) }
         ensures to_outputs { IfOk result (λ q. q.to_outputs ≡ to_outputs.now) }
     {
-        Ok(Queues {
-            lists: new_lists(alloc, from_inputs)?,
-            buffers: new_buffers(alloc, to_outputs)?,
-            offers: Offers::new(alloc, from_inputs.len() as u16)?,
-        })
+        let none = no_cells(alloc, from_inputs.len())?;
+        Queues::holding(alloc, from_inputs, to_outputs, &none, &none)
     }
 
     /// These cells wait, and the lists and the buffers can hold so many. The error is want of memory.
@@ -238,14 +219,9 @@ impl Queues {
         ensures from_inputs { IfOk result (λ q. q.from_inputs ≡ from_inputs.now) }
         ensures to_outputs { IfOk result (λ q. q.to_outputs ≡ to_outputs.now) }
     {
-        let ports = from_inputs.len() as u16;
-        let waiting = filled_each(alloc, from_inputs, lists, |room, cells| {
-            filled_list(alloc, ports, room, cells)
-        })?;
-        let crossed = filled_each(alloc, to_outputs, buffers, |room, cells| {
-            filled_buffer(alloc, room, cells)
-        })?;
-        let mut offers = Offers::new(alloc, ports)?;
+        let waiting = filled_lists(alloc, from_inputs, lists)?;
+        let crossed = filled_buffers(alloc, to_outputs, buffers)?;
+        let mut offers = Offers::new(alloc, from_inputs.len() as u16)?;
         offers.fill(&waiting);
         Ok(Queues {
             lists: waiting,
@@ -269,7 +245,7 @@ impl Queues {
     }
 
     /// The number of inputs, and of outputs.
-    #[tactic(auto, using(crate::proofs::Queued::buffer_room_is, crate::proofs::Rooms::rooms_fit))]
+    #[tactic(auto, using(crate::proofs::Queued::buffer_room_is, crate::proofs::Queued::rooms_fit))]
     pub fn ports(&self) -> u16
         ensures value { result ≡ length self.now.inputs }
         ensures buffers { length self.now.buffers ≡ length self.now.inputs }

@@ -1,7 +1,7 @@
 //! Lists and buffers in which cells wait from the start, and the cells that wait in them.
-ghost use Rattle.std.specs.Prelude.{◌≡◌, ◌≤◌, IfOk, Ok, length};
+ghost use Rattle.std.specs.Prelude.{◌≡◌, ◌<◌, ◌≤◌, ℕ, IfOk, Ok, length, map, replicate, slice_index};
 ghost use Rattle.std.specs.Fn.{FnReturnsAt};
-ghost use Rattle.cq_fabric.specs.Terms.{CanStand, CanWait, buffer_room, list_room, most_ports, AllAreFilled, AllAreTold, CanFill};
+ghost use Rattle.cq_fabric.specs.Terms.{CanStand, CanWait, buffer_room, cells_in, cells_of, list_of, list_room, most_ports, AllAreTold};
 
 use cq_base::{NoMemory, Queued, Sequence};
 use cq_list::InputList;
@@ -44,24 +44,50 @@ pub fn filled_buffer(alloc: Global, room: u64, cells: &[Queued]) -> Result<Outpu
     Ok(buffer)
 }
 
-/// What is made of each of these rooms and of the cells beside it, in order. The error is want of memory.
-pub fn filled_each<T: Drop, F: Fn(u64, &[Queued]) -> Result<T, NoMemory>>(
+/// A list for each of these rooms, over as many outputs, in which the cells beside it wait. The error is want of
+/// memory.
+#[tactic(auto, using(crate::proofs::Filling::filled_steps))]
+pub fn filled_lists(
     alloc: Global,
     rooms: &[u64],
     cells: &[Sequence<Queued>],
-    fill: F,
-) -> Result<Vec<T>, NoMemory>
+) -> Result<Vec<InputList>, NoMemory>
+    requires few { length rooms.now ≤ most_ports }
     requires as_many { length cells.now ≡ length rooms.now }
-    requires can { CanFill (F.pre fill) rooms.now cells.now }
-    ensures { IfOk result (λ made. AllAreFilled (λ room given x. F.post fill room given (Ok x)) rooms.now cells.now
-        (length rooms.now) made.items) }
+    requires wait { (i : ℕ) → i < length cells.now →
+        CanWait (length cells.now) (slice_index rooms.now i) (list_of cells.now i) }
+    ensures cells { IfOk result (λ lists. cells_of lists.items ≡ cells.now) }
+    ensures rooms { IfOk result (λ lists. map list_room lists.items ≡ rooms.now) }
+    ensures outputs { IfOk result (λ lists. map (λ list. list.outputs) lists.items
+        ≡ replicate (length rooms.now) (length rooms.now)) }
 {
-    let mut made = Vec::with_capacity(alloc, rooms.len())?;
-    'places: for at in 0..rooms.len() {
-        let item = fill(rooms[at], cells[at].as_slice())?;
-        made.push(item)?;
+    let mut lists = Vec::with_capacity(alloc, rooms.len())?;
+    'places: for (at, room) in rooms.iter().enumerate() {
+        let waiting = cells[at].as_slice();
+        lists.push(filled_list(alloc, rooms.len() as u16, *room, waiting)?)?;
     }
-    Ok(made)
+    Ok(lists)
+}
+
+/// A buffer for each of these rooms, in which the cells beside it wait. The error is want of memory.
+#[tactic(auto, using(crate::proofs::Filling::filled_steps))]
+pub fn filled_buffers(
+    alloc: Global,
+    rooms: &[u64],
+    cells: &[Sequence<Queued>],
+) -> Result<Vec<OutputBuffer>, NoMemory>
+    requires as_many { length cells.now ≡ length rooms.now }
+    requires stand { (j : ℕ) → j < length cells.now →
+        CanStand (slice_index rooms.now j) (list_of cells.now j) }
+    ensures cells { IfOk result (λ buffers. cells_in buffers.items ≡ cells.now) }
+    ensures rooms { IfOk result (λ buffers. map buffer_room buffers.items ≡ rooms.now) }
+{
+    let mut buffers = Vec::with_capacity(alloc, rooms.len())?;
+    'places: for (at, room) in rooms.iter().enumerate() {
+        let waiting = cells[at].as_slice();
+        buffers.push(filled_buffer(alloc, *room, waiting)?)?;
+    }
+    Ok(buffers)
 }
 
 /// What is told of each of some items, in order. The error is want of memory.

@@ -1,4 +1,4 @@
-use Rattle.cq_fabric.proofs.Terms.{◌≡◌, take, list_room}
+use Rattle.cq_fabric.proofs.Terms.{◌≡◌, ◌+◌, ◌≤◌, length, take, list_room}
 use Rattle.cq_fabric.proofs.standing.filled_list.Given as goal
 
 -- the cells before this one wait
@@ -6,5 +6,6 @@ abbrev pub invariant-places : goal.invariant-places
 invariant-places l = record {
   cells : l.list.cells ≡ take l.at l.cells;
   room : list_room l.list ≡ l.fn.room;
+  spare : length l.cells ≤ l.list.spare + l.at;
   outputs : l.list.outputs ≡ l.fn.outputs;
 }

@@ -1,15 +1,9 @@
-use Rattle.cq_fabric.proofs.Terms.{rules, sym, subst, arith, cases_lt, get_or_default, get_or_past, length-map, cells-at, ports, FitLists, whole}
-use Rattle.cq_fabric.proofs.Queued.{HaveCome, shown, fit_each, arrived_rooms}
+use Rattle.cq_fabric.proofs.Terms.{rules, arith, cases_lt, get_or_default, get_or_past, length-map, cells-at, ports, whole, sym, subst, FitLists}
+use Rattle.cq_fabric.proofs.Queued.{HaveCome, fit_each, arrived_rooms}
 use Rattle.cq_fabric.proofs.Offered.{as_offered}
 use Rattle.cq_fabric.proofs.queues.Queues.arrive.Goals as goal
-use Rattle.cq_fabric.proofs.queues.Queues.arrive.Goals.{After-self}
 
 -- ## What is known, call by call
-
--- what comes fits the lists
-fits : (c : After-self) →
-    FitLists c.args.came.now (shown c.self.inside.lists.items c.self.inside.buffers.items)
-fits c = subst (FitLists c.args.came.now) (sym c.self.view_is) c.requires.fit
 
 -- what the loop says of the vectors, from what it says of their slices
 come : (c : goal.After-self-1) →
@@ -21,7 +15,7 @@ come c = search (arith, rules)
 
 pub insert_each-requires : goal.insert_each-requires
 insert_each-requires c =
-    let fit = fits (goal.at.insert_each-requires c).After-self in
+    let fit = subst (FitLists c.args.came.now) (sym c.self.view_is) c.requires.fit in
     search (arith, rules, fit_each _ _ c.args.came.now _ c.self.invariant.square fit)
 
 pub invariant_of-self : goal.invariant_of-self

@@ -1,4 +1,4 @@
-use Rattle.cq_fabric.proofs.Terms.{refl, rules, sym, subst, arith, length-map, cells_of, cells_in, orders_of, IsMatching, HaveCells, Held, CanCross, whole}
+use Rattle.cq_fabric.proofs.Terms.{rules, sym, subst, arith, length-map, cells_of, HaveCells, CanCross, whole, Held}
 use Rattle.cq_fabric.proofs.Offered.{as_offered}
 use Rattle.cq_fabric.proofs.Queued.{HaveCrossed, has_cell, have_room, crossed_list_rooms, crossed_buffer_rooms, crossed_square, matched_long}
 use Rattle.cq_fabric.proofs.queues.Queues.cross.Goals as goal
@@ -8,10 +8,8 @@ use Rattle.cq_fabric.proofs.queues.Queues.cross.Goals.{After-self}
 
 -- each pair of the matching has a cell that can cross
 have : (c : After-self) → HaveCells c.args.matching.now (cells_of c.self.inside.lists.items)
-have c = has_cell (cells_of c.self.inside.lists.items) (cells_in c.self.inside.buffers.items) _ _ _
-    c.args.matching.now (subst CanCross (sym c.self.view_is) c.requires.cells) refl
-    (subst (λ (q : Held). IsMatching (orders_of q.inputs) c.args.matching.now) (sym c.self.view_is)
-    c.requires.matching)
+have c = subst (λ (q : Held). HaveCells c.args.matching.now q.inputs) (sym c.self.view_is)
+    (has_cell c.args.self.now c.args.matching.now c.requires.cells c.requires.matching)
 
 -- what the transfer says of the vectors, from what it says of their slices
 crossed : (c : goal.After-self-2-1) →

@@ -1,14 +1,7 @@
 -- The least slack of a list, cell after cell: the least of the slacks so far and of one more is the lesser of the two.
-use Rattle.cq_fabric.proofs.Terms.{rules, [], refl, arith, take_all, input, fabric_of, common_steps, ◌≡◌, ℕ, ◌+◌, ◌-◌, ◌<◌, List, ◌∷◌, ◌++◌, length, get_or, take, Option, Some, min, ⊎_elim, slice_get, reduce, enumerate_from, get_or-map, length-map, take_more, get_or-enumerate_from, length-enumerate_from, get_or_from_slice_get, slice_get_cases, slice_get_within, Queued, Fabric, cushion_of, either_by, slacks}
+use Rattle.cq_fabric.proofs.Terms.{◌∷◌, rules, [], arith, take_all, input, fabric_of, common_steps, ◌≡◌, ℕ, ◌+◌, ◌-◌, ◌<◌, length, get_or, take, Option, Some, min, ⊎_elim, slice_get, reduce, enumerate_from, get_or-map, length-map, take_more, get_or-enumerate_from, length-enumerate_from, get_or_from_slice_get, slice_get_cases, slice_get_within, Queued, Fabric, cushion_of, either_by, slacks}
+use Rattle.cq_laws.proofs.AddingUp.{reduce-append}
 use Rattle.cq_fabric.proofs.queues.Queues.least_slack.Goals as goal
-
--- ## The least of some numbers
-
-reduce_push : (xs : List ℕ) (x : ℕ) → reduce min (xs ++ x ∷ []) ≡ either_by min (reduce min xs) (Some x)
-reduce_push [] x = refl
-reduce_push (y ∷ ys) x = grind (arith, common_steps)
-
--- ## The slacks of a list
 
 length-slacks : (f : Fabric) (i : ℕ) → length (slacks f i) ≡ length (input f i)
 unfolding slacks
@@ -29,7 +22,8 @@ looked_at : (f : Fabric) (i p slack : ℕ) (least more : Option ℕ) → least �
 looked_at f i p slack least more so_far below each told =
     ⊎_elim (λ x.
     let more = take_more (slacks f i) p 0 in
-    grind (arith, common_steps, each x.0 x.2, slack_there f i p x.0 x.2, reduce_push, more, length-slacks))
+    let push = reduce-append min (λ x y z. omega arith) (take p (slacks f i)) (slack ∷ []) in
+    grind (arith, common_steps, each x.0 x.2, slack_there f i p x.0 x.2, push, more, length-slacks))
     (λ past. absurd (omega arith)) (slice_get_cases (input f i) p).1
 
 pub places-preserved : goal.places-preserved
