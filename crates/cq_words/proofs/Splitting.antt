@@ -3,6 +3,7 @@
 -- goes to that subcommand. There each value goes to the next positional, which has no value yet: a value is no flag,
 -- for it is not empty and begins with no dash, so nothing of it is refused.
 use Rattle.cq_words.proofs.Terms.{IfOk-weaker, common_steps, arith, rules, ◌≡◌, ◌&&◌, ℕ, suc, fold, Bool, true, false, refl, List, [], ◌∷◌, Option, None, codes, is_some, if◌then◌else◌, ap, option_and_then, list_all, bytes_eq, bytes_eq-Decides, Held, Rule, Text, Walk, arg_by_index, finished, first_of, nothing_held, rows_after, to_positional, value, walked, Shape, filled, new_shape, subcommand_of, with_index, default_passes, is_valid, level_passes, settle_passes, step_passes, takes, walk_passes, command_for, is_value, with_config, captures_in, command_found, line, numbers_in, slots_in, state_in, value_rule, Command, idle, turn_passes}
+use Rattle.clap.proofs.WalkLemmas.{first_value-rows}
 
 -- ## One value
 
@@ -65,18 +66,12 @@ abbrev pub IsSplit : List Text → Type 0
 IsSplit words = (command_found (subcommand_of line words) ≡ command_for words) × (takes line words ≡ true)
 
 module _ (word : Text) (rules : List Rule) where
-  values_walked : (w : Walk) (place : ℕ) (vs : List Text) → list_all is_value vs ≡ true →
-      AreTaken word rules w place vs → fold (walked rules []) w vs ≡ walked_to rules w place vs
-  values_walked w place [] are taken = refl
-  values_walked w place (v ∷ vs) are taken =
-      grind (arith, common_steps, value_walked, values_walked (after rules w.held place v) (suc place) vs)
-
-  walk_taken : (w : Walk) (place : ℕ) (vs : List Text) → list_all is_value vs ≡ true → AreTaken word rules w place vs →
-      walk_passes (leaf word rules) [] w vs ≡ true
+  all_walked : (w : Walk) (place : ℕ) (vs : List Text) → list_all is_value vs ≡ true → AreTaken word rules w place vs →
+      (fold (walked rules []) w vs ≡ walked_to rules w place vs) × (walk_passes (leaf word rules) [] w vs ≡ true)
   unfolding walk_passes
-  walk_taken w place [] are taken = refl
-  walk_taken w place (v ∷ vs) are taken =
-      grind (arith, common_steps, value_taken, value_walked, walk_taken (after rules w.held place v) (suc place) vs)
+  all_walked w place [] are taken = (refl, refl)
+  all_walked w place (v ∷ vs) are taken =
+      grind (arith, common_steps, value_taken, value_walked, all_walked (after rules w.held place v) (suc place) vs)
 
   module _ (vs : List Text) (are : list_all is_value vs ≡ true)
       (taken : AreTaken word rules (at nothing_held 1) 1 vs) where
@@ -85,10 +80,10 @@ module _ (word : Text) (rules : List Rule) where
 
     -- what is found under the name of a value
     found : (name : Text) → first_of name (rows_after rules [] vs) ≡ first_of name (finished rules end.held)
-    found name = grind (arith, common_steps, values_walked)
+    found name = grind (arith, common_steps, all_walked)
 
     passes : end_passes (leaf word rules) end ≡ true → level_passes (leaf word rules) [] nothing_held vs false ≡ true
-    passes ends = grind (arith, common_steps, walk_taken, values_walked)
+    passes ends = grind (arith, common_steps, all_walked)
 
     -- A form whose command is made of what is found under the names of its values: words that read the same as its own
     -- are split as they are, and of others the other forms are asked.
@@ -147,3 +142,6 @@ command_split words h = search (arith, rules)
 
 -- what holds of all that a step gives holds of what it gave
 pub ruleset line_steps = (IfOk-weaker)
+
+-- the first text of a value is the first of its rows
+pub ruleset value_steps = (first_value-rows)

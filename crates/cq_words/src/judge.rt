@@ -5,6 +5,7 @@ ghost use Rattle.cq_words.specs.Words.{command_for, is_value as value_test};
 use crate::command::{slots_of, soak};
 
 /// Whether the words are a command.
+#[tactic(auto, using(crate::proofs::Streaming::too_many))]
 pub fn is_command(words: &[String]) -> bool
     ensures { result ≡ is_some (command_for (map string_bytes words.now)) }
 {

@@ -43,6 +43,7 @@ pub fn split<'a>(alloc: Global, words: &'a [String]) -> Result<ArgMatches<'a>, E
 }
 
 /// The first text of a value.
+#[tactic(auto, using(crate::proofs::Splitting::value_steps))]
 pub fn value<'a>(values: &ArgMatches<'a>, name: &str) -> Option<&'a str>
     ensures { option_map (λ text. text.now) result ≡ first_of name.now (rows_of (found_of values.now)) }
 {

@@ -1,7 +1,7 @@
 -- Digits that are read one after another. One more digit moves what is read up one place and fills the place that comes
 -- free, so that in the end each counts as often as its place says. And a number of so many digits is below that power
 -- of ten.
-use Rattle.cq_words.proofs.Terms.{common_steps, rules, ◌≡◌, if◌then◌else◌, Some, None, ℕ, List, ◌-◌, ◌≤◌, length, arith, ◌∙◌, ◌<◌, get_or, list_all, is_ascii_digit, nat_tests, drop_more, drop_all, is_numeral, value_of, ◌+◌, ◌*◌, ◌^◌, [], ◌∷◌, drop, add-one, fold, pow-suc}
+use Rattle.cq_words.proofs.Terms.{common_steps, rules, ◌≡◌, ℕ, List, ◌-◌, length, arith, ◌∙◌, ◌<◌, get_or, nat_tests, drop_more, drop_all, value_of, ◌+◌, ◌*◌, ◌^◌, [], ◌∷◌, add-one, fold, pow-suc}
 use Rattle.cq_words.proofs.number.numeral.Goals as goal
 
 -- what is read on over more digits
@@ -24,11 +24,6 @@ loop-digit-preserved c =
     let rest = drop_more c.args.text.now c.loop-digit.digit-index 0 in
     grind (arith, common_steps, rest, below_more_digits)
 
-numeral_is : (text : List ℕ) (v i : ℕ) → 1 ≤ length text → length text ≤ 20 → length text ≤ i →
-    list_all is_ascii_digit (drop i text) ≡ list_all is_ascii_digit text →
-    fold (λ n digit. n * 10 + (digit - 48)) v (drop i text) ≡ fold (λ n digit. n * 10 + (digit - 48)) 0 text →
-    Some v ≡ (if is_numeral text then Some (value_of text) else None)
-numeral_is text v i least most end digits is = grind (arith, common_steps, nat_tests, drop_all i text, read_on 0 text)
-
 pub returns : goal.returns
-returns c = search (arith, rules, numeral_is)
+returns c = grind
+    (arith, common_steps, nat_tests, drop_all c.loop-digit.digit-index c.args.text.now, read_on 0 c.args.text.now)
