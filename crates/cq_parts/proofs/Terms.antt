@@ -20,7 +20,7 @@ pub use Rattle.cq_cells.specs.{Schedule.arrivals}
 pub use Rattle.cq_scfq.specs.{Disciplines.machine_of, Disciplines.machines_of, Disciplines.openings_of}
 pub use Rattle.cq_ideal.proofs.LimitedEnds.{limited_whole_fault}
 pub use Rattle.cq_ideal.specs.{LimitedEnding.departures_limited}
-pub use Rattle.cq_laws.proofs.{InputBest.stable_limited_too, LimitedWhole.begin, LimitedWhole.same_limited_stop}
+pub use Rattle.cq_laws.proofs.ActingAlike.{best_act_alike_from_empty}
 pub use Rattle.cq_resume.specs.{Parts.IsWholeFault, Reading.IsRead, declared.taken.Taken.Taken}
 pub use Rattle.cq_stopped.proofs.{Together.read_runs_go_on, Together.stopped_runs_are_read}
 pub use Rattle.cq_stopped.specs.{Read.GoesOnAsRun, Read.IsReadAs, Read.kept_in_run}

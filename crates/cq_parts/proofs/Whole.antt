@@ -4,10 +4,10 @@
 -- for which `run` is refused: both act alike in every slot, and a fault of the ideal switch ends its whole run. And
 -- `resume` reads the configuration and the captures that `part` read, and the text that it wrote: where it alone wrote,
 -- under a name of its own, these are there.
-use Rattle.cq_parts.proofs.Terms.{common_steps, arith, rules, ◌≡◌, ◌<◌, ◌^◌, ℕ, List, refl, subst, Ok, Err, Scheduled, schedule_of, LimitedRecord, Captured, IsScheduleOf, Switch, switch_of, Tables, Contents, Run, Aim, Denies, Meets, Resuming, Reader, captures_in, judged, tables_in, IsRead, Taken, departures_in_run, read_runs_go_on, stopped_runs_are_read, GoesOnAsRun, IsReadAs, kept_in_run, traffic_is, AreGiven, IsEmulation, IsPartText, Plan, Refusal, le-ltb, ◌≢◌, [], ◌∷◌, length, ◌≤◌, Some, get, Resume, all_weaker, get_same, captures_same, untouched, longest_file, ap, length-map, TagFault, arrivals, limited_whole_fault, stable_limited_too, begin, same_limited_stop, IsWholeFault, AreTables, classes_of, ports_of, machine_of, machines_of, openings_of, slots_fit, departures_limited}
+use Rattle.cq_parts.proofs.Terms.{common_steps, arith, rules, ◌≡◌, ◌<◌, ◌^◌, ℕ, List, refl, subst, Ok, Err, Scheduled, schedule_of, LimitedRecord, Captured, IsScheduleOf, Switch, switch_of, Tables, Contents, Run, Aim, Denies, Resuming, Reader, captures_in, judged, tables_in, IsRead, Taken, departures_in_run, read_runs_go_on, stopped_runs_are_read, GoesOnAsRun, IsReadAs, kept_in_run, traffic_is, AreGiven, IsPartText, Refusal, le-ltb, ◌≢◌, [], ◌∷◌, length, ◌≤◌, Some, get, Resume, all_weaker, get_same, captures_same, untouched, longest_file, ap, length-map, TagFault, arrivals, limited_whole_fault, IsWholeFault, AreTables, classes_of, ports_of, machine_of, machines_of, openings_of, slots_fit, departures_limited, best_act_alike_from_empty}
 use Rattle.cq_run.proofs.Crossed.{keeps_up}
 use Rattle.cq_run.specs.Plan.{crossed, resumed}
-use Rattle.cq_parts.specs.Parts.{IsAimOfRun, PartsAreTheRun, IsLeftByPart, IsWrittenByPart, PartLeavesTheRest}
+use Rattle.cq_parts.specs.Parts.{IsAimOfRun, PartsAreTheRun, IsLeftByPart, IsWrittenByPart}
 use Rattle.cq_simulate.specs.IdealRuns.{ideal_departures, ran_ideal}
 use Rattle.cq_resume.specs.declared.refusal.StateRefusal.TheVariants as of_state
 use Rattle.cq_run.specs.declared.refusal.Refusal.TheVariants as refused
@@ -25,10 +25,9 @@ whole_fault t captures fault are each is =
     let p = ports_of t.setup in
     let c = classes_of t.setup in
     let ports = length-map t.setup.kinds (λ kind. machine_of kind t.setup.classes) in
-    let stops = (stable_limited_too ms t.limits).stop 0 _ _ is.records fault (rw ports at is.stops) in
     let fit = slots_fit p c _ 0 is.count (traffic_is t captures are each) in
-    ap departures_limited (limited_whole_fault t.limits ms p _ _ is.count fault (same_limited_stop t.limits ms c 0 _ _ _
-    is.records fault (begin t.limits ms c p (openings_of t.setup) _ fit) stops))
+    ap departures_limited (limited_whole_fault t.limits ms p _ _ is.count fault ((best_act_alike_from_empty t.limits
+    ms).stop p c (openings_of t.setup) _ is.records fault fit (rw ports at is.stops)))
 
 -- ## What is read of what was left
 
@@ -39,8 +38,8 @@ module _ (r : Reader) (config state : List ℕ) where
   aimed left t captures text configured captured told short = grind (arith, common_steps, le-ltb)
 
   module _ (slots : ℕ) (m left : Contents) (is : IsWrittenByPart r config state slots m left) where
-    is_left : IsLeftByPart r config state slots m left
-    is_left =
+    pub part_leaves_the_rest : IsLeftByPart r config state slots m left
+    part_leaves_the_rest =
         let written = rw is.stops.written at is.written in
         -- every other name has what it had
         let same = λ (name : List ℕ) (other : state ≢ name).
@@ -52,9 +51,6 @@ module _ (r : Reader) (config state : List ℕ) where
           same = search (arith, rules, same, captures_same, all_weaker);
           told = search (arith, rules, get_same);
         }
-
-pub part_leaves_the_rest : (r : Reader) → PartLeavesTheRest r
-part_leaves_the_rest = is_left
 
 -- ## What goes on
 
@@ -92,21 +88,6 @@ module _ (r : Reader) (config : List ℕ) (m : Contents) (t : Tables) (captures 
       abbrev aim : Aim
       aim = Resuming t captures text
 
-      met : (whole : Plan) → IsEmulation r config m whole → Meets aim whole
-      met whole e =
-          let resumed = (goes part.at read_as.read).resumes e.records in
-          search (arith, rules, same_plan, resumed, read_as)
-
-      only : (whole plan : Plan) → IsEmulation r config m whole → Meets aim plan → plan ≡ whole
-      only whole plan e (kept, is, written) =
-          let one = (goes is.from is.read).run e.records kept in grind (arith, common_steps, same_plan, one)
-
-      -- the run that goes on from there is one that keeps up
-      writes : (plan : Plan) → Meets aim plan → IsEmulation r config m plan
-      writes plan (kept, is, written) =
-          let it = (goes is.from is.read).ends kept is.resumed in
-          search (rules, configured, captured, same_plan, traffic_is, keeps_up t captures it.0 given)
-
       -- the text itself is refused for nothing
       denied : (refusal : Refusal) → Denies aim refusal → judged r (Run config) m ≡ Err refusal
       denied (refused.Tag fault) is =
@@ -118,7 +99,19 @@ module _ (r : Reader) (config : List ℕ) (m : Contents) (t : Tables) (captures 
       denied refusal is = absurd is
 
       pub aim_of_run : IsAimOfRun r config m aim
-      aim_of_run = record { met = met; only = only; writes = writes; refused = denied }
+      aim_of_run = record {
+        met = λ whole e.
+            let resumed = (goes part.at read_as.read).resumes e.records in
+            search (arith, rules, same_plan, resumed, read_as);
+        only = λ whole plan e meets.
+            let one = (goes meets.1.from meets.1.read).run e.records meets.0 in
+            grind (arith, common_steps, same_plan, one);
+        -- the run that goes on from there is one that keeps up
+        writes = λ plan meets.
+            let it = (goes meets.1.from meets.1.read).ends meets.0 meets.1.resumed in
+            search (rules, configured, captured, same_plan, traffic_is, keeps_up t captures it.0 given);
+        refused = denied;
+      }
 
 pub parts_are_the_run : (r : Reader) → PartsAreTheRun r
 parts_are_the_run r config state slots m left is =
