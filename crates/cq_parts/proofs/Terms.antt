@@ -8,7 +8,7 @@ pub use Rattle.cq_cells.specs.Scheduled.{Scheduled, schedule_of}
 pub use Rattle.cq_laws.specs.LimitedFabric.{LimitedRecord}
 pub use Rattle.cq_resume.specs.Switch.{IsScheduleOf, Switch, switch_of}
 pub use Rattle.cq_words.specs.declared.command.Command.TheVariants.{Resume, Run}
-pub use Rattle.cq_run.specs.Aim.{Aim, Denies, Meets, Resuming}
+pub use Rattle.cq_run.specs.Aim.{Aim, Denies, Resuming}
 pub use Rattle.cq_run.specs.{Reader.Reader}
 pub use Rattle.cq_run.specs.Verdict.{captures_in, judged, tables_in}
 pub use Rattle.cq_base.proofs.Each.{all_weaker}
@@ -27,4 +27,4 @@ pub use Rattle.cq_stopped.specs.{Read.GoesOnAsRun, Read.IsReadAs, Read.kept_in_r
 pub use Rattle.cq_traffic.proofs.Arriving.{slots_fit}
 pub use Rattle.cq_simulate.specs.FabricRuns.{departures_in_run}
 pub use Rattle.cq_run.proofs.Left.{captures_same, untouched}
-pub use Rattle.cq_run.specs.{Headline.AreGiven, Headline.IsEmulation, Parting.IsPartText, Plan.Plan, declared.refusal.Refusal.Refusal}
+pub use Rattle.cq_run.specs.{Headline.AreGiven, Parting.IsPartText, declared.refusal.Refusal.Refusal}
