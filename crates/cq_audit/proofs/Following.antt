@@ -6,7 +6,7 @@
 -- state and what arrives. In a run the transfers of a slot stand before those of later ones. Last, slots that a replay
 -- skips: no cell arrives up to the next arrival, and no line is of a slot before that of the first. And a stretch of no
 -- slots leaves everything as it is.
-use Rattle.cq_audit.proofs.Terms.{common_steps, rules, ◌≡◌, ℕ, ◌+◌, ◌<◌, ◌≤◌, List, [], ◌∷◌, length, Option, arith, AllByRecursion, Cell, Queued, Machine, Marked, orders_of, transfers_of, Orders, IsStable, Partners, Fabric, FabricSlot, SlotRecord, LimitedFabricRun, LimitedRecord, slots_in, Transfers, transfers_in, transfers_of_run, one_arrival, one_departure, one_transfer, same_record, transfers_tell, all_weaker, in_phase, all_both, all_from_has, looked_up, Bool, true, ◌++◌, refl, ◌⊎◌, take, drop, ap, ⊎_elim, filter, position_or_len, and_left, and_parts, cases_lt, cond_both, eq-eqb, eqb-true, lt-ltb, ltb-true, ne_eqb, cases_Bool, append-nil, append_cancel_left, filter-append, Transfer, AreInOrder, IsTransferBefore, AllBehind, NoneBefore, is_at, AreParted, FirstIsLeast, before_slot, not, first_here, first_later, all_front, all_give, filter_all, filter_none, recursion_from_All, min, None, Some, slice_get, Arrival, quiet_of, HasRested, IsInStep, ReplayView, IsStill, IsStillUntil, IsQuietUntil}
+use Rattle.cq_audit.proofs.Terms.{common_steps, rules, ◌≡◌, ℕ, ◌+◌, ◌<◌, ◌≤◌, List, [], ◌∷◌, length, Option, arith, AllByRecursion, Cell, Queued, Machine, Marked, orders_of, transfers_of, Orders, IsStable, Partners, Fabric, FabricSlot, SlotRecord, LimitedFabricRun, LimitedRecord, slots_in, Transfers, transfers_in, transfers_of_run, one_arrival, one_departure, one_transfer, same_record, transfers_tell, all_weaker, in_phase, all_both, all_from_has, looked_up, Bool, true, ◌++◌, refl, ◌⊎◌, take, drop, ap, ⊎_elim, filter, position_or_len, and_left, and_parts, cases_lt, cond_both, eq-eqb, eqb-true, lt-ltb, ltb-true, ne_eqb, cases_Bool, append-nil, append_cancel_left, filter-append, Transfer, AreInOrder, IsTransferBefore, AllBehind, NoneBefore, is_at, AreParted, FirstIsLeast, before_slot, not, first_here, first_later, all_front, all_give, filter_all, filter_none, recursion_from_All, Some, slice_get, Arrival, HasRested, IsInStep, ReplayView, IsStill, IsStillUntil}
 use Rattle.std.proofs.lemmas.Bool.Decides.{nat_tests}
 
 -- ## What is kept of lines by a test
@@ -175,17 +175,6 @@ module _ (limits : List (Option ℕ)) (ms : List Machine) where
 -- none of the lines is of an earlier slot
 pub all_late : (slot : ℕ) (lines : List Transfer) → NoneBefore slot 1 lines → AllByRecursion (λ t. slot ≤ t.slot) lines
 all_late slot lines = all_weaker _ _ (λ t had. grind arith) lines
-
-module _ {came : List Arrival} {slot next : ℕ} (until : IsQuietUntil came slot next) where
-  -- there is no line, so at the next arrival one arrives
-  pub until_arrival : (lines : List Transfer) → None ≡ slice_get lines 0 → IsStillUntil came lines slot next
-  until_arrival [] none = search (arith, rules, quiet_of)
-  until_arrival (t ∷ lines) none = cc
-
-  -- and at the line, if it is earlier, there is a line
-  pub until_line : (lines : List Transfer) (t : Transfer) → NoneBefore slot 1 lines → FirstIsLeast lines →
-      Some t ≡ slice_get lines 0 → IsStillUntil came lines slot (min next t.slot)
-  until_line lines t before least is = search (arith, rules, quiet_of, cases_lt, all_late, all_weaker)
 
 -- no slot is skipped
 pub not_skipped : (came : List Arrival) (slot : ℕ) (lines : List Transfer) → NoneBefore slot 1 lines →

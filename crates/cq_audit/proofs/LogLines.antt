@@ -2,7 +2,7 @@
 -- of a transfer begins with its slot, and the fields behind that are the other numbers. They leave no choice of the
 -- transfer.
 -- The lines of a log that was read are in order: each is behind the one before it, and so behind all before it.
-use Rattle.cq_audit.proofs.Terms.{ap, rules, ◌≡◌, ℕ, List, [], ◌++◌, length, Option, None, Some, refl, append_assoc, length-append, arith, ◌∷◌, common_steps, Transfer, log_line, IfSome, ⊤, IsTransfer, IsOf, IsTransferBefore, Comes, IsLogExact, numbers_behind, AreInOrder, IsLog, AllByRecursion, Leads, all_weaker, ending, BeginsWith, one_number, ending_ends, one_ending}
+use Rattle.cq_audit.proofs.Terms.{ap, rules, ◌≡◌, ℕ, List, [], ◌++◌, length, Option, None, Some, refl, append_assoc, length-append, arith, ◌∷◌, common_steps, Transfer, log_line, IfSome, ⊤, IsTransfer, IsTransferBefore, Comes, IsLogExact, numbers_behind, AreInOrder, IsLog, AllByRecursion, Leads, all_weaker, ending, BeginsWith, one_number, ending_ends, one_ending}
 use Rattle.cq_lines.proofs.Exact.{exact}
 
 pub begins_with_slot : (text more : List ℕ) (t : Transfer) → text ≡ log_line t ++ more →
@@ -19,12 +19,6 @@ pub one_log_line : (t u : Transfer) (x y : List ℕ) → IsTransfer t → IsTran
 one_log_line t u x y is_t is_u e =
     let slot = parts_of_line (log_line t ++ x) _ y t.slot u (begins_with_slot (log_line t ++ x) x t refl) e in
     search (arith, rules, one_ending (numbers_behind t) (numbers_behind u) x y)
-
--- the transfer whose line stands there may not come, so none may
-pub none_comes : (text behind : List ℕ) (ports : ℕ) (last : Option Transfer) (t : Transfer) →
-    IsTransfer t × (text ≡ log_line t ++ behind) → (IsOf ports t × IfSome last (λ u. IsTransferBefore u t) → ⊥) →
-    (u : Transfer) (next : Option Transfer) (more : List ℕ) → Comes ports last u next → text ≡ log_line u ++ more → ⊥
-none_comes text behind ports last t stands may_not u next more comes e = grind (arith, common_steps, one_log_line)
 
 pub log_is_exact : (ports : ℕ) → IsLogExact ports
 log_is_exact ports = exact log_line (Comes ports) (λ _. ⊤) (record {

@@ -5,7 +5,7 @@
 -- Then a replay before its first slot, and after slots in which nothing happens. And how the replay of a log begins
 -- that is made for a setup: the machines are those of the disciplines, each in its opening state, and there is room for
 -- all cells that arrive, and for what one slot notes.
-use Rattle.cq_audit.proofs.Terms.{common_steps, rules, ◌≡◌, ℕ, ◌+◌, ◌<◌, ◌≤◌, ◌^◌, Bool, List, ◌++◌, length, map, get_or, Option, Ok, Err, sym, ap, ◌∙◌, subst, arith, append_assoc, length-append, [], replicate, length-map, length-replicate, Cell, Queued, TagFault, Transfer, RoomView, Machine, class_count, AreForOneSwitch, admitted, marked, marks_after, marks_down, count_for, ranking, admitted_arrives, admitted_for_ports, list_of, SlotRecord, fabric_admission, LimitedFabricRun, Arrives, transfers_in, ComeApart, FitLists, Queues, fabric_of, admits_are, admitted_room, numbers_fit, still_holds, holds_first, IsPhaseFault, in_phase, CanCome, CanReplay, IsInStep, IsSlotFault, ReplayView, SlotReplayed, shown, SlotFault, all_weaker, no_arrivals, IsStable, IsEmptyFabric, quiet_limited_slots, empty_agree, fronts, ComeToPorts, LimiterView, RanksView, idled, length-told, by_marks, SendsAlike, HoldsFabric, AreRanked, BuffersHaveRoom, HaveArrived, HaveJudged, HaveMoved, HaveSent, stable_limited_too, rested_agrees, rested_limited_run, still_held, length-map-range_with_len, length-idle, ◌*◌, IsOk, get_or-map-range_with_len, Arrival, Setup, IsShort, IsTraffic, is_from, is_to, rooms_of, machines_of, openings_of, whole_limited_run, empty_limited, opening_fabric, AreInOrder, ports_in, IsReady}
+use Rattle.cq_audit.proofs.Terms.{common_steps, rules, ◌≡◌, ℕ, ◌+◌, ◌<◌, ◌≤◌, ◌^◌, Bool, List, ◌++◌, length, map, get_or, Option, Ok, Err, sym, ap, ◌∙◌, subst, arith, append_assoc, length-append, [], replicate, length-map, length-replicate, Cell, Queued, TagFault, Transfer, RoomView, Machine, class_count, AreForOneSwitch, admitted, marked, marks_after, marks_down, count_for, ranking, admitted_arrives, admitted_for_ports, list_of, SlotRecord, fabric_admission, LimitedFabricRun, Arrives, transfers_in, ComeApart, FitLists, Queues, fabric_of, admits_are, admitted_room, numbers_fit, still_holds, holds_first, IsPhaseFault, in_phase, CanCome, CanReplay, IsInStep, IsSlotFault, ReplayView, SlotReplayed, shown, SlotFault, all_weaker, no_arrivals, IsStable, IsEmptyFabric, quiet_limited_slots, empty_agree, fronts, ComeToPorts, LimiterView, RanksView, idled, length-told, by_marks, SendsAlike, HoldsFabric, AreRanked, BuffersHaveRoom, HaveArrived, HaveJudged, HaveMoved, HaveSent, stable_limited_too, rested_agrees, rested_limited_run, still_held, length-map-range_with_len, length-idle, ◌*◌, get_or-map-range_with_len, Setup, AreInOrder, IsReady, CanBeAudited, IsOpened, Scheduled, machine_from}
 use Rattle.cq_fabric.proofs.Slot.{alike as sends_alike, arrive as slot_arrives, can_cross_first, can_cross_second, come_apart, depart as slot_departs, few_cross, fill as slot_fills, fits_lists, held_before, is_slot, recorded}
 use Rattle.cq_audit.specs.SlotSteps.{CanGoBy, CanSend, HasGoneBy, HaveAllSent, HaveCome}
 use Rattle.cq_audit.proofs.Following.{second_behind}
@@ -207,23 +207,8 @@ pub ruleset rest_steps = (in_step_here, rested_run, rested_step, lengths)
 
 -- ## Made for a setup
 
--- the replay of a switch of this setup with these limits, before its first slot
-pub record IsOpened (M : List ℕ → Machine) (setup : Setup) (limits : List (Option ℕ)) (first : ReplayView) : Type 0
-  where
-    pub ports : ports_in first ≡ length setup.kinds
-    pub machines : map M first.fixed ≡ machines_of setup
-    pub limits_are : first.limits ≡ limits
-    pub fabric : first.fabric ≡ opening_fabric setup
-
-module _ {M : List ℕ → Machine} {setup : Setup} {limits : List (Option ℕ)} {first : ReplayView}
-    (is : IsOpened M setup limits first) (came : List Arrival) where
-  pub ready : (lines : List Transfer) (note : RoomView Transfer) (ports : ℕ) → ports ≡ length setup.kinds →
-      IsInStep (map M first.fixed) 0 first → class_count (machines_of setup) ≡ length setup.classes →
-      IsTraffic (length setup.kinds) (length setup.classes) came → IsShort came →
-      IsOk
-      (whole_limited_run limits (machines_of setup) came (empty_limited (length setup.kinds) (openings_of setup)))
-      → first.from_inputs ≡ rooms_of is_from came ports → first.to_outputs ≡ rooms_of is_to came ports →
-      AreInOrder ports lines → note.items ≡ [] → note.spare ≡ 2 * ports →
-      IsReady (map M first.fixed) came lines first note
-  ready lines note ports many step classes traffic short ranked from_inputs to_outputs order none spare =
-      search (arith, rules, get_or-map-range_with_len)
+pub ready : (setup : Setup) (limits : List (Option ℕ)) (s : Scheduled) (first : ReplayView) →
+    CanBeAudited setup limits s → IsOpened setup limits s.came first → (lines : List Transfer)
+    (note : RoomView Transfer) → AreInOrder (length setup.kinds) lines → note.items ≡ [] →
+    note.spare ≡ 2 * length setup.kinds → IsReady (map machine_from first.fixed) s.came lines first note
+ready setup limits s first can is lines note order none spare = search (arith, rules, get_or-map-range_with_len)

@@ -7,6 +7,7 @@ pub use Rattle.cq_base.specs.Cells.{first_for}
 pub use Rattle.cq_base.specs.Limits.{most_ports}
 pub use Rattle.cq_base.specs.{Room.RoomView, Texts.log_line, declared.cell.Queued.Queued, declared.cell.TagFault.TagFault}
 unfoldable pub use Rattle.cq_base.specs.Texts.{log_of}
+pub use Rattle.cq_cells.specs.Scheduled.{Scheduled}
 pub use Rattle.cq_cells.specs.Traffic.{IsShort, IsTraffic, is_from, is_to, number_of}
 pub use Rattle.cq_rank.specs.Switch.{AreForOneSwitch, class_count}
 pub use Rattle.cq_scfq.specs.Disciplines.{machines_of, openings_of}
@@ -48,7 +49,7 @@ pub use Rattle.cq_fabric.specs.Queues.{ComeApart, FitLists, Queues, fabric_of}
 pub use Rattle.cq_traffic.proofs.Arriving.{arrivals_for, one_found, slots_fit}
 pub use Rattle.cq_traffic.proofs.ToCome.{arrives_found, come_from, first_more, from_here, from_last, no_more_from, one_if, some_one}
 pub use Rattle.cq_traffic.proofs.Arriving.{quiet_of, quiet_slots}
-pub use Rattle.cq_audit.specs.Terms.{AreInOrder, Cell, Comes, FirstIsLeast, IsLog, IsLogExact, IsLogFault, IsOf, IsReady, IsStill, IsStillUntil, IsTransfer, IsTransferBefore, Machine, RunEnds, Setup, Transfer, numbers_behind}
+pub use Rattle.cq_audit.specs.Terms.{AreInOrder, CanBeAudited, Cell, Comes, FirstIsLeast, IsLog, IsLogExact, IsLogFault, IsOf, IsOpened, IsReady, IsStill, IsStillUntil, IsTransfer, IsTransferBefore, Machine, RunEnds, Setup, Transfer, numbers_behind}
 pub use Rattle.cq_base.proofs.Each.{all_both, all_front, all_weaker, all_back, all_give, all_made, filter_all, filter_none}
 pub use Rattle.cq_base.specs.declared.cell.CellId.{CellId}
 pub use Rattle.cq_scfq.specs.Discipline.{machine_from}

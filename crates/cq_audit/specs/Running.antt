@@ -1,19 +1,23 @@
 -- Only proofs use this.
 -- A replay over all cells that arrive: what it begins with, and what its end says of the lines.
-use Rattle.std.specs.Prelude.{◌≡◌, ℕ, ◌+◌, ◌*◌, ◌<◌, ◌≤◌, ◌⊎◌, List, [], ◌∷◌, length, Result, Ok, Err, IsOk, slice_index}
+use Rattle.std.specs.Prelude.{◌≡◌, ℕ, ◌+◌, ◌*◌, ◌<◌, ◌≤◌, ◌⊎◌, List, [], ◌∷◌, length, map, Option, Result, Ok, Err, IsOk, slice_index}
 use Rattle.std.specs.List.{AllByRecursion}
 use Rattle.cq_base.specs.Arriving.{Arrival, end_of}
 use Rattle.cq_base.specs.Room.{RoomView}
 use Rattle.cq_base.specs.declared.cell.Transfer.{Transfer}
+use Rattle.cq_base.specs.declared.setup.Setup.{Setup}
 use Rattle.cq_cells.specs.NextArrival.{ArrivesIn}
 use Rattle.cq_cells.specs.Traffic.{IsShort, IsTraffic, is_from, is_to, number_of}
 use Rattle.cq_rank.specs.Machine.{Machine}
 use Rattle.cq_rank.specs.Switch.{class_count}
+use Rattle.cq_scfq.specs.Discipline.{machine_from}
+use Rattle.cq_scfq.specs.Disciplines.{machines_of}
 use Rattle.cq_ideal.specs.LimitedEnding.{whole_limited_run}
 use Rattle.cq_ideal.specs.LimitedIdeal.{empty_limited}
 use Rattle.cq_laws.specs.LimitedFabric.{empty_limited_fabric}
+use Rattle.cq_traffic.specs.Rooms.{rooms_of}
 use Rattle.cq_traffic.specs.Stretch.{NoneCome}
-use Rattle.cq_audit.specs.Audit.{IsNoOf}
+use Rattle.cq_audit.specs.Audit.{IsNoOf, opening_fabric}
 use Rattle.cq_audit.specs.Log.{AreInOrder}
 use Rattle.cq_audit.specs.Replay.{IsInStep, ReplayView, ports_in}
 use Rattle.cq_audit.specs.StableRun.{IsOfStableRun}
@@ -41,6 +45,17 @@ HasLineOf slot (t ∷ lines) = (t.slot ≡ slot) ⊎ HasLineOf slot lines
 pub record IsStillUntil (came : List Arrival) (lines : List Transfer) (slot next : ℕ) : Type 0 where
   pub still : IsStill came lines slot next
   pub ends : slot < end_of came → ArrivesIn next came ⊎ HasLineOf next lines
+
+-- the replay of a switch of this setup with these limits, before its first slot, with room for all cells that arrive
+pub record IsOpened (setup : Setup) (limits : List (Option ℕ)) (came : List Arrival) (v : ReplayView) : Type 0 where
+  pub ports : ports_in v ≡ length setup.kinds
+  pub machines : map machine_from v.fixed ≡ machines_of setup
+  pub classes : class_count (machines_of setup) ≡ length setup.classes
+  pub limits_are : v.limits ≡ limits
+  pub fabric : v.fabric ≡ opening_fabric setup
+  pub from_inputs : v.from_inputs ≡ rooms_of is_from came (length setup.kinds)
+  pub to_outputs : v.to_outputs ≡ rooms_of is_to came (length setup.kinds)
+  pub in_step : IsInStep (map machine_from v.fixed) 0 v
 
 -- The fabric has had no slot and holds no cell, there is room for all cells that arrive, and for what one slot notes,
 -- the lines are in order, and the ideal switch has no tag fault.

@@ -13,7 +13,7 @@ pub use Rattle.cq_audit.specs.Log.{AreInOrder, IsLog, IsLogExact, IsLogFault, Is
 pub use Rattle.cq_audit.specs.{Pairs.CanBeJoined, StableRun.StableRun, declared.refusal.AuditRefusal.TheVariants.Left}
 pub use Rattle.cq_audit.specs.Phase.{NoneBefore, IsBlocking, IsFirstBlocking, AreOfPhase, IsPhaseFault, IsPhaseExact, AreParted, is_at, IsStableTold, in_phase, AreRight, IsFirstWrong, first_id, told, RiseByInput}
 pub use Rattle.cq_audit.specs.Replay.{HasRested, IsInStep, ports_in, CanCome, CanReplay, IsSlotFault, SlotReplayed, refusal_of, shown}
-pub use Rattle.cq_audit.specs.Running.{FirstIsLeast, IsReady, IsStill, IsStillUntil, RunEnds}
+pub use Rattle.cq_audit.specs.Running.{FirstIsLeast, IsOpened, IsReady, IsStill, IsStillUntil, RunEnds}
 pub use Rattle.cq_audit.specs.SlotSteps.{CanGoBy, CanSend, HasGoneBy, HaveAllSent, HaveCome}
 pub use Rattle.cq_audit.specs.Trace.{IsTraceExact, DiffersFirst}
 pub use Rattle.cq_list.specs.InputList.{cells_of}

@@ -1,11 +1,11 @@
 //! Whether a log of any maker is that of a stable run.
-ghost use Rattle.std.specs.Prelude.{◌≡◌, ◌↔◌, ◌+◌, ◌-◌, ◌<◌, ◌≤◌, [], IfErr, IsTrue, OnOk, length, map};
-ghost use Rattle.cq_audit.specs.Terms.{end_of, IsEmptyFabric, CanBeAudited, IsNo, IsYes, AreInOrder, NoneBefore, HasRested, IsInStep, ports_in, FirstIsLeast, IsReady, IsStill, IsStillUntil, RunEnds, Left};
+ghost use Rattle.std.specs.Prelude.{◌≡◌, ◌↔◌, ◌+◌, ◌-◌, ◌<◌, ◌≤◌, [], IfErr, IfOk, IsTrue, OnOk, length, map};
+ghost use Rattle.cq_audit.specs.Terms.{end_of, IsEmptyFabric, CanBeAudited, IsNo, IsYes, AreInOrder, NoneBefore, HasRested, IsInStep, ports_in, FirstIsLeast, IsOpened, IsReady, IsStill, IsStillUntil, RunEnds, Left};
 
 use crate::log::read_log;
 use crate::refusal::AuditRefusal;
 use crate::replay::Replay;
-use cq_base::{Room, Setup, Slot, Transfer};
+use cq_base::{NoMemory, Room, Setup, Slot, Transfer};
 use cq_cells::{Coming, Schedule};
 use cq_rank::Rank;
 use cq_scfq::Discipline;
@@ -19,7 +19,6 @@ use std::alloc::Global;
 /// line, and none for those between them.
 ///
 /// Each error but want of memory comes for one cause alone: see `AuditRefusal`.
-#[tactic(auto, using(crate::proofs::Slots::lengths))]
 pub fn audit_log(
     alloc: Global,
     setup: &Setup,
@@ -31,12 +30,27 @@ pub fn audit_log(
     ensures yes { OnOk result (IsYes setup.now limits.now schedule.now.came log.now) }
     ensures no { IfErr result (IsNo setup.now limits.now schedule.now.came log.now) }
 {
-    let ranks = Discipline::all(alloc, setup)?;
-    let ports = ranks.len() as u16;
+    let ports = setup.kinds.as_slice().len() as u16;
     let lines = read_log(alloc, log, ports)?;
     let mut note = Room::new(alloc, 2 * ports as u64)?;
-    let mut replay = Replay::new(alloc, ranks, limits, schedule)?;
+    let mut replay = replay_for(alloc, setup, limits, schedule)?;
     replay_run(&mut replay, schedule, lines.as_slice(), &mut note)
+}
+
+// The replay of a switch of this setup with these limits, before its first slot, with room for all cells that arrive by
+// this schedule.
+#[tactic(auto, using(crate::proofs::Slots::lengths))]
+fn replay_for(
+    alloc: Global,
+    setup: &Setup,
+    limits: &[Option<u64>],
+    schedule: &Schedule,
+) -> Result<Replay<Discipline>, NoMemory>
+    requires { CanBeAudited setup.now limits.now schedule.now }
+    ensures { IfOk result (IsOpened setup.now limits.now schedule.now.came) }
+{
+    let ranks = Discipline::all(alloc, setup)?;
+    Replay::new(alloc, ranks, limits, schedule)
 }
 
 // Whether no cell arrives any more and none waits.

@@ -1,4 +1,5 @@
-use Rattle.cq_audit.proofs.Following.{until_arrival, until_here, until_line}
+use Rattle.cq_audit.proofs.Terms.{arith, rules, quiet_of, cases_lt, all_weaker}
+use Rattle.cq_audit.proofs.Following.{all_late, until_here}
 use Rattle.cq_audit.proofs.audit.still_until.Goals as goal
 
 pub returns-in-Some : goal.returns-in-Some
@@ -6,8 +7,7 @@ returns-in-Some c = until_here c.args.schedule.now.came c.args.slot c.args.lines
     c.requires.none_before c.in-Some.ensures.value c.if-line-slot.true
 
 pub returns-in-Some-2 : goal.returns-in-Some-2
-returns-in-Some-2 c = rw c.min.ensures (until_line c.quiet_until.ensures _ _ c.requires.none_before c.requires.least
-    c.in-Some.ensures.value)
+returns-in-Some-2 c = rw c.min.ensures (search (arith, rules, quiet_of, cases_lt, all_late, all_weaker))
 
 pub returns-in-None : goal.returns-in-None
-returns-in-None c = until_arrival c.quiet_until-in-None.ensures c.args.lines.now c.in-None.ensures.value
+returns-in-None c = search (arith, rules, quiet_of)
