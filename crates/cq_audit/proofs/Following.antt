@@ -4,8 +4,8 @@
 -- In a slot the transfers of the first phase stand before those of the second: where the slot's transfers are the same,
 -- so are those of each phase, and they tell the matchings (`transfers_tell_the_matching`). All else follows from the
 -- state and what arrives. In a run the transfers of a slot stand before those of later ones. Last, slots that a replay
--- skips: no cell arrives up to the next arrival, and no line is of a slot before that of the first. And a stretch of no
--- slots leaves everything as it is.
+-- skips: no line is of an earlier slot, and where one is of this slot, none is skipped. And a stretch of no slots leaves
+-- everything as it is.
 use Rattle.cq_audit.proofs.Terms.{common_steps, rules, ◌≡◌, ℕ, ◌+◌, ◌<◌, ◌≤◌, List, [], ◌∷◌, length, Option, arith, AllByRecursion, Cell, Queued, Machine, Marked, orders_of, transfers_of, Orders, IsStable, Partners, Fabric, FabricSlot, SlotRecord, LimitedFabricRun, LimitedRecord, slots_in, Transfers, transfers_in, transfers_of_run, one_arrival, one_departure, one_transfer, same_record, transfers_tell, all_weaker, in_phase, all_both, all_from_has, looked_up, Bool, true, ◌++◌, refl, ◌⊎◌, take, drop, ap, ⊎_elim, filter, position_or_len, and_left, and_parts, cases_lt, cond_both, eq-eqb, eqb-true, lt-ltb, ltb-true, ne_eqb, cases_Bool, append-nil, append_cancel_left, filter-append, Transfer, AreInOrder, IsTransferBefore, AllBehind, NoneBefore, is_at, AreParted, FirstIsLeast, before_slot, not, first_here, first_later, all_front, all_give, filter_all, filter_none, recursion_from_All, Some, slice_get, Arrival, HasRested, IsInStep, ReplayView, IsStill, IsStillUntil}
 use Rattle.std.proofs.lemmas.Bool.Decides.{nat_tests}
 

@@ -1,5 +1,5 @@
 -- The words of this crate's proofs that stand elsewhere, each passed on from its place.
-pub use Rattle.cq_base.proofs.Library.{AllByRecursion, Bool, Err, IfErr, IfSome, IsOk, List, None, Ok, OnOk, Option, Result, Some, [], and_left, and_parts, ap, append-nil, append_assoc, append_cancel_left, arith, cases_Bool, cases_eq, cases_lt, cases_order, common_steps, cond_both, drop, drop_more, eq-eqb, eqb-true, err_from_is_err_and, ext_get_or, false, filter, filter-append, filter_map, find-append, get_or, get_or-map, get_or-map-range_with_len, recursion_from_All, get_or-set_other, get_or-set_same, get_or-take, get_or_past, inl, inr, length, length-append, length-map, length-map-range_with_len, length-replicate, length-set, length-take-le, lit≤, lt-ltb, ltb-true, map, map-append, min, ne_eqb, not, option_map, position_or_len, range_with_len, refl, replicate, rules, slice_get, subst, suc, sym, take, take-append-drop, take-append-le, take-take, take_all, take_more, take_rest, true, zero, ℕ, ⊎_elim, ⊤, ◌*◌, ◌++◌, ◌+◌, ◌-◌, ◌<◌, ◌^◌, ◌∙◌, ◌∷◌, ◌≡◌, ◌≢◌, ◌≤◌, ◌⊎◌}
+pub use Rattle.cq_base.proofs.Library.{AllByRecursion, Bool, Err, IfErr, IfSome, IsOk, List, None, Ok, OnOk, Option, Result, Some, [], and_left, and_parts, ap, append-nil, append_assoc, append_cancel_left, arith, cases_Bool, cases_eq, cases_lt, cases_order, common_steps, cond_both, drop, drop_more, eq-eqb, eqb-true, err_from_is_err_and, ext_get_or, filter, filter-append, filter_map, find-append, get_or, get_or-map, get_or-map-range_with_len, recursion_from_All, get_or-set_other, get_or-set_same, get_or-take, get_or_past, inl, inr, length, length-append, length-map, length-map-range_with_len, length-replicate, length-set, length-take-le, lit≤, lt-ltb, ltb-true, map, map-append, ne_eqb, not, option_map, position_or_len, range_with_len, refl, replicate, rules, slice_get, subst, suc, sym, take, take-append-drop, take-append-le, take-take, take_all, take_more, take_rest, true, zero, ℕ, ⊎_elim, ⊤, ◌*◌, ◌++◌, ◌+◌, ◌-◌, ◌<◌, ◌^◌, ◌∙◌, ◌∷◌, ◌≡◌, ◌≢◌, ◌≤◌, ◌⊎◌}
 pub use Rattle.cq_base.proofs.Lists.{first_here, first_later}
 pub use Rattle.cq_base.specs.Arrivals.{arrival_at, no_arrivals}
 pub use Rattle.cq_base.specs.Arriving.{Arrival, arriving, end_of, enough}
@@ -8,9 +8,8 @@ pub use Rattle.cq_base.specs.Limits.{most_ports}
 pub use Rattle.cq_base.specs.{Room.RoomView, Texts.log_line, declared.cell.Queued.Queued, declared.cell.TagFault.TagFault}
 unfoldable pub use Rattle.cq_base.specs.Texts.{log_of}
 pub use Rattle.cq_cells.specs.Scheduled.{Scheduled}
-pub use Rattle.cq_cells.specs.Traffic.{IsShort, IsTraffic, is_from, is_to, number_of}
+pub use Rattle.cq_cells.specs.Traffic.{IsTraffic, is_from, is_to, number_of}
 pub use Rattle.cq_rank.specs.Switch.{AreForOneSwitch, class_count}
-pub use Rattle.cq_scfq.specs.Disciplines.{machines_of, openings_of}
 pub use Rattle.cq_ideal.proofs.Admitted.{admitted_arrives, admitted_for_ports}
 pub use Rattle.cq_ideal.proofs.Parted.{arriving_length, arriving_parts}
 pub use Rattle.cq_ideal.specs.Admission.{Marked, admitted, marked, marks_after, marks_down}
@@ -20,7 +19,7 @@ unfoldable pub use Rattle.cq_ideal.specs.Ending.{arriving_from}
 pub use Rattle.cq_ideal.specs.Ranking.{ranking}
 pub use Rattle.cq_lines.proofs.Going.{SoFar, one_line_more}
 pub use Rattle.cq_lines.specs.Texts.{Leads}
-pub use Rattle.cq_audit.specs.Audit.{IsAuditExact, IsNo, IsReadNo, IsYes, opening_fabric}
+pub use Rattle.cq_audit.specs.Audit.{IsAuditExact, IsNo, IsReadNo, IsYes}
 pub use Rattle.cq_audit.specs.Phase.{AllBehind, AreOfPhase, AreParted, AreRight, IsBlocking, IsFirstWrong, IsPhaseExact, IsPhaseFault, IsStableTold, IsWrongLine, NoneBefore, RiseByInput, first_id, in_phase, is_at, line_of_input, output_told}
 unfoldable pub use Rattle.cq_audit.specs.Phase.{told}
 pub use Rattle.cq_audit.specs.Replay.{CanCome, CanReplay, HasRested, IsInStep, IsMadeAs, IsSlotFault, ReplayView, SlotReplayed, ports_in, refusal_of, shown}
@@ -61,7 +60,6 @@ pub use Rattle.cq_laws.proofs.{AfterPhases.came_from, IdealOf.nothing_for, Input
 pub use Rattle.cq_laws.specs.{Agreement.SendsAlike, Holding.held_for, LimitedAgreement.LimitedAgrees, LimitedAgreement.LimitedRunsAlike, Quiet.idled}
 pub use Rattle.cq_fabric.specs.Held.{HoldsFabric}
 pub use Rattle.cq_fabric.proofs.{Kept.limited_lists_kept, Kept.limited_outputs_kept, Known.AreRanked, Known.BuffersHaveRoom, Known.HaveArrived, Known.HaveJudged, Known.HaveMoved, Known.HaveSent, Rested.rested_agrees, Rested.rested_limited_run, Rested.still_held}
-pub use Rattle.cq_traffic.specs.{Rooms.rooms_of, Stretch.IsQuietUntil}
 pub use Rattle.cq_traffic.proofs.{ToCome.come_for, ToCome.for_here, ToCome.for_last, ToCome.no_more_to}
 pub use Rattle.cq_base.proofs.{Having.all_from_has, Having.all_of_has, Pooled.looked_up, Pooled.pairs_looked_up, Pooled.pairs_joined}
 pub use Rattle.cq_base.specs.Items.{EachPair, Has}
