@@ -34,22 +34,16 @@ put_on_front xs ys rest y n p m sum inside = grind (arith, common_steps, put_on 
 
 pub ruleset piece_steps = (length_piece, take-take, take-paste, length-drop, take_all, put_on, put_on_front)
 
--- ## The second half of a full array taken over
+-- ## The second half of a full piece taken over
 
--- a piece of as many items as the array is the array
-pub whole_piece : {X : Type 0} (xs : List X) (h n : ℕ) → h + n ≤ length xs →
-    length (take n (drop h xs)) ≡ length xs → take n (drop h xs) ≡ xs
-whole_piece xs h n inside all =
-    let size = length_piece xs h n inside in
-    let none : h ≡ 0 = omega arith in
-    rw none (take_all n xs (omega arith))
-
-pub taken_over : {X : Type 0} (xs ys front : List X) → length xs ≡ 64 → length ys ≡ 64 →
-    front ≡ take 32 (drop 32 ys) →
+pub half_over : {X : Type 0} (xs ys front : List X) → length xs ≡ 64 → length ys ≡ 64 →
+    front ≡ take (length ys - 32) (drop 32 ys) →
     (length (front ++ drop 32 xs) ≡ 64) × (take 32 (front ++ drop 32 xs) ≡ drop 32 ys)
-taken_over xs ys front long many is =
+half_over xs ys front long many is =
     let half = length-drop 32 ys in
     let rest = length-drop 32 xs in
-    let same : front ≡ drop 32 ys = is ∙ take_all 32 (drop 32 ys) (omega arith) in
+    let same : front ≡ drop 32 ys = is ∙ take_all (length ys - 32) (drop 32 ys) (omega arith) in
     let size : length front ≡ 32 = ap length same ∙ omega arith in
     (omega (arith, length-append front (drop 32 xs)), take_at front (drop 32 xs) 32 size ∙ same)
+
+pub ruleset half_steps = (half_over, length-append, length-drop, take_all)

@@ -8,8 +8,7 @@
 -- No block is empty, and each but the first has 32 cells at least. Only the first block gets fewer cells, and a block
 -- that is split has 64. So the blocks are few: 32 times their number is at most 31 more than the number of cells, and
 -- where one is split, so it is afterwards.
-use Rattle.cq_urgency.specs.declared.output_buffer.Spot.{Spot}
-use Rattle.cq_urgency.proofs.Terms.{cases_lt, rules, ◌≡◌, ℕ, zero, suc, ◌+◌, ◌*◌, ◌/◌, ◌<◌, ◌≤◌, true, false, List, [], ◌∷◌, ◌++◌, length, take, Some, length-append, length-set, length-take, length-drop, get_or-set_same, arith, sym, subst, common_steps, slice_get, AllByRecursion, cases_Bool, take-append-le, take-take, take-set, length-insert, get_or-insert_below, get_or-insert_at, sum_by_more, Key, Queued, is_before, IsBefore, IsRising, cushion, key_laws, all_at, flattened, block_at, halved, AreFilled, AreBegun, IsSpot, starts_before, all_weaker, all_front, all_back, most_cells, ap, few_kept, filter_all, filter_none}
+use Rattle.cq_urgency.proofs.Terms.{sym, subst, all_at, ap, rules, ◌≡◌, ℕ, zero, suc, ◌+◌, ◌*◌, ◌/◌, ◌-◌, ◌<◌, ◌≤◌, true, false, List, [], ◌∷◌, ◌++◌, length, take, Some, length-append, length-set, length-take, length-drop, get_or-set_same, arith, common_steps, slice_get, AllByRecursion, cases_Bool, take-append-le, take-take, take-set, length-insert, get_or-insert_below, get_or-insert_at, sum_by_more, Key, Queued, is_before, IsBefore, IsRising, cushion, key_laws, flattened, block_at, halved, AreFilled, AreBegun, IsSpot, starts_before, all_weaker, all_front, all_back, most_cells, few_kept, filter_all, filter_none}
 use Rattle.cq_urgency.proofs.Flattened.{flattened-halved, length-flattened}
 use Rattle.cq_urgency.proofs.Halving.{cushion-append}
 
@@ -55,9 +54,10 @@ cushion_in key (b ∷ bs) (suc i) r some inside e behind =
     let parts = rising_parts b (flattened bs) r in
     search (arith, rules, length-append, filter_all, all_weaker, lesser_ahead, cushion_in key bs i, cushion-append)
 
-pub some_at : (blocks : List (List Queued)) (i : ℕ) (block : List Queued) → AreFilled blocks → i < length blocks →
-    block ≡ block_at blocks i → 0 < length block
-some_at blocks i block f inside is = grind (arith, common_steps, filled_some)
+-- a block has a cell, so that its last one is there
+pub some_at : (blocks : List (List Queued)) (i : ℕ) {block : List Queued} {n : ℕ} → n ≡ length block →
+    block ≡ block_at blocks i → i < length blocks → AreFilled blocks → (0 < n) × (n - 1 < length block)
+some_at blocks i long is inside f = grind (arith, common_steps, filled_some)
 
 -- ## A last cell of lesser key
 
@@ -80,9 +80,10 @@ module _ (key : Key) (blocks : List (List Queued)) (r : IsRising (flattened bloc
       IsSpot blocks (cushion key (flattened blocks)) 0 0
   spot_first place begun none some = grind (arith, common_steps, none_behind, filled_some, begun.behind)
 
-  pub spot_in : (place block within : ℕ) → AreBegun key blocks place → block + 1 ≡ place →
-      within ≡ cushion key (block_at blocks block) → IsSpot blocks (cushion key (flattened blocks)) block within
-  spot_in place block within begun next is = search (rules, few_kept, cushion_in, filled_some, length-flattened)
+  pub spot_in : (place block within : ℕ) {own : List Queued} → AreBegun key blocks place → block + 1 ≡ place →
+      within ≡ cushion key own → own ≡ block_at blocks block →
+      IsSpot blocks (cushion key (flattened blocks)) block within
+  spot_in place block within begun next is read = search (rules, few_kept, cushion_in, filled_some, length-flattened)
 
   -- behind the last cell of all
   pub spot_end : (last within place : ℕ) (block : List Queued) (x : Queued) → last + 1 ≡ length blocks →
@@ -95,9 +96,9 @@ module _ (key : Key) (blocks : List (List Queued)) (r : IsRising (flattened bloc
 
 -- ## The spot where a block was split
 
-module _ (blocks : List (List Queued)) (ahead i o : ℕ) (spot : IsSpot blocks ahead i o)
+module _ (blocks : List (List Queued)) (i : ℕ) (inside : i < length blocks)
     (full : length (block_at blocks i) ≡ most_cells) where
-  pub longer : length (halved blocks i) ≡ length blocks + 1
+  longer : length (halved blocks i) ≡ length blocks + 1
   longer = grind (arith, common_steps, length-set, length-insert)
 
   ahead_same : take i (halved blocks i) ≡ take i blocks
@@ -110,16 +111,14 @@ module _ (blocks : List (List Queued)) (ahead i o : ℕ) (spot : IsSpot blocks a
   back_length : length (block_at (halved blocks i) (i + 1)) ≡ 32
   back_length = grind (arith, common_steps, length-set, get_or-insert_at, length-drop 32 (block_at blocks i))
 
-  in_back_half : (p : ℕ) → p + 32 ≡ o → IsSpot (halved blocks i) ahead (i + 1) p
-  in_back_half p late = grind (arith, common_steps, longer, back_length, sum_by_more, front_length, ahead_same)
+  module _ {new : List (List Queued)} (is : new ≡ halved blocks i) {ahead o : ℕ} (spot : IsSpot blocks ahead i o) where
+    pub in_front_half : o ≤ 32 → IsSpot new ahead i o × (length (block_at new i) < most_cells)
+    in_front_half early = rw is (search (arith, rules, longer, ahead_same, front_length))
 
-  pub spot_halved : (was now : Spot) → was.block ≡ i → was.within ≡ o → (o ≤ 32 → now ≡ was) →
-      (32 < o → (now.block ≡ i + 1) × (now.within + 32 ≡ o)) →
-      IsSpot (halved blocks i) ahead now.block now.within
-      × (length (block_at (halved blocks i) now.block) < most_cells)
-  spot_halved was now block within front back =
-      let behind = in_back_half now.within in
-      search (arith, rules, cases_lt 32 o, longer, ahead_same, behind, front_length, back_length)
+    pub in_back_half : {place p : ℕ} → place ≡ i + 1 → p + 32 ≡ o →
+        IsSpot new ahead place p × (length (block_at new place) < most_cells)
+    in_back_half next late =
+        rw (is, next) (grind (arith, common_steps, longer, ahead_same, front_length, back_length, sum_by_more))
 
 -- ## Blocks that are filled
 
@@ -150,7 +149,14 @@ half_few (b ∷ bs) a = grind (arith, common_steps, length-append, half_few bs a
 
 -- there is room for one more block where a full one is split
 pub room_to_split : (blocks : List (List Queued)) (i most room : ℕ) → AreFilled blocks → i < length blocks →
-    length (block_at blocks i) ≡ most_cells → length (halved blocks i) ≡ length blocks + 1 →
-    length (flattened blocks) ≤ room → most ≡ room / 32 + 1 → length blocks < most
-room_to_split blocks i most room f inside full longer fits enough =
+    length (block_at blocks i) ≡ most_cells → length (flattened blocks) ≤ room → most ≡ room / 32 + 1 →
+    length blocks < most
+room_to_split blocks i most room f inside full fits enough =
+    let more = longer blocks i inside full in
     search (arith, rules, filled_halved, flattened-halved, half_few, length-append)
+
+-- the last block looked at, and the one to which a key belongs
+pub ruleset spot_steps = (spot_first, spot_in, spot_end, some_at, rising_block)
+
+-- a full block split in two
+pub ruleset split_steps = (room_to_split, flattened-halved, filled_halved, in_front_half, in_back_half)

@@ -5,7 +5,7 @@ pub use Rattle.cq_base.proofs.Lists.{all_at, each_pair_at}
 pub use Rattle.cq_base.specs.Cells.{HasOtherKey, IsBefore, IsRising, cushion, put}
 unfoldable pub use Rattle.cq_base.specs.Key.{is_before}
 pub use Rattle.cq_base.specs.{declared.cell.Queued.Queued, declared.key.Key.Key}
-pub use Rattle.cq_urgency.specs.Blocks.{ArePlaced, BlocksView, ComesIn, bit, block_at, cells_in_all, counts_behind, flattened, halved, has, in_order, most_cells, parted, times, without_first}
+pub use Rattle.cq_urgency.specs.Blocks.{ArePlaced, BlocksView, ComesIn, bit, block_at, cells_in_all, counts_behind, flattened, halved, has, in_order, most_cells, times, without_first}
 pub use Rattle.cq_urgency.specs.OutputBuffer.{AreBegun, AreFilled, IsSpot, starts_before}
 pub use Rattle.cq_base.proofs.Putting.{after_other, before_all}
 pub use Rattle.cq_base.proofs.Each.{map-insert, all_back, all_front, all_weaker, few_kept, filter_all, filter_none}

@@ -40,12 +40,6 @@ halved blocks place =
     insert (slice_set blocks place (take half_cells (block_at blocks place))) (place + 1)
     (drop half_cells (block_at blocks place))
 
--- with the second half of one block in the place of another one
-abbrev pub parted : List (List Queued) → ℕ → ℕ → List (List Queued)
-parted blocks from to =
-    slice_set (slice_set blocks to (drop half_cells (block_at blocks from))) from
-    (take half_cells (block_at blocks from))
-
 -- without the first cell, and without its block where this was the only cell of it
 abbrev pub without_first : List (List Queued) → List (List Queued)
 without_first [] = []
@@ -100,3 +94,10 @@ pub record ComesIn (pool : List (List Queued)) (free : List ℕ) (pool' : List (
   pub all : length free' + 1 + length pool ≡ length free + length pool'
   pub fewer : length free' ≤ length free
   pub grown : length pool < length pool' → length free ≡ 0
+
+-- the second half of one block of a pool stands in the place of another one, and all other blocks stay
+pub record IsParted (pool pool' : List (List Queued)) (from to : ℕ) : Type 0 where
+  pub long : length pool' ≡ length pool
+  pub left : block_at pool' from ≡ take half_cells (block_at pool from)
+  pub half : block_at pool' to ≡ drop half_cells (block_at pool from)
+  pub others : (n : ℕ) → n ≢ from → n ≢ to → block_at pool' n ≡ block_at pool n

@@ -167,12 +167,13 @@ impl Block {
     }
 
     /// Takes the second half of a full block over from it, in place of the cells that this one had.
+    #[tactic(auto, using(crate::proofs::Pieces::half_steps))]
     pub fn take_half(&mut self, from: &mut Block)
         requires { length from.old ≡ most_cells }
         ensures half { self.new ≡ drop half_cells from.old }
         ensures left { from.new ≡ take half_cells from.old }
     {
-        self.cells[..HALF_CELLS].copy_from_slice(&from.cells[HALF_CELLS..]);
+        self.cells[..HALF_CELLS].copy_from_slice(&from.cells()[HALF_CELLS..]);
         self.head = 0;
         self.len = HALF_CELLS;
         from.len = HALF_CELLS;

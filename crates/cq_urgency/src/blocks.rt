@@ -2,7 +2,7 @@
 ghost use Rattle.std.specs.Prelude.{◌≡◌, ◌≢◌, ℕ, ◌+◌, ◌<◌, ◌≤◌, ◌^◌, ◌∷◌, ◌++◌, [], Some, IfOk, length, take, drop, insert, slice_get, slice_set, slice_index_or, vec_capacity};
 ghost use Rattle.std.specs.List.{sum_by};
 ghost use Rattle.std.specs.VecDeque.{deque_capacity};
-ghost use Rattle.cq_urgency.specs.Blocks.{flattened, block_at, cells_in_all, half_cells, halved, parted, without_first, times, has, ComesIn, most_cells};
+ghost use Rattle.cq_urgency.specs.Blocks.{flattened, block_at, cells_in_all, half_cells, halved, without_first, times, has, ComesIn, IsParted, most_cells};
 
 use crate::block::{Block, HALF_CELLS};
 use cq_base::{NoMemory, Queued};
@@ -54,6 +54,7 @@ fn push_block(pool: &mut Vec<Block>, queued: Queued)
 }
 
 // A block of one cell comes into the pool, in place of a free one where there is one. The answer is its number.
+#[tactic(auto, using(crate::proofs::Placed::free_steps))]
 fn put_block(pool: &mut Vec<Block>, free: &mut Vec<usize>, queued: Queued) -> usize
     requires within { (n : ℕ) → times n free.old.items ≤ has pool.old.items n }
     requires memory { length free.old.items ≡ 0 → length pool.old.items < vec_capacity pool.old }
@@ -75,12 +76,13 @@ fn put_block(pool: &mut Vec<Block>, free: &mut Vec<usize>, queued: Queued) -> us
 }
 
 // The second half of a full block goes over to another one, in place of the cells that it had.
+#[tactic(auto, using(crate::proofs::Placed::move_steps))]
 fn move_half(pool: &mut [Block], from: usize, to: usize)
     requires from { from < length pool.old }
     requires to { to < length pool.old }
     requires apart { to ≢ from }
     requires full { length (block_at pool.old from) ≡ most_cells }
-    ensures { pool.new ≡ parted pool.old from to }
+    ensures { IsParted pool.old pool.new from to }
 {
     if from < to {
         let (front, back) = pool.split_at_mut(to);
@@ -92,6 +94,7 @@ fn move_half(pool: &mut [Block], from: usize, to: usize)
 }
 
 // The second half of a full block becomes a block of its own. The answer is its number.
+#[tactic(auto, using(crate::proofs::Placed::half_steps))]
 fn put_half(pool: &mut Vec<Block>, free: &mut Vec<usize>, number: usize) -> usize
     requires there { number < length pool.old.items }
     requires used { times number free.old.items ≡ 0 }
@@ -173,6 +176,7 @@ impl Blocks {
     }
 
     /// The block at a place in the order.
+    #[tactic(auto, using(crate::proofs::Placed::block_steps))]
     pub fn block(&self, place: usize) -> &Block
         requires { place < length self.now.blocks }
         ensures { result.now ≡ block_at self.now.blocks place }
@@ -182,6 +186,7 @@ impl Blocks {
 
     /// How many of so many cells stand in the blocks ahead of this place. Those ahead are added, or the others are
     /// taken off, whichever blocks are fewer.
+    #[tactic(auto, using(crate::proofs::Placed::ahead_steps))]
     pub fn ahead(&self, place: usize, cells: usize) -> usize
         requires inside { place ≤ length self.now.blocks }
         requires cells { cells ≡ cells_in_all self.now.blocks }
@@ -227,6 +232,7 @@ impl Blocks {
     }
 
     /// The first block, of one cell.
+    #[tactic(auto, using(crate::proofs::Placed::start_steps))]
     pub fn start(&mut self, queued: Queued)
         requires none { self.old.blocks ≡ [] }
         requires room { 0 < self.old.most }
@@ -239,6 +245,7 @@ impl Blocks {
     }
 
     /// Puts a cell into a block.
+    #[tactic(auto, using(crate::proofs::Placed::insert_steps))]
     pub fn insert(&mut self, block: usize, place: usize, queued: Queued)
         requires block { block < length self.old.blocks }
         requires inside { place ≤ length (block_at self.old.blocks block) }
@@ -254,11 +261,13 @@ impl Blocks {
         set_count(&mut self.counts, block, count);
     }
 
-    /// Splits a full block in two halves.
-    pub fn split(&mut self, block: usize)
+    /// Splits a full block in two halves, and answers the place of the second one.
+    #[tactic(auto, using(crate::proofs::Placed::cut_steps))]
+    pub fn split(&mut self, block: usize) -> usize
         requires block { block < length self.old.blocks }
         requires full { length (block_at self.old.blocks block) ≡ most_cells }
         requires room { length self.old.blocks < self.old.most }
+        ensures back { result ≡ block + 1 }
         ensures blocks { self.new.blocks ≡ halved self.old.blocks block }
         ensures most { self.new.most ≡ self.old.most }
     {
@@ -267,9 +276,11 @@ impl Blocks {
         self.order.insert(block + 1, other).unwrap();
         set_count(&mut self.counts, block, HALF_CELLS);
         self.counts.insert(block, HALF_CELLS).unwrap();
+        block + 1
     }
 
     // Takes the first block away.
+    #[tactic(auto, using(crate::proofs::Placed::freed_steps))]
     fn free_first(&mut self)
         requires { 0 < length self.old.blocks }
         ensures blocks { self.new.blocks ≡ drop 1 self.old.blocks }
@@ -283,7 +294,23 @@ impl Blocks {
         }
     }
 
+    // Takes the first cell out of the first block. The answer is the cell, and how many cells the block has left.
+    #[tactic(auto, using(crate::proofs::Placed::pop_steps))]
+    fn pop_first(&mut self) -> (Queued, usize)
+        requires block { 0 < length self.old.blocks }
+        requires some { 0 < length (block_at self.old.blocks 0) }
+        ensures first { slice_get (block_at self.old.blocks 0) 0 ≡ Some result.0 }
+        ensures left { result.1 + 1 ≡ length (block_at self.old.blocks 0) }
+        ensures blocks { self.new.blocks ≡ slice_set self.old.blocks 0 (drop 1 (block_at self.old.blocks 0)) }
+        ensures most { self.new.most ≡ self.old.most }
+    {
+        let block = &mut self.pool[self.first];
+        let queued = block.pop();
+        (queued, block.len())
+    }
+
     /// Takes the first cell out, and its block where this was the only cell of it.
+    #[tactic(auto, using(crate::proofs::Placed::emptied, crate::proofs::Placed::without_cell))]
     pub fn pop(&mut self) -> Queued
         requires block { 0 < length self.old.blocks }
         requires some { 0 < length (block_at self.old.blocks 0) }
@@ -291,9 +318,8 @@ impl Blocks {
         ensures blocks { self.new.blocks ≡ without_first self.old.blocks }
         ensures most { self.new.most ≡ self.old.most }
     {
-        let number = self.first;
-        let queued = self.pool[number].pop();
-        if self.pool[number].len() == 0 {
+        let (queued, left) = self.pop_first();
+        if left == 0 {
             self.free_first();
         }
         queued

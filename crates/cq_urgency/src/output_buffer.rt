@@ -75,7 +75,7 @@ fn begun(blocks: &Blocks, key: Key) -> usize
 }
 
 // Behind all cells, where the last one has a lesser key.
-#[tactic(auto, using(crate::proofs::Spots::spot_end, crate::proofs::Spots::some_at))]
+#[tactic(auto, using(crate::proofs::Spots::spot_steps))]
 fn spot_at_end(blocks: &Blocks, key: Key) -> Option<Spot>
     requires rising { IsRising (flattened blocks.now.blocks) }
     requires filled { AreFilled blocks.now.blocks }
@@ -97,7 +97,7 @@ fn spot_at_end(blocks: &Blocks, key: Key) -> Option<Spot>
 }
 
 // Where the cells of lesser key end: in the last block that begins with one, or ahead of all.
-#[tactic(auto, using(crate::proofs::Spots::spot_first, crate::proofs::Spots::rising_block))]
+#[tactic(auto, using(crate::proofs::Spots::spot_steps))]
 fn spot_of(blocks: &Blocks, key: Key) -> Spot
     requires rising { IsRising (flattened blocks.now.blocks) }
     requires filled { AreFilled blocks.now.blocks }
@@ -136,23 +136,8 @@ fn cushion_in(blocks: &Blocks, key: Key, len: u64) -> u64
     (blocks.ahead(spot.block, len as usize) + spot.within) as u64
 }
 
-// Where it stands once its block was split into two halves.
-fn in_halves(spot: Spot) -> Spot
-    requires { spot.block + 1 < 2 ^ 64 }
-    ensures front { spot.within ≤ half_cells → result ≡ spot }
-    ensures back { half_cells < spot.within →
-        (result.block ≡ spot.block + 1) × (result.within + half_cells ≡ spot.within) }
-{
-    if spot.within <= HALF_CELLS {
-        return spot;
-    }
-    Spot {
-        block: spot.block + 1,
-        within: spot.within - HALF_CELLS,
-    }
-}
-
 // The same in a block with room: a full block is split in two.
+#[tactic(auto, using(crate::proofs::Spots::split_steps))]
 fn spot_with_room(blocks: &mut Blocks, key: Key, _room: u64) -> Spot
     requires rising { IsRising (flattened blocks.old.blocks) }
     requires filled { AreFilled blocks.old.blocks }
@@ -169,11 +154,18 @@ fn spot_with_room(blocks: &mut Blocks, key: Key, _room: u64) -> Spot
     if blocks.block(spot.block).len() < MOST_CELLS {
         return spot;
     }
-    blocks.split(spot.block);
-    in_halves(spot)
+    let back = blocks.split(spot.block);
+    if spot.within <= HALF_CELLS {
+        return spot;
+    }
+    Spot {
+        block: back,
+        within: spot.within - HALF_CELLS,
+    }
 }
 
 // A cell comes into the blocks.
+#[tactic(auto, using(crate::proofs::Flattened::insert_in, crate::proofs::Halving::put_is))]
 fn put_into(blocks: &mut Blocks, queued: Queued, room: u64)
     requires rising { IsRising (flattened blocks.old.blocks) }
     requires filled { AreFilled blocks.old.blocks }

@@ -7,6 +7,3 @@ returns-then-place-len c =
     let counts = as_many_counts (kept c.self.invariant.0 c.self.view_is) in
     let sum = counts_ahead c.args.self.now.blocks _ (c.args.place - 1) c.args.place counts in
     search (arith, rules, counts_all, counts, sum, take_all)
-
-pub returns : goal.returns
-returns c = search (arith, rules, counts_ahead, c.args.place, as_many_counts, kept)

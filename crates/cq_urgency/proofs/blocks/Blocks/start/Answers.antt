@@ -4,7 +4,6 @@ use Rattle.cq_urgency.proofs.blocks.Blocks.start.Goals as goal
 
 pub invariant_of-self : goal.invariant_of-self
 invariant_of-self c =
-    let w = rw c.requires.none at (kept c.self.invariant.0 c.self.view_is) in
-    let k = started _ _ _ _ _ _ _ _ _ w c.put_block-number.ensures.comes in
-    let view = ap (λ (v : BlocksView). v.most) c.self.view_is in
-    (rw c.push_back_reserved.ensures.items k.placed, grind (arith, common_steps, cases_lt))
+    let k = started (kept c.self.invariant.0 c.self.view_is) c.requires.none c.put_block-number.ensures.comes
+    c.push_back_reserved.ensures.items in
+    let view = ap (λ (v : BlocksView). v.most) c.self.view_is in (k.placed, grind (arith, common_steps, cases_lt))
