@@ -1,19 +1,10 @@
 -- The transfer of a matching, input by input. Once the inputs below n had their turn, their lists are without their
 -- first cells for their partners, the buffers of these partners have the cells, and all else is as before. No output
 -- has two partners, so the buffer that the next cell comes to is as before.
-use Rattle.cq_xbar.proofs.Terms.{common_steps, rules, ◌≡◌, ◌≢◌, ℕ, ◌+◌, ◌-◌, ◌<◌, ◌≤◌, cond, List, length, map, get_or, set, Option, Some, None, ◌∙◌, arith, is_some, cases_lt, same_Some, length-map, length-set, get_or_past, get_or-set_same, get_or-set_other, get_or_default, ext_get_or, Queued, HasOtherKey, put, first_for, without_first, Waiting, cells_of, Buffered, cells_in, list_of, Moves, Partners, partner_of, ArePairs, HaveCells, KeysAreNew, HaveRoom, MovesRoom, buffer_at, list_at, no_buffer, no_list}
+use Rattle.cq_xbar.proofs.Terms.{HasCellFor, list_left, with_cell, common_steps, rules, ◌≡◌, ◌≢◌, ℕ, ◌+◌, ◌-◌, ◌<◌, ◌≤◌, List, length, map, get_or, set, Some, None, ◌∙◌, arith, cases_lt, same_Some, length-map, length-set, get_or_past, get_or-set_same, get_or-set_other, get_or_default, ext_get_or, Queued, HasOtherKey, put, first_for, Waiting, cells_of, Buffered, cells_in, list_of, Moves, Partners, partner_of, ArePairs, HaveCells, KeysAreNew, HaveRoom, MovesRoom, buffer_at, list_at, no_buffer, no_list}
 use Rattle.std.proofs.Math.ListN.{get_or-map}
 
 -- ## The lists and the buffers
-
--- a list after its first cell for its partner, if it has one, left it
-abbrev pub list_left : Option ℕ → Waiting → Waiting
-list_left None w = w
-list_left (Some j) w = record { cells = without_first j w.cells; outputs = w.outputs; spare = w.spare + 1 }
-
--- a buffer after a cell came to it
-abbrev pub with_cell : Queued → Buffered → Buffered
-with_cell c b = record { cells = put c b.cells; spare = b.spare - 1 }
 
 pub cells-at : (lists : List Waiting) (i : ℕ) → list_of (cells_of lists) i ≡ (list_at lists i).cells
 cells-at lists i = get_or-map (λ (w : Waiting). w.cells) lists i no_list
@@ -33,13 +24,7 @@ pub record Crossed (m : Partners) (lists : List Waiting) (buffers : List Buffere
       first_for j (list_at lists i).cells ≡ Some c → buffer_at buffers' j ≡ with_cell c (buffer_at buffers j)
   pub kept : (j : ℕ) → ((i : ℕ) → i < n → partner_of m i ≢ Some j) → buffer_at buffers' j ≡ buffer_at buffers j
 
--- what a taken list is, and a buffer with a cell more, by their parts
-left_by : (j : ℕ) (w w' : Waiting) (r : Option Queued) (c : Queued) → r ≡ Some c →
-    w'.cells ≡ without_first j w.cells → w'.outputs ≡ w.outputs → w'.spare ≡ w.spare + cond (is_some r) 1 0 →
-    w' ≡ list_left (Some j) w
-left_by j w w' r c some cells outputs spare = grind (arith, common_steps)
-
-with_by : (c : Queued) (b b' : Buffered) → b'.cells ≡ put c b.cells → b'.spare + 1 ≡ b.spare → b' ≡ with_cell c b
+pub with_by : (c : Queued) (b b' : Buffered) → b'.cells ≡ put c b.cells → b'.spare + 1 ≡ b.spare → b' ≡ with_cell c b
 with_by c b b' cells spare = grind (arith, common_steps, b.spare)
 
 ruleset sets = (length-set, get_or-set_other, get_or-set_same, cases_lt, same_Some)
@@ -63,22 +48,23 @@ module _ {m : Partners} {lists : List Waiting} {buffers : List Buffered} {n : �
     pub room_next : HaveRoom m buffers → 0 < (get_or buffers' j e).spare
     room_next room = rw next_buffer (room n j p)
 
-    -- the next input's first cell for its partner crosses, as is seen of a list and a buffer that were read, and of
-    -- what was taken and put
-    module _ (d : Waiting) (r : Option Queued) (c : Queued) (inside : n < length lists)
-        (first : r ≡ first_for j (get_or lists' n d).cells) (some : r ≡ Some c) where
-      pub first_crosses : first_for j (list_of (cells_of lists) n) ≡ Some c
-      first_crosses = cc (cells-at lists n, next_list d inside)
+    -- the next input's first cell for its partner crosses, as is seen of a list that was read
+    module _ (d : Waiting) (inside : n < length lists) where
+      pub first_next : (c : Queued) → first_for j (get_or lists' n d).cells ≡ Some c →
+          first_for j (list_of (cells_of lists) n) ≡ Some c
+      first_next c first = cc (cells-at lists n, next_list d inside)
 
-      pub key_next : KeysAreNew m (cells_of lists) (cells_in buffers) → HasOtherKey c (get_or buffers' j e).cells
-      key_next new = rw (next_buffer, ← (cells_in-at buffers j)) (new n j c p first_crosses)
+      pub cell_next : HaveCells m (cells_of lists) → HasCellFor (get_or lists' n d).cells j
+      cell_next have = rw (next_list d inside, ← (cells-at lists n)) (have n j p)
 
-      pub crossed_more : (w : Waiting) (b : Buffered) → w.cells ≡ without_first j (get_or lists' n d).cells →
-          w.outputs ≡ (get_or lists' n d).outputs → w.spare ≡ (get_or lists' n d).spare + cond (is_some r) 1 0 →
-          b.cells ≡ put c (get_or buffers' j e).cells → b.spare + 1 ≡ (get_or buffers' j e).spare →
+      pub key_next : KeysAreNew m (cells_of lists) (cells_in buffers) → (c : Queued) →
+          first_for j (get_or lists' n d).cells ≡ Some c → HasOtherKey c (get_or buffers' j e).cells
+      key_next new c first = rw (next_buffer, ← (cells_in-at buffers j)) (new n j c p (first_next c first))
+
+      pub crossed_more : (c : Queued) (w : Waiting) (b : Buffered) → first_for j (get_or lists' n d).cells ≡ Some c →
+          w ≡ list_left (Some j) (get_or lists' n d) → b ≡ with_cell c (get_or buffers' j e) →
           Crossed m lists buffers (n + 1) (set lists' n w) (set buffers' j b)
-      crossed_more w b cells outputs spare filled less =
-          search (rules, sets, cells-at, first_crosses, next_list, left_by, next_buffer, with_by)
+      crossed_more c w b first left come = search (rules, sets, cells-at, first_next, next_list, next_buffer)
 
 -- ## After the last input
 

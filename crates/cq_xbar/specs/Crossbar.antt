@@ -1,9 +1,9 @@
 -- What the transfer of a matching asks for, and what it does to the room of lists and buffers.
-use Rattle.std.specs.Prelude.{◌≡◌, ℕ, ◌+◌, ◌<◌, ◌⊎◌, ◌++◌, if◌then◌else◌, List, [], length, map, Some, is_some, nat_eq, slice_index_or}
+use Rattle.std.specs.Prelude.{◌≡◌, ℕ, ◌+◌, ◌-◌, ◌<◌, ◌⊎◌, ◌++◌, if◌then◌else◌, List, [], length, map, Option, None, Some, is_some, nat_eq, slice_index_or}
 use Rattle.std.specs.List.{IsDistinct}
 use Rattle.cq_base.specs.declared.cell.Queued.{Queued}
 use Rattle.cq_base.specs.declared.cell.Transfer.{Transfer}
-use Rattle.cq_base.specs.Cells.{HasOtherKey, first_for}
+use Rattle.cq_base.specs.Cells.{HasOtherKey, first_for, put, without_first}
 use Rattle.cq_base.specs.Room.{RoomView}
 use Rattle.cq_list.specs.InputList.{Waiting, cells_of}
 use Rattle.cq_urgency.specs.OutputBuffer.{Buffered, cells_in}
@@ -36,6 +36,15 @@ list_at lists i = slice_index_or lists i no_list
 -- the buffer of output j
 abbrev pub buffer_at : List Buffered → ℕ → Buffered
 buffer_at buffers j = slice_index_or buffers j no_buffer
+
+-- a list after its first cell for its partner, if it has one, left it
+abbrev pub list_left : Option ℕ → Waiting → Waiting
+list_left None w = w
+list_left (Some j) w = record { cells = without_first j w.cells; outputs = w.outputs; spare = w.spare + 1 }
+
+-- a buffer after a cell came to it
+abbrev pub with_cell : Queued → Buffered → Buffered
+with_cell c b = record { cells = put c b.cells; spare = b.spare - 1 }
 
 -- how many more cells the list of input i has room for
 abbrev pub list_spare : List Waiting → ℕ → ℕ

@@ -1,5 +1,5 @@
 use Rattle.cq_xbar.proofs.Terms.{rules, ◌∙◌, ◌≡◌, ◌<◌, length, sym, arith, append-nil, append_assoc, length-append, transfers_of}
-use Rattle.cq_xbar.proofs.Turns.{cells-at, next_list, crossed_past, crossed_more, first_crosses, room_next, key_next, crossed_moves, crossed_room, crossed_outputs}
+use Rattle.cq_xbar.proofs.Turns.{cell_next, crossed_past, crossed_more, first_next, room_next, key_next, crossed_moves, crossed_room, crossed_outputs}
 use Rattle.cq_xbar.proofs.Noting.{kept_few, noted_one, noted_past}
 use Rattle.cq_xbar.proofs.crossing.transfer.Goals as goal
 use Rattle.cq_xbar.proofs.crossing.transfer.Goals.{in-Some, in_default}
@@ -7,15 +7,8 @@ use Rattle.cq_xbar.proofs.crossing.transfer.Goals.{in-Some, in_default}
 pub loop-input-init : goal.loop-input-init
 loop-input-init c = search (arith, rules, append-nil)
 
-pub unwrap-queued-requires : goal.unwrap-queued-requires
-unwrap-queued-requires c =
-    search (arith, rules, next_list c.loop-input.invariant.crossed, cells-at, c.requires.cells)
-
-pub put-requires-clause-spare : goal.put-requires-clause-spare
-put-requires-clause-spare c = search (arith, rules, room_next)
-
-pub put-requires-clause-other_key : goal.put-requires-clause-other_key
-put-requires-clause-other_key c = search (arith, rules, key_next)
+pub cross-queued-requires : goal.cross-queued-requires
+cross-queued-requires c = search (arith, rules, cell_next c.loop-input.invariant.crossed, key_next, room_next)
 
 pub push-requires : goal.push-requires
 push-requires c = search (arith, rules, kept_few)
@@ -27,14 +20,13 @@ loop-input-preserved c =
     let pairs = c.partner_of.ensures.pairs in
     elim c.match-partner_of.branch [
       | in-Some w ↦
-          let j = w.in-Some.output in
-          let q = w.unwrap-queued.result in
+          let q = w.cross-queued.result in
           let p = sym c.partner_of.ensures.partner ∙ w.in-Some.is in
           let inside : n < length c.args.lists.now = omega arith in
-          let crossed = crossed_more inv.crossed j w.index-buffers-output.result pairs p c.requires.buffers
-          w.index-lists-input.result _ q inside w.take.ensures.first w.unwrap-queued.ensures in
-          let found = first_crosses inv.crossed j w.index-buffers-output.result pairs p c.requires.buffers
-          w.index-lists-input.result _ q inside w.take.ensures.first w.unwrap-queued.ensures in
+          let crossed = crossed_more inv.crossed w.in-Some.output w.index-buffers-output.result pairs p
+          c.requires.buffers w.index-lists-input.result inside q in
+          let found = first_next inv.crossed w.in-Some.output w.index-buffers-output.result pairs p c.requires.buffers
+          w.index-lists-input.result inside q in
           search (arith, rules, crossed, found, noted_one, append_assoc, length-append)
       | in_default w ↦ search (arith, rules, crossed_past, noted_past)
     ]
