@@ -1,5 +1,5 @@
 //! A number for each port.
-ghost use Rattle.std.specs.Prelude.{◌≡◌, ◌<◌, ◌≤◌, length, replicate, slice_index, slice_set};
+ghost use Rattle.std.specs.Prelude.{◌≡◌, ◌<◌, ◌≤◌, [], length, replicate, slice_index, slice_set};
 ghost use Rattle.cq_base.specs.Limits.{most_ports};
 
 use cq_base::{MOST_PORTS, Port};
@@ -24,14 +24,13 @@ impl Model for PerPort {
 }
 
 impl PerPort {
-    /// The same number for each of so many ports.
-    pub fn all(ports: u16, number: u16) -> PerPort
-        requires { ports ≤ most_ports }
-        ensures { result ≡ replicate ports number }
+    /// No port.
+    pub fn none() -> PerPort
+        ensures { result ≡ [] }
     {
         PerPort {
-            ports,
-            numbers: [number; MOST_PORTS],
+            ports: 0,
+            numbers: [0; MOST_PORTS],
         }
     }
 

@@ -92,8 +92,8 @@ impl Core {
         ensures { result ≡ no_progress }
     {
         Core {
-            positions: PerPort::all(0, 0),
-            places: PerPort::all(0, 0),
+            positions: PerPort::none(),
+            places: PerPort::none(),
             matching: Matching::none(0),
             free: FreeInputs::none(),
             made: 0,
