@@ -3,7 +3,7 @@
 -- free, and the input that is parted was held nowhere else. So are the steps put together: the input goes on to its
 -- next place, whom the output held is parted, and the output takes the input. What is then shown is the state after the
 -- event, with its pairs, its free inputs and its count.
-use Rattle.cq_pair.proofs.Terms.{common_steps, rules, ℕ, ◌≡◌, ◌≢◌, ◌+◌, ◌<◌, ◌≤◌, ◌∷◌, mul-le-mul, List, length, get_or, set, Option, Some, None, refl, sym, ◌∙◌, arith, cases_lt, lt-ltb, eq-eqb, ne_eqb, get_or-set_other, length-set, Orders, ports, inputs_of, position_of, partner_of, IsFreeInput, State, position_held, Holds, IsSound, next_output, holder, propose, answer_of, outcome_of, matching_of, input_in_range, inputs_at_most, next_output-offered, events_at_most, holder-holds, matching-of, partner-free, partner-from, Progress, IsReached, IsAsk, MovesOn, Parts, CanTake, Takes, most_ports, same_Some, held_once, cases_eq, get_or-set_same, set-get_or, AreOffers, Partners, next_place, IsFree, same_at_place, output_in_range, IsStep, step, sound-step, matching_of-is, partner-holds}
+use Rattle.cq_pair.proofs.Terms.{common_steps, rules, ℕ, ◌≡◌, ◌≢◌, ◌+◌, ◌*◌, ◌<◌, ◌≤◌, ◌∷◌, mul-le-mul, List, length, get_or, set, Option, Some, None, refl, sym, ◌∙◌, arith, cases_lt, lt-ltb, eq-eqb, ne_eqb, get_or-set_other, length-set, Orders, ports, inputs_of, position_of, partner_of, IsFreeInput, State, position_held, Holds, IsSound, next_output, holder, propose, answer_of, outcome_of, matching_of, input_in_range, inputs_at_most, next_output-offered, events_at_most, holder-holds, matching-of, partner-free, partner-from, Progress, IsReached, IsAsk, MovesOn, Parts, CanTake, Takes, most_ports, same_Some, held_once, cases_eq, get_or-set_same, set-get_or, AreOffers, Partners, next_place, IsFree, same_at_place, output_in_range, IsStep, step, sound-step, matching_of-is, partner-holds}
 use Rattle.cq_prefs.specs.declared.outcome.Outcome.{Outcome}
 use Rattle.cq_prefs.specs.declared.outcome.Outcome.TheVariants.{Held, Displaced, Rejected}
 use Rattle.cq_pair.proofs.Reached.{sound-reached, free_known, asked_known, reached-step}
@@ -116,7 +116,7 @@ module _ {o : Orders} {c : Progress} {i j h : ℕ} {ahead : Option ℕ} (a : IsA
   at is = rw is at a.position
 
   -- there is one proposal more to make
-  pub few_made : ports o ≤ most_ports → c.made < 4096
+  pub few_made : ports o ≤ most_ports → c.made < most_ports * most_ports
   few_made few = search (arith, rules, events_at_most o a.offers (i ∷ a.reached.events), mul-le-mul few few)
 
   -- ## The input went on

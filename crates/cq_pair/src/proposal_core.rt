@@ -1,5 +1,5 @@
 //! Proposals, one at a time.
-ghost use Rattle.std.specs.Prelude.{◌≡◌, ◌≢◌, ◌↔◌, ◌<◌, ◌≤◌, ◌+◌, [], length, nat_eq, replicate, IfSome, IsSome, None};
+ghost use Rattle.std.specs.Prelude.{◌≡◌, ◌≢◌, ◌↔◌, ◌<◌, ◌≤◌, ◌+◌, ◌*◌, [], length, nat_eq, replicate, IfSome, IsSome, None};
 ghost use Rattle.std.specs.List.{IsDistinct};
 ghost use Rattle.cq_base.specs.Limits.{most_ports};
 ghost use Rattle.cq_prefs.specs.Orders.{IsListed, ports, outputs_of, place_in};
@@ -226,7 +226,7 @@ impl Core {
         requires known { input < ports offers.now }
         requires left { next_place self.old.state input < length (outputs_of offers.now input) }
         requires few { length (outputs_of offers.now input) ≤ most_ports }
-        requires count { self.old.made < 4096 }
+        requires count { self.old.made < most_ports * most_ports }
         requires waiting { ShowsWaiting offers.now self.old }
         ensures { MovesOn offers.now self.old self.new input }
     {
