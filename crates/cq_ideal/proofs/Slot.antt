@@ -1,6 +1,6 @@
 -- A slot is what the parts do one after the other: the arrivals are judged, those that are admitted are ranked and go
 -- into the lists, and then the outputs send.
-use Rattle.cq_ideal.proofs.Terms.{◌≡◌, ℕ, ◌+◌, ◌<◌, ◌^◌, Bool, false, List, length, map, get_or, Option, Ok, refl, ap, ◌∙◌, arith, common_steps, get_or-map, Cell, Queued, Departure, RoomView, Machine, class_count, Admission, admission, admitted, refused, IdealSwitch, SpareFollows, marked_state, IdealState, ideal_slot, ideal_sends, filled, fronts, rests, limited_slot, with_admission, HoldsLists, LimiterView, AreParts, AreWithinRooms, CameToPorts, FitTogether, RanksView, QueuesView, AllArrivedBefore, HaveOwnKeys, HaveRoomFor, state_of, AreForPorts, Ranking, ranking, rules, other_key_newest}
+use Rattle.cq_ideal.proofs.Terms.{◌≡◌, ℕ, ◌+◌, ◌<◌, ◌^◌, Bool, false, List, length, map, get_or, Option, Ok, refl, ap, arith, common_steps, get_or-map, Cell, Queued, Departure, RoomView, Machine, class_count, Admission, admission, admitted, refused, IdealSwitch, SpareFollows, marked_state, IdealState, ideal_slot, ideal_sends, filled, fronts, rests, limited_slot, with_admission, HoldsLists, LimiterView, AreParts, AreWithinRooms, CameToPorts, FitTogether, RanksView, QueuesView, AllArrivedBefore, HaveOwnKeys, HaveRoomFor, state_of, AreForPorts, Ranking, ranking, rules, other_key_newest}
 use Rattle.cq_ideal.specs.OneSlot.{CanHaveSlot}
 use Rattle.cq_ideal.specs.Taking.{CanTakeIn, HasJudged, HasTakenIn}
 use Rattle.cq_ideal.proofs.Admitted.{admitted_for_ports}
@@ -72,16 +72,10 @@ module _ {M : List ℕ → Machine} {slot : ℕ} {cells : List (Option Cell)} {v
 
   module _ {judged : LimiterView} (judges : HasJudged cells old judged) where
     pub judged_slot : limited_slot v.limits (map M v.fixed) slot cells (marked_state v)
-        ≡ with_admission (by_marks judged.marks cells)
-        (ideal_slot (map M v.fixed) slot (admitted judged.marks cells) v.state)
-    unfolding limited_slot admission
+        ≡ with_admission (by_marks judged.marks cells) (ideal_sends (map M ranks.fixed) (state_of ranks queues)
+        (ranking (map M ranks.fixed) slot 0 (admitted judged.marks cells) ranks.states))
+    unfolding limited_slot admission ideal_slot
     judged_slot = let lists = lists_are in grind (arith, common_steps)
-
-    pub ideal_is : ideal_slot (map M v.fixed) slot (admitted judged.marks cells) v.state
-        ≡ ideal_sends (map M ranks.fixed) (state_of ranks queues)
-        (ranking (map M ranks.fixed) slot 0 (admitted judged.marks cells) ranks.states)
-    unfolding ideal_slot
-    ideal_is = grind (arith, common_steps)
 
     module _ {ranks_new : RanksView} {came : List (Option Queued)}
         (taken : HasTakenIn (map M ranks.fixed) slot cells ranks ranks_new old judged came) where
@@ -103,10 +97,14 @@ module _ {M : List ℕ → Machine} {slot : ℕ} {cells : List (Option Cell)} {v
       pub placed : (queues_new : QueuesView) → queues_new.lists ≡ filled came queues.lists →
           queues_new.rooms ≡ queues.rooms → ranks_new.fixed ≡ ranks.fixed →
           length ranks_new.states ≡ length ranks.states → Placed M slot cells v queues judged ranks_new queues_new
+      unfolding ideal_slot
       placed queues_new lists rooms same many =
           let limits = ap length judges.limits in
-          let ok : ideal_slot (map M v.fixed) slot (admitted judged.marks cells) v.state
-          ≡ Ok (sent_from (map M ranks_new.fixed) (state_of ranks_new queues_new)) = cc (ideal_is, taken.ranked) in
+          let ranked = taken.ranked in
+          let sent = sent_from (map M ranks_new.fixed) (state_of ranks_new queues_new) in
+          let ok : ideal_slot (map M v.fixed) slot (admitted judged.marks cells) v.state ≡ Ok sent =
+          grind (arith, common_steps) in
+          let numbers = counted (map M v.fixed) slot (admitted judged.marks cells) v.state sent ok in
           record {
             fit = grind (arith, common_steps, fit_same, length-filled);
             holds = holds_filled came (admitted judged.marks cells) queues.lists queues_new.lists old judged
@@ -114,6 +112,6 @@ module _ {M : List ℕ → Machine} {slot : ℕ} {cells : List (Option Cell)} {v
                 (came_for (map M ranks.fixed) slot (admitted judged.marks cells) ranks.states r taken.ranked);
             arrived = rw lists (arrived_next (map M ranks.fixed) slot (admitted judged.marks cells) ranks.states r
                 taken.ranked queues.lists known.parts.arrived);
-            limited_ok = judged_slot ∙ ap (with_admission (by_marks judged.marks cells)) ok;
-            spare = search (arith, rules, each_once, lists_are, counted (map M v.fixed) slot _ v.state _ ok);
+            limited_ok = cc (judged_slot, taken.ranked);
+            spare = search (arith, rules, each_once, lists_are, numbers);
           }

@@ -1,5 +1,5 @@
 use Rattle.cq_ideal.proofs.Terms.{rules, ◌+◌, arith}
-use Rattle.cq_ideal.proofs.Slot.{Begun, can_arrive, can_take_in, ideal_is, judged_slot, placed, seen}
+use Rattle.cq_ideal.proofs.Slot.{Begun, can_arrive, can_take_in, judged_slot, placed, seen}
 use Rattle.cq_ideal.proofs.ideal.Ideal.slot.Given as given
 use Rattle.cq_ideal.proofs.ideal.Ideal.slot.Goals as goal
 use Rattle.cq_ideal.proofs.ideal.Ideal.slot.Goals.{After-self}
@@ -31,7 +31,7 @@ invariant_of-self-2 g c =
 pub returns-in-Err : goal.returns-in-Err
 returns-in-Err g c =
     let begins = known g (goal.at.returns-in-Err g c).After-self in
-    search (arith, rules, judged_slot begins c.take_in.ensures.judged, ideal_is begins c.take_in.ensures.judged)
+    search (arith, rules, judged_slot begins c.take_in.ensures.judged)
 
 pub returns : goal.returns
 returns g c =
