@@ -3,10 +3,10 @@
 -- is sent. So after the last slot with an arrival no more cells wait than came in all, and each later slot takes one
 -- of them. Slots that are enough are enough with limits: no more cells are admitted in a slot than come, and there are
 -- as many slots.
-use Rattle.cq_ideal.proofs.Terms.{◌≡◌, ℕ, zero, suc, ◌≤◌, Bool, List, [], ◌∷◌, length, drop, Option, refl, ap, arith, ◌+◌, replicate, Result, Ok, common_steps, IfOk, Cell, Arrival, traffic_of, arriving, enough, Machine, Admission, admitted, admitted_in, empty_limited, limited_run, AreJudged, TagFault, no_arrivals, IdealState, IsEmptyIdeal, Ran, ideal_run, empty_ideal, most_ports, rules, All-replicate}
+use Rattle.cq_ideal.proofs.Terms.{◌≡◌, ℕ, zero, suc, ◌≤◌, Bool, List, [], ◌∷◌, length, drop, Option, refl, ap, arith, ◌+◌, replicate, Ok, common_steps, IfOk, Cell, Arrival, traffic_of, arriving, enough, Machine, Admission, admitted, admitted_in, empty_limited, limited_run, AreJudged, no_arrivals, IdealState, IsEmptyIdeal, Ran, ideal_run, empty_ideal, most_ports, rules, All-replicate, end_of, Result, TagFault}
 use Rattle.cq_ideal.proofs.Admitted.{its_marks}
 use Rattle.cq_ideal.proofs.Parted.{all_slots, arriving_length, none_waits, nothing_left, first_slot}
-use Rattle.cq_ideal.proofs.FlowCount.{none_arrive, come_count-traffic_of, quiet_at_end}
+use Rattle.cq_ideal.proofs.FlowCount.{none_arrive, come_count-traffic_of, quiet_from}
 use Rattle.cq_ideal.proofs.FlowStands.{present, only_ok}
 use Rattle.cq_ideal.proofs.FlowRun.{come_count}
 use Rattle.cq_ideal.proofs.LimitedRuns.{is_run_of, judged}
@@ -57,11 +57,12 @@ emptied : (ms : List Machine) (ports : ℕ) (ranks : List (List ℕ)) (came : Li
     (traffic : List (List (Option Cell))) (ran : Ran) → ideal_run ms 0 traffic (empty_ideal ports ranks) ≡ Ok ran →
     ((e : ℕ) → (come_count (drop e traffic) ≤ come_count (drop e (traffic_of came)))
     × (length traffic ≡ length (traffic_of came))) → IsEmptyIdeal ran.after
-unfolding enough
+unfolding enough traffic_of
 emptied ms ports ranks came traffic ran is less =
+    let quiet = quiet_from came (end_of came) 0 (enough came) (omega arith) in
     let few = come_count-traffic_of came in
     let slots = arriving_length came 0 (enough came) in
-    search (arith, rules, less zero, less, all_slots came, quiet_at_end came, nothing_left, empties, waiting-empty)
+    search (arith, rules, less zero, less, all_slots came, quiet, nothing_left, empties, waiting-empty)
 
 pub empty_at_end : (ms : List Machine) (ports : ℕ) (ranks : List (List ℕ)) (came : List Arrival) →
     IfOk (ideal_run ms 0 (traffic_of came) (empty_ideal ports ranks)) (λ ran. IsEmptyIdeal ran.after)

@@ -126,16 +126,12 @@ none_arrive came t inputs are le =
 pub none_after : (came : List Arrival) (t : ℕ) → end_of came ≤ t → length (present (arriving came t)) ≡ 0
 none_after came t le = ap (λ cells. length (present cells)) (none_arrive came t most_ports refl le)
 
-quiet_from : (came : List Arrival) (e a n : ℕ) → end_of came ≤ a + e →
+pub quiet_from : (came : List Arrival) (e a n : ℕ) → end_of came ≤ a + e →
     come_count (drop e (map (arriving came) (range_with_len a n))) ≡ 0
 unfolding come_count
 quiet_from came zero a (suc n) le = search (arith, rules, none_after, quiet_from came zero (a + 1) n)
 quiet_from came (suc e) a (suc n) le = quiet_from came e (a + 1) n (omega arith)
 quiet_from came e a n le = refl
-
-pub quiet_at_end : (came : List Arrival) → come_count (drop (end_of came) (traffic_of came)) ≡ 0
-unfolding traffic_of
-quiet_at_end came = quiet_from came (end_of came) 0 (enough came) (omega arith)
 
 -- ## Cells counted
 

@@ -3,10 +3,10 @@
 -- what it showed of a flow, and then what arrived of it, is what the output sent of it, and then what the list shows
 -- afterwards. So it is over a run: what the list shows of a flow, and then what is still to come of it, is what the
 -- output still sends of it, and then what its list shows at the end. What is no port sends nothing.
-use Rattle.cq_ideal.proofs.Terms.{rules, option_to_list, ◌≡◌, ℕ, ◌+◌, ◌<◌, ◌≤◌, List, [], ◌∷◌, ◌++◌, length, Option, None, Ok, refl, arith, common_steps, slice_index_or, AllByRecursion, filter, eq-eqb, ne_eqb, and_left, cond-false, append-nil, append_assoc, map-append, get_or_past, filter-append, Cell, Departure, Queued, Machine, KeepsLaws, machine_at, IdealState, Sent, ideal_slot, departures_from, departures_in, Ran, ideal_run, departures_of, leaves_in_flow, left_in_flow, get_or-map, length-map, Ranking, ranking, put_all, all_weaker}
-use Rattle.cq_ideal.proofs.FlowStands.{Stands, is_kind, shown, of_flow, present, only_ok, AreOfClasses, Filled, filled_from}
+use Rattle.cq_ideal.proofs.Terms.{rules, option_to_list, ◌≡◌, ℕ, ◌+◌, ◌<◌, ◌≤◌, List, [], ◌∷◌, ◌++◌, length, Option, None, Ok, refl, arith, common_steps, slice_index_or, AllByRecursion, filter, eq-eqb, ne_eqb, and_left, cond-false, append-nil, append_assoc, map-append, get_or_past, filter-append, Cell, Departure, Queued, Machine, KeepsLaws, machine_at, IdealState, Sent, ideal_slot, departures_from, departures_in, Ran, ideal_run, departures_of, leaves_in_flow, left_in_flow, get_or-map, length-map, ranking, all_weaker}
+use Rattle.cq_ideal.proofs.FlowStands.{Stands, is_kind, shown, of_flow, present, only_ok, AreOfClasses, filled_from}
 use Rattle.cq_ideal.proofs.Sending.{length-told, told_at}
-use Rattle.cq_ideal.proofs.Waiting.{sent_by, filled_at, length-filled, sends_ok}
+use Rattle.cq_ideal.proofs.Waiting.{filled_at, length-filled, sends_ok}
 
 -- ## What stands at one output after the slot
 
@@ -21,20 +21,17 @@ module _ (ms : List Machine) (j slot : ℕ) (laws : KeepsLaws (machine_at ms j))
         ≡ shown i c (option_to_list (slice_index_or sent.gone j None))
         ++ shown i c (slice_index_or sent.after.lists j [])
 
-  served_from : (come : List Cell) (old : IdealState) (r : Ranking) → j < length old.lists → j < length old.ranks →
-      Filled ms j slot laws i c come (slice_index_or old.lists j [])
-      (put_all j r.came (slice_index_or old.lists j [])) old.ranks r.ranks → Served come old (sent_by ms old r)
-  served_from come old r in_lists in_ranks f =
-      let here = filled_at r.came old.lists j in_lists in
-      search (arith, rules, get_or-map, told_at, all_weaker, length-told, length-map, length-filled)
-
   pub served : (cells : List (Option Cell)) (old : IdealState) (sent : Sent) →
       ideal_slot ms slot cells old ≡ Ok sent → j < length old.lists → j < length old.ranks →
       Stands (machine_at ms j) (slice_index_or old.ranks j []) slot 0 (slice_index_or old.lists j []) →
       AreOfClasses (machine_at ms j) j (present cells) → Served (present cells) old sent
   unfolding ideal_slot
   served cells old sent h in_lists in_ranks stands are = sends_ok (λ s. Served (present cells) old s) ms old
-      (ranking ms slot 0 cells old.ranks) sent h (λ r is. search (arith, rules, served_from, present, filled_from))
+      (ranking ms slot 0 cells old.ranks) sent h (λ r is.
+      let list = slice_index_or old.lists j [] in
+      let f = filled_from ms j slot laws i c cells 0 old.ranks list r is in_ranks stands are in
+      let here = filled_at r.came old.lists j in_lists in
+      search (arith, rules, get_or-map, told_at, all_weaker, length-told, length-map, length-filled))
 
 -- ## What an output sends
 

@@ -83,14 +83,6 @@ of_flow i c j cells = filter (is_of_flow i c j) cells
 
 module _ (m : Machine) (laws : KeepsLaws m) (state : List ℕ) (slot input : ℕ) (xs : List Queued)
     (stands : Stands m state slot input xs) where
-  -- at an input with no arrival for the output
-  pub stands_on : Stands m state slot (input + 1) xs
-  stands_on = search (arith, rules, all_weaker (HasWaited m state slot input) (HasWaited m state slot (input + 1)))
-
-  -- at the next slot
-  pub stands_next : Stands m state (slot + 1) 0 xs
-  stands_next = search (arith, rules, all_weaker (HasWaited m state slot input) (HasWaited m state (slot + 1) 0))
-
   module _ (n : Queued) (known : n.cell.class < m.classes) (level_is : n.key.level ≡ m.level n.cell.class)
       (rank_is : n.key.rank ≡ m.ranked state n.cell.class) (slot_is : n.key.slot ≡ slot)
       (input_is : n.key.input ≡ input) where
@@ -154,7 +146,7 @@ module _ (ms : List Machine) (j slot : ℕ) (laws : KeepsLaws (machine_at ms j))
   one_filled cell input ranks xs inside stands are =
       let q = with_key ranks input cell in
       ⊎_elim (search (arith, rules, in_order_put, all_put, all_weaker, given_floor, shown-put))
-      (search (arith, rules, cond-false, ne_eqb, get_or-set_other, stands_on, and_left, append-nil))
+      (search (arith, rules, cond-false, ne_eqb, get_or-set_other, all_weaker, and_left, append-nil))
       (cases_eq cell.output j)
 
   -- from input to input
@@ -163,9 +155,9 @@ module _ (ms : List Machine) (j slot : ℕ) (laws : KeepsLaws (machine_at ms j))
       Stands (machine_at ms j) (slice_index_or ranks j []) slot input xs →
       AreOfClasses (machine_at ms j) j (present cells) → Filled (present cells) xs (put_all j r.came xs) ranks r.ranks
   unfolding of_flow
-  filled_from [] input ranks xs r h inside stands are = search (rules, only_ok, stands_next, append-nil, shown)
+  filled_from [] input ranks xs r h inside stands are = search (arith, rules, only_ok, all_weaker, append-nil, shown)
   filled_from (None ∷ cells) input ranks xs r h inside stands are =
-      search (arith, rules, after_input_ok, stands_on, filled_from cells (input + 1) ranks xs)
+      search (arith, rules, after_input_ok, all_weaker, filled_from cells (input + 1) ranks xs)
   filled_from (Some cell ∷ cells) input ranks xs r h inside stands are =
       let one = one_filled cell input ranks xs inside stands are.0 in
       let w = after_input_ok _ _ r (fits_ok _ (after_input (Some (with_key ranks input cell)) _) _ r h) in

@@ -8,7 +8,7 @@ use Rattle.cq_ideal.proofs.AtInput.{is_shown}
 use Rattle.cq_ideal.proofs.FlowCount.{found, found_here, listed_same, other_slot}
 use Rattle.cq_ideal.proofs.Parted.{nothing_left, arriving_length, departures_append, first_slot}
 use Rattle.cq_ideal.proofs.FlowStands.{only_ok}
-use Rattle.cq_ideal.proofs.LimitedEnds.{at_ok, cut_at, gone_long, limited_over_at_end, limited_test, least, run_to, slots_as_before, whole_as}
+use Rattle.cq_ideal.proofs.LimitedEnds.{at_ok, cut_at, gone_long, limited_over_at_end, limited_test, least, slots_as_before, whole_as}
 use Rattle.cq_ideal.proofs.LimitedRuns.{is_run_of}
 use Rattle.cq_ideal.proofs.Waiting.{counted, waiting}
 
@@ -52,11 +52,6 @@ counted_at : (cells : List (Option Cell)) (i : ℕ) (cell : Cell) → arrival_at
 counted_at [] i cell at = absurd (let P : ⊥ = cc in P)
 counted_at (o ∷ cells) i cell at = grind (arith, common_steps, eq-eqb, counted_at cells)
 
-pub counted_in : (ports : ℕ) (came : List Arrival) (slot : ℕ) (c : Comes ports came slot) →
-    1 ≤ count_for c.cell.output (arriving came slot)
-unfolding found
-counted_in ports came slot c = search (arith, rules, counted_at, is_shown c.input, listed_same)
-
 -- ## One slot
 
 -- where a cell waits one departs
@@ -76,20 +71,16 @@ module _ (limits : List (Option ℕ)) (ms : List Machine) (ports : ℕ) (ranks :
   slots = slots_of_limited_run limits ms came (empty_limited ports ranks)
 
   -- behind the last arrival it goes on only while a cell waits
-  one_waits : (slot : ℕ) (first : LimitedRan) → slot < slots → end_of came ≤ slot →
-      run_to limits ms ports ranks came slot ≡ Ok first → 0 < waiting first.after.state.lists
-  one_waits slot first lt le is =
-      let over = limited_test came slot _ first.after (at_ok limits ms ports ranks came _ first is) le in
-      let least = least limits ms ports ranks came slot in
-      grind (arith, common_steps, nothing_left first.after.state.lists)
-
   late : (slot : ℕ) → slots ≡ slot + 1 → end_of came ≤ slot → slot + 1 ≤ slots_of (departures_of 0 ran.gone)
   unfolding whole_limited_run
   late slot e le =
       let cut = cut_at limits ms ports ranks came slot slots ran (omega arith) whole in
       let long = gone_long limits ms 0 _ _ cut.first cut.ran_first ∙ arriving_length came 0 slot in
       let more = gone_long limits ms slot _ _ cut.second cut.ran_second ∙ arriving_length came slot (slots - slot) in
-      let waits = one_waits slot cut.first (omega arith) le cut.ran_first in
+      let first = cut.first.after in
+      let over = limited_test came slot _ first (at_ok limits ms ports ranks came _ cut.first cut.ran_first) le in
+      let least = least limits ms ports ranks came slot in
+      let waits : 0 < waiting first.state.lists = grind (arith, common_steps, nothing_left first.state.lists) in
       let here = one_of_waiting ms slot _ _ _ (omega arith) waits (is_run_of limits ms slot _ _ _ cut.ran_second) in
       search (arith, rules, departures_append, slots_of-append (departures_of 0 cut.first.gone))
 
@@ -107,14 +98,15 @@ module _ (ms : List Machine) (ports : ℕ) (came : List Arrival) (all : AllByRec
   departs_at_end : (n k slot : ℕ) (s : IdealState) (ran : Ran) → length s.lists ≡ ports → end_of came ≡ slot + k + 1 →
       k < n → ideal_run ms slot (arriving_from came slot n) s ≡ Ok ran →
       end_of came ≤ slots_of (departures_of slot ran.gone)
-  unfolding departures_of departures_in arriving_from
+  unfolding departures_of departures_in arriving_from found
   departs_at_end zero k slot s ran many e lt is = absurd (omega arith)
   departs_at_end (suc n) k slot s ran many e lt is =
       let p = first_slot ms slot (arriving came slot) (arriving_from came (slot + 1) n) s ran is in
       let count = counted ms slot (arriving came slot) s p.sent p.ran_slot in
       ⊎_elim (λ some. search (arith, rules, departs_at_end n (k - 1) (slot + 1) p.sent.after p.second, slots_of-append))
       (λ now. let c = comes ms ports came slot all (omega arith) in
-      let some = counted_in ports came slot c in
+      let some : 1 ≤ count_for c.cell.output (arriving came slot) =
+      search (arith, rules, counted_at, is_shown c.input, listed_same) in
       search (arith, rules, slots_of-append, slots_in slot 0, count.departs c.cell.output, some))
       (cases_lt 0 k)
 

@@ -81,13 +81,6 @@ module _ (limits : List (Option ℕ)) (ms : List Machine) (ports : ℕ) (ranks :
   pub cut_at : (m n : ℕ) (ran : LimitedRan) → m ≤ n → run_to n ≡ Ok ran → Halves m n ran
   cut_at m n ran le is = let on = goes_on m (n - m) n (omega arith) in grind (arith, common_steps)
 
-  -- a run of so many slots that sends and refuses what this one does
-  pub record SameSlots (m : ℕ) (ran : LimitedRan) : Type 0 where
-    pub all : LimitedRan
-    pub is : run_to m ≡ Ok all
-    pub sent : departures_of 0 all.gone ≡ departures_of 0 ran.gone
-    pub refused : refused_in all.admissions ≡ refused_in ran.admissions
-
   pub limited_found_end : (n : ℕ) (end : Marked IdealState) →
       LimitedIdealEnds limits ms came (empty_limited ports ranks) n end → last ≡ n
   limited_found_end n end y =
@@ -96,10 +89,12 @@ module _ (limits : List (Option ℕ)) (ms : List Machine) (ports : ℕ) (ranks :
       let f = cut_at last n o.0 le o.1 in
       search (arith, rules, y.first last f.first.after, at_ok, limited_over_at_end f.first)
 
-  -- what the run over so many slots comes to where the one up to the end comes to this
+  -- the run over so many slots sends and refuses what the one up to the end does, or meets its fault
   abbrev pub Settled : ℕ → Result LimitedRan TagFault → Type 0
-  Settled m (Ok ran) = SameSlots m ran
   Settled m (Err fault) = run_to m ≡ Err fault
+  Settled m (Ok ran) =
+      (all : LimitedRan) × (run_to m ≡ Ok all) × (departures_of 0 all.gone ≡ departures_of 0 ran.gone)
+      × (refused_in all.admissions ≡ refused_in ran.admissions)
 
   -- once it is over a run goes on, and sends and refuses nothing
   pub settled : (m : ℕ) (x : Result LimitedRan TagFault) → last ≤ m → run_to last ≡ x → Settled m x
@@ -160,15 +155,6 @@ module _ (ms : List Machine) (ports : ℕ) (ranks : List (List ℕ)) (came : Lis
       limited n ≡ none_refused_ran (marks_down ports) (first_slots came n) x
   refusing_none n x is = grind (arith, common_steps, run_of_none, none_refused_in, no_limit)
 
-  its_ends : (n : ℕ) (end : IdealState) → IdealEnds ms came (empty_ideal ports ranks) n end →
-      LimitedIdealEnds [] ms came (empty_limited ports ranks) n (marked (marks_down ports) end)
-  its_ends n end y = record {
-    after = search (arith, rules, refusing_none n (plain_run n) refl);
-    all_came = y.all_came;
-    empty = y.empty;
-    first = λ m s. search (arith, rules, y.first m s.state, same_runs [] ms ports ranks came no_limit m);
-  }
-
   pub not_more : slots_of_run ms came (empty_ideal ports ranks) ≤ enough came
   not_more = let same = slots_as_before [] ms ports ranks came no_limit in omega (arith, limited_not_more)
 
@@ -193,7 +179,14 @@ module _ (ms : List Machine) (ports : ℕ) (ranks : List (List ℕ)) (came : Lis
 
   pub found_end : (n : ℕ) (end : IdealState) → IdealEnds ms came (empty_ideal ports ranks) n end →
       slots_of_run ms came (empty_ideal ports ranks) ≡ n
-  found_end n end y = search (arith, rules, slots_as_before [] ms, no_limit, limited_found_end [] ms, its_ends n end y)
+  found_end n end y =
+      let its : LimitedIdealEnds [] ms came (empty_limited ports ranks) n (marked (marks_down ports) end) = record {
+        after = search (arith, rules, refusing_none n (plain_run n) refl);
+        all_came = y.all_came;
+        empty = y.empty;
+        first = λ m s. search (arith, rules, y.first m s.state, same_runs [] ms ports ranks came no_limit m);
+      } in
+      search (arith, rules, slots_as_before [] ms, no_limit, limited_found_end [] ms, its)
 
   -- what a run of more slots says of one of fewer
   pub fewer_slots : (m n : ℕ) (ran : Ran) → m ≤ n → plain_run n ≡ Ok ran → (first : Ran) × (plain_run m ≡ Ok first)

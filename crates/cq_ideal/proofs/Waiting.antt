@@ -41,10 +41,6 @@ pub cell_here : Option Queued → Option Cell
 cell_here None = None
 cell_here (Some q) = Some q.cell
 
--- how many cells came
-abbrev count_here : List (Option Queued) → ℕ
-count_here came = length (present (map cell_here came))
-
 pub filled_none : (lists : List (List Queued)) → filled [] lists ≡ lists
 unfolding filled
 filled_none lists =
@@ -82,7 +78,8 @@ waiting-set [] j xs more = grind (arith, common_steps)
 waiting-set (l ∷ lists) j xs more = grind (arith, common_steps, waiting-set lists)
 
 waiting-filled : (came : List (Option Queued)) (lists : List (List Queued)) →
-    (waiting lists ≤ waiting (filled came lists)) × (waiting (filled came lists) ≤ waiting lists + count_here came)
+    (waiting lists ≤ waiting (filled came lists))
+    × (waiting (filled came lists) ≤ waiting lists + length (present (map cell_here came)))
 unfolding cell_here
 waiting-filled [] lists = grind (arith, common_steps, filled_none lists)
 waiting-filled (o ∷ came) lists = search (arith, rules, filled_next, waiting-set, length_put, waiting-filled came)
@@ -171,23 +168,20 @@ left_of : (cells : List (Option Cell)) (old : IdealState) (r : Ranking) → map 
 left_of cells old r same j inside =
     grind (arith, common_steps, filled_long r.came old.lists j inside, count_to-cells j r.came)
 
-counted_sent : (ms : List Machine) (slot : ℕ) (cells : List (Option Cell)) (old : IdealState) (r : Ranking) →
-    map cell_here r.came ≡ cells → Counted slot cells old (sent_by ms old r)
-unfolding departures_in
-counted_sent ms slot cells old r same =
-    let full = waiting-filled r.came old.lists in
-    let sent = sent_of_waiting slot 0 (filled r.came old.lists) in
-    let long = filled_long r.came old.lists in
-    search (arith, rules, length-filled, length-map, left_of cells old r same, long, count_to-cells, one_of_all)
-
 pub sends_ok : (P : Sent → Type 0) (ms : List Machine) (old : IdealState) (x : Result Ranking TagFault) (sent : Sent)
     → ideal_sends ms old x ≡ Ok sent → ((r : Ranking) → x ≡ Ok r → P (sent_by ms old r)) → P sent
 sends_ok P ms old fault sent h f = grind (arith, common_steps, only_ok)
 
 pub counted : (ms : List Machine) (slot : ℕ) (cells : List (Option Cell)) (old : IdealState) (sent : Sent) →
     ideal_slot ms slot cells old ≡ Ok sent → Counted slot cells old sent
-unfolding ideal_slot
-counted ms slot cells old sent h = search (arith, rules, sends_ok (Counted slot cells old), counted_sent, ranked_cells)
+unfolding ideal_slot departures_in
+counted ms slot cells old sent h =
+    sends_ok (Counted slot cells old) ms old (ranking ms slot 0 cells old.ranks) sent h (λ r is.
+    let same = ranked_cells ms slot 0 cells old.ranks r is in
+    let full = waiting-filled r.came old.lists in
+    let gone = sent_of_waiting slot 0 (filled r.came old.lists) in
+    let long = filled_long r.came old.lists in
+    search (arith, rules, length-filled, length-map, left_of cells old r same, long, count_to-cells, one_of_all))
 
 -- the lists with the cells that came, where each output holds as many more as were admitted for it
 pub holds_filled : (came : List (Option Queued)) (cells : List (Option Cell)) (lists lists' : List (List Queued))
