@@ -158,6 +158,9 @@ module _ {came : List (Option Queued)} {first : QueuesView} {input : ℕ} {queue
     putting_next new lists rooms =
         search (arith, rules, next, length-set, own_keys_rest, filled_next, one_put, length_put)
 
+-- the room for a cell that is put in, and the end of the walk, behind which no cell comes
+pub ruleset arrive_steps = (putting_room, nobody_left, get_or-drop)
+
 -- parts that have as many outputs as others fit as these do
 pub fit_same : (M : List ℕ → Machine) (ranks ranks_new : RanksView) (queues queues_new : QueuesView) →
     FitTogether (map M ranks.fixed) ranks queues → ranks_new.fixed ≡ ranks.fixed →

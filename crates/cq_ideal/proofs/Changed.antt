@@ -81,16 +81,10 @@ pub record Made (rooms : List ℕ) (n : ℕ) (items : List QueueView) : Type 0 w
   pub rooms_are : map (λ q. q.room) items ≡ take n rooms
   pub few : All (λ q. q.room < 2 ^ 64) items
 
--- empty lists are within any room
-pub empty_within : (items : List QueueView) (n : ℕ) → map (λ q. q.cells) items ≡ replicate n [] →
-    All (λ q. q.room < 2 ^ 64) items → All IsWithin items
-empty_within items n e few k d inside =
-    let none = [] in grind (arith, common_steps, length-map, get_or-map (λ (q : QueueView). q.cells) items k d none)
-
 -- each list is within its room, which is a number of 64 bits
 pub within_rooms : (items : List QueueView) (v : QueuesView) → All IsWithin items →
     record { lists = map (λ q. q.cells) items; rooms = map (λ q. q.room) items } ≡ v → (j : ℕ) →
-    (length (list_at v.lists j) ≤ get_or v.rooms j 0) × (get_or v.rooms j 0 < 2 ^ 64)
+    (get_or v.rooms j 0 < 2 ^ 64) × (length (list_at v.lists j) ≤ get_or v.rooms j 0)
 within_rooms items v held view_is j =
     let none : QueueView = record { cells = []; room = 0 } in
     let lists = get_or-map (λ (q : QueueView). q.cells) items j none [] in

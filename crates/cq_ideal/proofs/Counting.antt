@@ -4,7 +4,7 @@
 -- those that are still to be counted, is what is counted in all; and a count grows by one at most with each. Arrivals
 -- are judged one after another: the marks so far, and then those of judging what is left, are those of judging all; and
 -- what the outputs hold so far, with what is still to be admitted, is what they hold at the end.
-use Rattle.cq_ideal.proofs.Terms.{drop_more, drop_all, common_steps, ◌≡◌, ℕ, ◌+◌, Bool, List, [], ◌∷◌, ◌++◌, Option, refl, append_assoc, arith, enumerate_from, filter_map, option_map, append-nil, length-append, filter-append, Cell, Refused, admitted, refused, count_for, AreAllZero, cells_refused, packets_refused, refused_at, refused_counts, with_refused, rules, zero, suc, ◌-◌, ◌<◌, ◌≤◌, ◌^◌, eqb, true, false, cond, length, drop, get_or, set, Some, None, All-from_recursion, get_or-map, length-map, arrival_at, is_first, mark_at, CanCount, HasPorts, LimiterView, where_up, with_cells, take, get_or-set_same, get_or-set_other, cases_Bool, eqb-true, eq-eqb, drop-set-lt, length-set, set-get_or, take_all, mark_after, held_after, marks_after, ComeToPorts, all_weaker, most_ports, few_kept, option_to_list, take_more_set}
+use Rattle.cq_ideal.proofs.Terms.{drop_more, drop_all, common_steps, ◌≡◌, ℕ, ◌+◌, Bool, List, [], ◌∷◌, ◌++◌, Option, refl, append_assoc, arith, enumerate_from, filter_map, option_map, append-nil, length-append, filter-append, Cell, Refused, admitted, refused, count_for, AreAllZero, cells_refused, packets_refused, refused_at, refused_counts, with_refused, rules, zero, suc, ◌-◌, ◌<◌, ◌≤◌, ◌^◌, eqb, true, false, cond, length, drop, get_or, set, Some, None, All-from_recursion, get_or-map, length-map, is_first, CanCount, HasPorts, LimiterView, with_cells, take, get_or-set_same, get_or-set_other, cases_Bool, eqb-true, eq-eqb, set-get_or, take_all, marks_after, ComeToPorts, all_weaker, few_kept}
 use Rattle.cq_ideal.specs.Taking.{HasJudged}
 use Rattle.cq_ideal.proofs.Changed.{at_place, changed_to, next_place}
 use Rattle.std.proofs.lemmas.Bool.Decides.{nat_tests}
@@ -68,10 +68,6 @@ unfolding cells_refused packets_refused
 counts_fit cells n m counts can few k d inside =
     search (arith, rules, length-map, get_or-map (with_cells cells) counts k d d, few_kept)
 
-pub counts_left : (n : ℕ) (cell : Cell) (counts : List Refused) → CanCount (n + 1) counts →
-    CanCount n (with_refused (cell ∷ []) counts)
-counts_left n cell counts can = counts_fit (cell ∷ []) n 1 counts can (omega arith)
-
 pub fewer_left : (n m : ℕ) (counts : List Refused) → CanCount m counts → n ≤ m → CanCount n counts
 fewer_left n m counts can le k d inside = grind (arith, common_steps)
 
@@ -109,28 +105,6 @@ pub zero_fits : (n : ℕ) (limits : List (Option ℕ)) → n < 2 ^ 64 → CanCou
 unfolding refused_counts
 zero_fits n limits few = search (arith, rules, All-from_recursion, all_weaker, zero_from 0 limits)
 
--- ## The walk over the inputs
-
-pub record Counting (cells : List (Option Cell)) (first : LimiterView) (input : ℕ) (now : LimiterView) : Type 0 where
-  pub limits : now.limits ≡ first.limits
-  pub held : now.held ≡ first.held
-  pub marks : now.marks ≡ first.marks
-  pub counted :
-      with_refused (refused (drop input first.marks) (drop input cells)) now.refused
-      ≡ with_refused (refused first.marks cells) first.refused
-  pub few : CanCount (length first.limits - input) now.refused
-
-module _ {cells : List (Option Cell)} {first : LimiterView} {input : ℕ} {now : LimiterView}
-    (so_far : Counting cells first input now) (has : HasPorts first) (few : length first.limits ≤ most_ports)
-    (inside : input < length first.limits) (places : length cells ≡ most_ports) where
-  pub counting_next : (cell : Option Cell) (after : LimiterView) →
-      cell ≡ where_up (mark_at now.marks input) (arrival_at cells input) →
-      after.refused ≡ with_refused (option_to_list cell) now.refused → after.marks ≡ now.marks →
-      after.held ≡ now.held → after.limits ≡ now.limits → Counting cells first (input + 1) after
-  counting_next cell after is counted marks held limits =
-      let left = counts_fit (option_to_list cell) (length first.limits - (input + 1)) 1 now.refused in
-      search (arith, rules, drop_more, from_input, all_counted_both (option_to_list cell), left)
-
 -- ## Arrivals that are judged
 
 -- how many cells will have been admitted for output j
@@ -151,7 +125,7 @@ pub record Judging (cells : List (Option Cell)) (first : LimiterView) (input : �
       get_or now.held j 0 + count_for j (drop input cells) ≤ get_or first.held j 0 + count_for j cells
 
 -- what an output holds grows by one where the cell is for it
-raised : (held : List ℕ) (o j : ℕ) → o < length held →
+pub raised : (held : List ℕ) (o j : ℕ) → o < length held →
     get_or (set held o (get_or held o 0 + 1)) j 0 ≡ get_or held j 0 + one_if (eqb o j)
 raised held o j inside = grind (arith, common_steps, cases_Bool, eqb-true, get_or-set_same, get_or-set_other, eq-eqb)
 
@@ -162,14 +136,6 @@ none_to_count j (c ∷ cells) none = grind (arith, common_steps, none zero, none
 
 module _ {cells : List (Option Cell)} {first : LimiterView} {input : ℕ} {now : LimiterView}
     (so_far : Judging cells first input now) where
-  pub judged_next : (after : LimiterView) (cell : Option Cell) (up : Bool) → input < length first.marks →
-      drop input cells ≡ cell ∷ drop (input + 1) cells → ((c : Cell) → cell ≡ Some c → c.output < length first.held) →
-      up ≡ mark_after now.limits now.held (get_or now.marks input false) cell → after.marks ≡ set now.marks input up →
-      after.held ≡ held_after up now.held cell → after.limits ≡ now.limits → after.refused ≡ now.refused →
-      Judging cells first (input + 1) after
-  judged_next after cell up lt here inside turned marks held limits refused =
-      search (arith, rules, drop-set-lt, drop_more, take_more_set, append_assoc, length-set, raised)
-
   -- there is a number to spare for a cell that arrives
   pub one_more_fits : (c : Cell) (most : ℕ) → drop input cells ≡ Some c ∷ drop (input + 1) cells →
       get_or first.held c.output 0 + count_for c.output cells < most → get_or now.held c.output 0 + 1 < most

@@ -81,7 +81,7 @@ impl Queues {
     }
 
     /// The cells that came go into the lists of their outputs, each at its place in the order of keys.
-    #[tactic(auto, using(crate::proofs::Came::putting_room))]
+    #[tactic(auto, using(crate::proofs::Came::arrive_steps))]
     pub fn arrive(&mut self, came: &Newcomers)
         requires few { length self.old.lists ≤ most_ports }
         requires as_many { length self.old.rooms ≡ length self.old.lists }

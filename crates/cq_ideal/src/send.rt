@@ -25,7 +25,7 @@ fn note_departure(slot: Slot, output: Port, gone: Option<Queued>, sent: &mut Roo
 }
 
 /// Each output sends the first cell of its list, or is idle, and its machine is told. It holds that cell no longer.
-#[tactic(auto, unfolding(crate::specs::IdealSlot::departures_in))]
+#[tactic(auto, using(crate::proofs::Sending::send_steps), unfolding(crate::specs::IdealSlot::departures_in))]
 pub fn send<R: Rank>(
     ranks: &mut Ranks<R>,
     queues: &mut Queues,

@@ -1,9 +1,10 @@
-use Rattle.cq_ideal.proofs.Terms.{rules, arith}
-use Rattle.cq_ideal.proofs.Counting.{judged_next}
+use Rattle.cq_ideal.proofs.Terms.{rules, arith, drop-set-lt, drop_more, take_more_set, append_assoc, length-set}
+use Rattle.cq_ideal.proofs.Counting.{raised}
 use Rattle.cq_ideal.proofs.Came.{from_input}
 use Rattle.cq_ideal.proofs.limiter.Limiter.judge.Goals as goal
 
 pub inputs-preserved : goal.inputs-preserved
 inputs-preserved c =
     let out = c.requires.arrivals.outputs c.inputs.input in
-    search (arith, rules, judged_next c.inputs.invariant c.turn.new.self c.at-cell.result, out, from_input)
+    let here = from_input c.args.arrivals.now c.inputs.input c.at-cell.result in
+    search (arith, rules, here, out, drop-set-lt, drop_more, take_more_set, append_assoc, length-set, raised)

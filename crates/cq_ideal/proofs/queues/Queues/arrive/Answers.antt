@@ -1,5 +1,5 @@
-use Rattle.cq_ideal.proofs.Terms.{rules, arith, get_or-drop}
-use Rattle.cq_ideal.proofs.Came.{nobody_left, putting_next}
+use Rattle.cq_ideal.proofs.Terms.{rules, arith}
+use Rattle.cq_ideal.proofs.Came.{putting_next}
 use Rattle.cq_ideal.proofs.queues.Queues.arrive.Goals as goal
 
 pub inputs-preserved : goal.inputs-preserved
@@ -7,6 +7,3 @@ inputs-preserved c =
     let ports = c.len-ports.ensures.len in
     let inside = c.inputs-test.true in
     search (arith, rules, putting_next c.requires.ports c.inputs.invariant c.requires.few)
-
-pub returns-clause-lists : goal.returns-clause-lists
-returns-clause-lists c = search (arith, rules, nobody_left, c.requires.ports.inputs, get_or-drop)
