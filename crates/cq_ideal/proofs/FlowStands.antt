@@ -82,21 +82,20 @@ of_flow i c j cells = filter (is_of_flow i c j) cells
 -- ## One cell more
 
 module _ (m : Machine) (laws : KeepsLaws m) (state : List ℕ) (slot input : ℕ) (xs : List Queued)
-    (stands : Stands m state slot input xs) where
-  module _ (n : Queued) (known : n.cell.class < m.classes) (level_is : n.key.level ≡ m.level n.cell.class)
-      (rank_is : n.key.rank ≡ m.ranked state n.cell.class) (slot_is : n.key.slot ≡ slot)
-      (input_is : n.key.input ≡ input) where
-    -- no waiting cell of its class is less urgent
-    class_no_later : (x : Queued) → x.cell.class ≡ n.cell.class → HasWaited m state slot input x → NoLater x n
-    unfolding is_before
-    class_no_later x same w = search (arith, rules, cond_both, ltb-true, eqb-true, w.before)
+    (stands : Stands m state slot input xs) (n : Queued) (known : n.cell.class < m.classes)
+    (level_is : n.key.level ≡ m.level n.cell.class) (rank_is : n.key.rank ≡ m.ranked state n.cell.class)
+    (slot_is : n.key.slot ≡ slot) (input_is : n.key.input ≡ input) where
+  -- no waiting cell of its class is less urgent
+  class_no_later : (x : Queued) → x.cell.class ≡ n.cell.class → HasWaited m state slot input x → NoLater x n
+  unfolding is_before
+  class_no_later x same w = search (arith, rules, cond_both, ltb-true, eqb-true, w.before)
 
-    -- each flow's cells are those from before, and then the new one if it is of the flow
-    pub shown-put : (i c j : ℕ) → n.cell.output ≡ j → shown i c (put n xs) ≡ shown i c xs ++ of_flow i c j (n.cell ∷ [])
-    unfolding of_flow class_no_later
-    shown-put i c j here = ⊎_elim (λ k. search
-        (rules, filter-put, map-append, and_from, eq-eqb, cond-true, all_weaker, class_no_later, eqb-true, and_parts))
-        (search (arith, rules, filter-put_other, append-nil, and_right, cond-false)) (cases_Bool (is_kind i c n))
+  -- each flow's cells are those from before, and then the new one if it is of the flow
+  pub shown-put : (i c j : ℕ) → n.cell.output ≡ j → shown i c (put n xs) ≡ shown i c xs ++ of_flow i c j (n.cell ∷ [])
+  unfolding of_flow class_no_later
+  shown-put i c j here = ⊎_elim (λ k. search
+      (rules, filter-put, map-append, and_from, eq-eqb, cond-true, all_weaker, class_no_later, eqb-true, and_parts))
+      (search (arith, rules, filter-put_other, append-nil, and_right, cond-false)) (cases_Bool (is_kind i c n))
 
 -- ## All inputs
 

@@ -2,8 +2,8 @@ use Rattle.cq_ideal.proofs.Terms.{◌≡◌, ◌+◌, ◌++◌, ◌≤◌, lengt
 use Rattle.cq_ideal.proofs.Changed.{changed_to}
 use Rattle.cq_ideal.proofs.send.send.Given as goal
 
--- Behind this output all is as the slot leaves it, and from it on as the slot found it: that is so for the lists and for
--- the states of the machines. What is sent so far, and then the departures of the outputs from this one on, are all
+-- Behind this output all is as the slot leaves it, and from it on as the slot found it: that is so for the lists and
+-- for the states of the machines. What is sent so far, and then the departures of the outputs from this one on, are all
 -- departures of the slot. Each output that sends a cell holds it no longer.
 abbrev pub invariant-outputs : goal.invariant-outputs
 invariant-outputs g l = record {
