@@ -17,6 +17,5 @@ pub mod Waiting
 pub mod Parted
 pub mod LastSlot
 pub mod Resting
-pub mod LimitedParts
 pub mod LimitedEnds
 pub mod EachLeaves
