@@ -45,6 +45,7 @@ impl Discipline {
     }
 
     // One of the kind, over the classes.
+    #[tactic(auto, using(cq_rank::specs::Classes::rows_again))]
     fn of(alloc: Global, kind: Kind, classes: &[ClassRow]) -> Result<Discipline, NoMemory>
         requires { AreClasses classes.now }
         ensures kind { IfOk result (λ one. kind_of one ≡ kind) }
