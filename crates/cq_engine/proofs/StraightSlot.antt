@@ -5,7 +5,7 @@
 -- transfer empties the lists and puts each cell alone into the buffer of its output, which sends it. After that nothing
 -- waits and nothing is offered, and the second matching is empty. The lists and buffers in between are made here for
 -- the proof alone.
-use Rattle.cq_engine.proofs.Terms.{common_steps, rules, ◌≡◌, ℕ, ◌+◌, ◌<◌, ◌≤◌, List, [], ◌∷◌, ◌++◌, length, map, drop, get_or, replicate, Option, Some, None, refl, sym, ap, ◌∙◌, arith, All, IfSome, enumerate_from, filter_map, range_with_len, sum_by, option_map, cases_lt, cond_both, eq-eqb, same_Some, append-nil, ext_get_or, get_or_past, length-map, get_or-map-range_with_len, length-map-range_with_len, sum-map, sum_by-cons, Cell, Queued, Transfer, Figures, Machine, all_told, fronts, rests, LimiterView, list_of, orders_of, output_order, Moves, list_taken, transfers_of, ports, IsListed, Partners, partner_of, partner_place, proposals, IsFreeOutput, IsInputBest, IsStable, slacks, came_to, Queues, fabric_of, HaveArrived, HaveSent, fits_lists, held_before, keyed, arriving_slack, input_counted, slack_seen, GoStraight, crossings, input_passed, Look, among, place_head, none_unless, outputs_at, kept_more, kept_few, kept_past, append_assoc, length-append, admitted, HasReleased}
+use Rattle.cq_engine.proofs.Terms.{common_steps, rules, ◌≡◌, ℕ, ◌<◌, ◌≤◌, List, [], ◌∷◌, length, map, drop, get_or, replicate, Option, Some, None, refl, sym, ap, ◌∙◌, arith, All, IfSome, enumerate_from, filter_map, range_with_len, sum_by, option_map, cases_lt, cond_both, eq-eqb, same_Some, append-nil, ext_get_or, get_or_past, length-map, get_or-map-range_with_len, length-map-range_with_len, sum-map, sum_by-cons, Cell, Queued, Figures, Machine, all_told, fronts, rests, LimiterView, list_of, orders_of, output_order, Moves, list_taken, transfers_of, ports, IsListed, Partners, partner_of, partner_place, proposals, IsFreeOutput, IsInputBest, IsStable, slacks, came_to, Queues, fabric_of, HaveArrived, HaveSent, fits_lists, held_before, keyed, arriving_slack, input_counted, slack_seen, GoStraight, crossings, input_passed, Look, among, place_head, none_unless, outputs_at, kept_more, append_assoc, length-append, admitted, HasReleased}
 use Rattle.std.proofs.Math.ListN.{get_or-map}
 use Rattle.cq_engine.specs.Crossing.{HaveMovedBest}
 use Rattle.cq_engine.proofs.NoOffers.{none_best, none_proposed, nothing_moves, nothing_noted}
@@ -61,28 +61,6 @@ rests_alone buffers gone long empty =
     ext_get_or [] buffers (rests (map alone gone)) (grind (arith, common_steps, length-map)) (λ j below.
     let rest = get_or-map {B = List Queued} (λ xs. drop 1 xs) (map alone gone) j [] in
     search (rules, no_cell buffers empty, rest, get_or-map alone gone j None))
-
--- ## What is noted, input by input
-
-pub crossings_none : (slot : ℕ) (came : List (Option Queued)) → crossings slot 0 came ≡ []
-unfolding crossings
-crossings_none slot came = refl
-
-pub crossings_past : (slot n : ℕ) (came : List (Option Queued)) → came_to came n ≡ None →
-    crossings slot (n + 1) came ≡ crossings slot n came
-unfolding crossings
-crossings_past slot n came none = grind (arith, common_steps, kept_past)
-
-pub crossings_one : (slot n : ℕ) (came : List (Option Queued)) (c : Queued) → came_to came n ≡ Some c →
-    let t : Transfer = record { slot = slot; phase = 1; input = n; output = c.cell.output; id = c.cell.id } in
-    crossings slot (n + 1) came ≡ crossings slot n came ++ t ∷ []
-unfolding crossings
-crossings_one slot n came c is = grind (arith, common_steps, kept_more)
-
--- one an input at most
-pub crossings_few : (slot n : ℕ) (came : List (Option Queued)) → length (crossings slot n came) ≤ n
-unfolding crossings
-crossings_few slot n came = search (rules, kept_few)
 
 -- ## The slot
 
@@ -229,5 +207,5 @@ module _ {ms : List Machine} {slot : ℕ} {arrivals : List (Option Cell)} {q : Q
       (search (arith, rules, fronts_alone, counted_passed)) in
       rw (fronts_alone gone, nothing_noted, append-nil, all_noted) at long
 
-pub ruleset note_steps =
-    (crossings_none, crossings_few, crossings_one, crossings_past, append_assoc, append-nil, length-append)
+-- what is noted of one input more
+pub ruleset note_steps = (kept_more, append_assoc, append-nil, length-append)

@@ -45,12 +45,13 @@ pub fn go_straight(queues: &Queues, came: &Newcomers, gone: &mut Gone) -> bool
 }
 
 // Each cell that came is noted as one that crosses in the first phase.
-#[tactic(auto, using(crate::proofs::StraightSlot::note_steps))]
+#[tactic(auto, using(crate::proofs::StraightSlot::note_steps), unfolding(crate::specs::Straight::crossings))]
 fn note_each(came: &Newcomers, inputs: usize, slot: Slot, note: &mut Room<Transfer>)
     requires few { inputs ≤ most_ports }
     requires room { inputs ≤ note.old.spare }
     ensures items { note.new.items ≡ note.old.items ++ crossings slot inputs came.now }
     ensures spare { note.new.spare + length (crossings slot inputs came.now) ≡ note.old.spare }
+    ensures few { note.old.spare ≤ note.new.spare + inputs }
 {
     'inputs: for input in 0..inputs as u16 {
         if let Some(queued) = came.at(input as usize) {
@@ -111,6 +112,7 @@ pub fn pass<R: Rank>(
     requires inputs { length figures.old.inputs ≡ length gone.now }
     requires input_counts { (i : ℕ) (x : OfInput) → slice_get figures.old.inputs i ≡ Some x → x.cells < 2 ^ 64 - 1 }
     ensures many { result ≡ length (crossings slot (length gone.now) came.now) }
+    ensures few { result ≤ length gone.now }
     ensures sent { EachHasSent (map R.machine ranks.old.fixed) slot gone.now ranks.old ranks.new limiter.old limiter.new
         figures.old figures.new sent.old sent.new }
     ensures note { note.new.items ≡ note.old.items ++ crossings slot (length gone.now) came.now }

@@ -1,7 +1,7 @@
 use Rattle.cq_engine.proofs.Terms.{rules, ◌≡◌, ◌+◌, ◌*◌, ◌≤◌, ℕ, length, map, ap, ◌∙◌, arith, append_assoc, length-append, length-map, common_steps, row_fits, EngineView, HaveArrived, HaveSent, admits_are, came_newest, came_outputs, can_cross_first, can_cross_second, come_apart, few_cross, fits_lists, held_before, GoStraight, length-told}
 use Rattle.cq_engine.proofs.Shown.{Begun, begun, can_take_in, taken}
 use Rattle.cq_engine.proofs.Slot.{moved_of, slot_done, whole_slot}
-use Rattle.cq_engine.proofs.StraightSlot.{crossings_few, held_straight, whole_straight}
+use Rattle.cq_engine.proofs.StraightSlot.{held_straight, whole_straight}
 use Rattle.cq_engine.proofs.engine.Engine.slot.Given as given
 use Rattle.cq_engine.proofs.engine.Engine.slot.Goals as goal
 use Rattle.cq_engine.proofs.engine.Engine.slot.Goals.{After-arrive, After-depart, After-of_outputs-gone, After-pass-crossed, After-self}
@@ -48,7 +48,7 @@ few_proposed : (g : given.Over) (c : After-pass-crossed g) →
     GoStraight c.self.inside.queues c.take_in.new.came c.of_outputs-gone.result.now →
     c.pass-crossed.new.figures.proposals + (c.pass-crossed.result + 0)
     ≤ c.args.self.now.figures.proposals + 2 * (length c.args.self.now.fixed * length c.args.self.now.fixed)
-few_proposed g c seen is = search (arith, rules, crossings_few, row_fits)
+few_proposed g c seen is = search (arith, rules, row_fits)
 
 -- ## What the calls ask for
 
