@@ -50,6 +50,6 @@ pub use Rattle.cq_base.specs.{declared.cell.Transfer.Transfer}
 pub use Rattle.cq_base.proofs.Having.{all_from_has, all_of_has, has_cases, has_kept, has_left, has_right, has_there, kept_has, none_had, stands_at}
 pub use Rattle.cq_base.proofs.Pooled.{pairs_joined, pairs_kept_with, same_pairs}
 pub use Rattle.cq_ideal.proofs.Waiting.{length-filled}
-pub use Rattle.cq_ideal.proofs.{Came.ranks_kept, Parted.all_slots, LastSlot.slots_of-append, LastSlot.last_departs, LimitedParts.no_departures, Packets.whole_packets}
+pub use Rattle.cq_ideal.proofs.{Came.ranks_kept, Parted.all_slots, LastSlot.slots_of-append, LastSlot.last_departs, LimitedEnds.no_departures, Packets.whole_packets}
 pub use Rattle.cq_ideal.specs.{LimitedEnding.LimitedIdealAfter, WholePackets.AreJudged}
 pub use Rattle.cq_prefs.proofs.{Best.one_input_best, LeastFirst.input_best-best, OutputOrder.is_output_order}

@@ -2,7 +2,7 @@
 -- the first of them, and behind it are those from the slot after that on.
 -- So a walk goes over the cells of one input, cell by cell: the mark so far with the cells that are left gives the mark
 -- in the end, and so do the counts. Each step takes the first of the cells that are left.
-use Rattle.cq_resume.proofs.Terms.{common_steps, rules, ◌≡◌, ℕ, ◌+◌, ◌<◌, ◌≤◌, leb, ltb, Bool, List, [], ◌∷◌, None, Some, refl, inl, inr, arith, ◌&&◌, filter, AllByRecursion, and_parts, eqb-true, and_from, and_left, eq-eqb, le-leb, lt-leb, lt-ltb, Arrival, arriving_at, Cell, is_from, ComeBehind, IsLine, coming, ArrivesIn, IsNextArrival, all_of_has, has_kept, Has, EachPair, filter_none, all_weaker, suc, eqb, true, false, cond, length, map, Option, ap, ◌==◌, not, list_any, Refused, CanCount, with_refused, all_counted_both, counts_left, fewer_left, none_counted, has_limit, has_name, mark_on, may_come, unnamed, Name, kept_has}
+use Rattle.cq_resume.proofs.Terms.{common_steps, rules, ◌≡◌, ℕ, ◌+◌, ◌<◌, ◌≤◌, leb, ltb, Bool, List, [], ◌∷◌, None, Some, refl, inl, inr, arith, ◌&&◌, filter, AllByRecursion, and_parts, eqb-true, and_from, and_left, eq-eqb, le-leb, lt-leb, lt-ltb, Arrival, arriving_at, Cell, is_from, ComeBehind, IsLine, coming, ArrivesIn, IsNextArrival, all_of_has, has_kept, Has, EachPair, filter_none, all_weaker, suc, eqb, true, false, cond, length, map, Option, ap, ◌==◌, not, list_any, Refused, CanCount, with_refused, all_counted_both, counts_fit, fewer_left, none_counted, has_limit, has_name, mark_on, may_come, unnamed, Name, kept_has}
 use Rattle.std.proofs.lemmas.Map.Views.{any-filter_same}
 
 -- ## What arrives in a slot at an input
@@ -128,7 +128,7 @@ module _ (input from next : ℕ) (came : List Arrival) {names : List Name} {limi
 
   fits : (left : Bool) → CanCount (length rest) (with_refused (cond left (cell ∷ []) []) now)
   fits false = grind (arith, common_steps, none_counted, fewer_left, known.few, size)
-  fits true = counts_left (length rest) cell now (grind (arith, common_steps, known.few, size))
+  fits true = counts_fit (cell ∷ []) (length rest) 1 now (grind (arith, common_steps, known.few, size)) (omega arith)
 
   -- it may, and is counted where it is not named
   pub walk_goes_on : (left : Bool) (after : List Refused) → may ≡ true → left ≡ not is_told →

@@ -10,7 +10,7 @@ pub use Rattle.cq_cells.proofs.Ranges.{flat_same, range_more, set_one}
 pub use Rattle.cq_cells.specs.Scheduled.{Scheduled}
 pub use Rattle.cq_cells.specs.Traffic.{IsInRange as IsOfSwitch, IsTraffic, is_from, is_to, number_of}
 pub use Rattle.cq_rank.specs.Machine.{Machine, machine_at}
-pub use Rattle.cq_ideal.proofs.Counting.{all_counted_both, counts_fit, counts_left, fewer_left, none_counted, zero_fits}
+pub use Rattle.cq_ideal.proofs.Counting.{all_counted_both, counts_fit, fewer_left, none_counted, zero_fits}
 pub use Rattle.cq_ideal.specs.{Ending.slots_of, declared.refused.Refused.Refused}
 unfoldable pub use Rattle.cq_ideal.specs.Ending.{arriving_from}
 pub use Rattle.cq_ideal.specs.Refused.{refused_at, refused_in, with_refused}

@@ -6,7 +6,7 @@ use Rattle.cq_ideal.specs.Ideal.{its_slot}
 use Rattle.cq_ideal.specs.IdealSlot.{Sent}
 use Rattle.cq_ideal.proofs.Waiting.{Counted}
 use Rattle.cq_ideal.specs.Rest.{HasRested as HasRestedIdeal}
-use Rattle.cq_ideal.proofs.LimitedParts.{behind, limited_parts, limited_stays_empty, none_departs}
+use Rattle.cq_ideal.proofs.LimitedEnds.{behind, limited_parts, limited_stays_empty, none_departs}
 use Rattle.cq_engine.specs.Engine.{HasGoneOn, ports_of}
 use Rattle.cq_engine.specs.Resting.{HasRested}
 use Rattle.cq_prefs.specs.Moves.{list_taken, noted, transfers_of}
