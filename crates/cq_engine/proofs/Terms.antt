@@ -18,7 +18,7 @@ unfoldable pub use Rattle.cq_prefs.specs.Moves.{transfers_of}
 pub use Rattle.cq_prefs.specs.Orders.{IsListed, Orders, outputs_of, ports}
 pub use Rattle.cq_prefs.specs.Pairing.{IsFreeOutput, IsInputBest, IsStable, Partners, partner_of, partner_place, proposals}
 pub use Rattle.cq_prefs.proofs.{ByKey.some_of, Holding.none_unless, InputOrder.outputs_at, Members.among, Members.place_head}
-pub use Rattle.cq_xbar.proofs.Noting.{kept_few, kept_more, kept_past}
+pub use Rattle.cq_xbar.proofs.Noting.{kept_more}
 pub use Rattle.cq_laws.proofs.InputBest.{stable_limited_slot, stable_slot}
 pub use Rattle.cq_laws.proofs.WholeRuns.{empty_agree, no_place}
 pub use Rattle.cq_laws.specs.Fabric.{Fabric, IsAmong, IsEmptyFabric, buffer, cushion_of, empty_fabric, input}

@@ -40,7 +40,7 @@ pub fn limited_runs_are_of_admitted()
         AreWholePackets (cells_at i traffic) (cells_at i (admitted_in (admissions_in rs))) }
 {}
 
-/// Where no output has a limit, the runs are those of before there were limits.
+/// Where no output has a limit, the runs are those of a fabric that knows no limits.
 #[tactic(auto, using(crate::proofs::NothingRefused::unrefused_steps))]
 pub fn runs_without_limits_are_as_before()
     ensures run { (limits : List (Option ℕ)) (ms : List Machine) (slot ports : ℕ)
